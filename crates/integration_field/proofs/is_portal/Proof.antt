@@ -1,0 +1,11 @@
+-- `integration_field::is_portal` meets its contract: a mask of one bit is a flag.
+-- Assumes nothing.
+use Rattle.integration_field.proofs.Flags.{mask-flag}
+use Rattle.integration_field.proofs.is_portal.Statement.{statement}
+use Rattle.integration_field.proofs.is_portal.Tie as tie
+
+returns : tie.Need-returns
+returns c = mask-flag (c .args .cost) 19
+
+pub is-portal-spec : {M : Type 1} → statement M
+is-portal-spec = tie.close (tie.spec returns)

@@ -1,0 +1,22 @@
+-- Lists in arrays of 100 places (01, under the table: places of a list beyond its count hold 0).
+-- Assumes nothing.
+use mathlib.Core.List.{List, [], _++_}
+use Prim.Native.Nat.{ℕ, _-_}
+use lib.ListN.{length, take, replicate}
+use Rattle.integration_field.specs.declared.IntegrationField.{IntegrationField}
+
+-- the list, and zeros behind it to 100 places
+abbrev pub padded : List ℕ → List ℕ
+padded l = l ++ replicate (100 - length l) 0
+
+-- the listed corners of a field
+abbrev pub listOf : IntegrationField → List ℕ
+listOf f = take (f .count) (f .«los_corners»)
+
+-- a field of these cells, with these corners
+abbrev pub withCorners : List ℕ → List ℕ → IntegrationField
+withCorners cells corners = record { field = cells; «los_corners» = padded corners; count = length corners }
+
+-- the field of a refused answer
+abbrev pub zeroField : IntegrationField
+zeroField = record { field = replicate 100 0; «los_corners» = replicate 100 0; count = 0 }
