@@ -1,1 +1,2 @@
 pub mod Compass
+pub mod Padded

@@ -1,0 +1,61 @@
+use native.Mathlib.Omega.{arith}
+use borrow.Author.Tests.{eq-eqb, ne-eqb}
+use mathlib.Core.Path.{_≡_}
+use Rattle.route.specs.Step.{eachStep}
+use Rattle.route.proofs.Rows.{tests}
+use borrow.Author.Needs.{needs}
+use Rattle.route.proofs.each_step.Statement.{statement}
+use Rattle.route.proofs.each_step.Tie as tie
+
+returns : tie.Need-returns
+unfolding eachStep
+returns c = search tests
+
+returns-2 : tie.Need-returns-2
+unfolding eachStep
+returns-2 c = search tests
+
+returns-3 : tie.Need-returns-3
+unfolding eachStep
+returns-3 c = search tests
+
+returns-4 : tie.Need-returns-4
+unfolding eachStep
+returns-4 c = search tests
+
+window-number-requires : tie.Need-window-number-requires
+window-number-requires c κs = search needs
+
+returns-5 : tie.Need-returns-5
+unfolding eachStep
+returns-5 c =
+    let m = c .before .before .before .before .before .before .args .mark in
+    let e : m ≡ 1 = c .before .if5 .taken in
+    search (tests, ne-eqb m 0 (λ z. omega arith), c .window-number .ensures)
+
+returns-6 : tie.Need-returns-6
+unfolding eachStep
+returns-6 c =
+    let m = c .before .before .before .before .before .before .args .mark in
+    let g : m ≡ 0 = omega arith in
+    search (tests, eq-eqb m 0 g, ne-eqb m 1 (λ z. omega arith))
+
+returns-7 : tie.Need-returns-7
+unfolding eachStep
+returns-7 c =
+    let m = c .before .before .before .before .before .before .args .mark in
+    let g : m ≡ 0 = omega arith in
+    search (tests, eq-eqb m 0 g, ne-eqb m 1 (λ z. omega arith))
+
+pub each-step-spec : {M : Type 1} → statement M
+each-step-spec =
+    tie.close
+    (tie.spec
+    returns
+    returns-2
+    returns-3
+    returns-4
+    window-number-requires
+    returns-5
+    returns-6
+    returns-7)

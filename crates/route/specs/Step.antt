@@ -1,0 +1,73 @@
+-- A step of a route and the numbers with which it is refused (01, "A leg").
+-- Assumes nothing.
+use mathlib.Core.Bool.{Bool, not, _&&_, _||_}
+use mathlib.Core.List.{List, [], _∷_}
+use Prim.Native.Nat.{ℕ}
+use lib.Dec.{ltb, eqb}
+use lib.ListN.{length, getD}
+use Rattle.utilities.specs.declared.CompassDir.{CompassDir}
+use Rattle.utilities.specs.Compass.{sideOf}
+use Rattle.route.specs.declared.RouteStep.{RouteStep}
+use Rattle.route.specs.Table.{Row, row, firstNumber}
+use Rattle.route.specs.Window.{onEdge, cellsBetween}
+
+-- The 8 bytes: sector; goal cell; window mark (0 none, 1 window); first and last window cell; boundary; two zero bytes.
+-- A byte that is not there counts as 0.
+abbrev pub sectorOf : List ℕ → ℕ
+sectorOf s = getD s 0 0
+
+abbrev pub goalOf : List ℕ → ℕ
+goalOf s = getD s 1 0
+
+abbrev pub markOf : List ℕ → ℕ
+markOf s = getD s 2 0
+
+abbrev pub firstOf : List ℕ → ℕ
+firstOf s = getD s 3 0
+
+abbrev pub lastOf : List ℕ → ℕ
+lastOf s = getD s 4 0
+
+abbrev pub boundaryByte : List ℕ → ℕ
+boundaryByte s = getD s 5 0
+
+abbrev pub boundaryOf : List ℕ → CompassDir
+boundaryOf s = sideOf (boundaryByte s)
+
+abbrev pub isGoal : List ℕ → Bool
+isGoal s = eqb (markOf s) 0
+
+abbrev pub isWindow : List ℕ → Bool
+isWindow s = eqb (markOf s) 1
+
+-- a step's window cells, in order
+abbrev pub windowCells : List ℕ → List ℕ
+windowCells s = cellsBetween (boundaryOf s) (firstOf s) (lastOf s)
+
+-- the step taken apart
+abbrev pub routeStep : List ℕ → RouteStep
+routeStep s =
+    record {
+      sector = sectorOf s;
+      goal = goalOf s;
+      «has_portal» = isWindow s;
+      portal = record { start = firstOf s; end = lastOf s; boundary = boundaryOf s };
+    }
+
+-- the table's lines for each step, numbers 4 to 8
+abbrev pub stepRows : List ℕ → List Row
+stepRows s =
+    row 4 (ltb 63 (sectorOf s) || ltb 1 (markOf s) || not (eqb (getD s 6 0) 0) || not (eqb (getD s 7 0) 0))
+    ∷ row 5 (isGoal s && ltb 99 (goalOf s))
+    ∷ row 6 (isWindow s && (ltb 99 (firstOf s) || ltb 99 (lastOf s) || ltb 3 (boundaryByte s)))
+    ∷ row 7 (isWindow s && not (onEdge (boundaryOf s) (firstOf s) && onEdge (boundaryOf s) (lastOf s)))
+    ∷ row 8 (isWindow s && ltb (lastOf s) (firstOf s))
+    ∷ []
+
+-- 4 to 8 for a step of 8 bytes that is refused, else 0
+unfoldable pub eachStep : List ℕ → ℕ
+eachStep s = firstNumber (stepRows s)
+
+-- 3 to 8 for a step that is refused, else 0
+unfoldable pub stepNumber : List ℕ → ℕ
+stepNumber s = firstNumber (row 3 (not (eqb (length s) 8)) ∷ stepRows s)

@@ -1,0 +1,269 @@
+// A step of a route: its 8 bytes, the numbers with which it is refused, and its window's cells.
+use utilities::CompassDir;
+ghost use mathlib.Core.Path.{_≡_};
+ghost use mathlib.Core.List.{[], _∷_};
+ghost use Prim.Native.Nat.{_+_, _*_, _%_, _<_};
+ghost use lib.ListN.{length, getD};
+ghost use Rattle.route.specs.Window.{onEdge, edge, between, cellsBetween, listed, facing};
+ghost use Rattle.route.specs.Step.{routeStep, eachStep, stepNumber};
+
+// The start and end index of a portal, and the side of the sector that it sits on.
+#[repr(C)]
+pub struct PortalWindow {
+    pub start: usize,
+    pub end: usize,
+    pub boundary: CompassDir,
+}
+
+// A step taken apart. With a portal the actual goal is its window, else the goal cell.
+pub struct RouteStep {
+    pub sector: usize,
+    pub goal: usize,
+    pub has_portal: bool,
+    pub portal: PortalWindow,
+}
+
+// The cells of a window: `count` of them, in the first places.
+#[repr(C)]
+pub struct WindowCells {
+    pub cells: [usize; 10],
+    pub count: usize,
+}
+
+// Whether a cell lies on a side's edge.
+pub fn on_edge(boundary: CompassDir, index: usize) -> bool
+    ensures { λ r. ⌜ r ≡ onEdge boundary index ⌝ }
+{
+    match boundary {
+        CompassDir::North => index / 10 == 0,
+        CompassDir::East => index % 10 == 9,
+        CompassDir::South => index / 10 == 9,
+        CompassDir::West => index % 10 == 0,
+        CompassDir::NorthEast => false,
+        CompassDir::SouthEast => false,
+        CompassDir::SouthWest => false,
+        CompassDir::NorthWest => false,
+        CompassDir::Zero => false,
+    }
+}
+
+// 6, 7 or 8 for a step with this window that is refused, else 0.
+fn window_number(first: u8, last: u8, boundary: u8) -> u8
+    ensures { λ r. ⌜ r ≡ eachStep (0 ∷ 0 ∷ 1 ∷ first ∷ last ∷ boundary ∷ 0 ∷ 0 ∷ []) ⌝ }
+{
+    if 99 < first {
+        return 6;
+    }
+    if 99 < last {
+        return 6;
+    }
+    if 3 < boundary {
+        return 6;
+    }
+    let side = CompassDir::from_boundary(boundary);
+    if !on_edge(side, first as usize) {
+        return 7;
+    }
+    if !on_edge(side, last as usize) {
+        return 7;
+    }
+    if last < first {
+        return 8;
+    }
+    0
+}
+
+// 4 to 8 for a step of these 8 bytes that is refused, else 0.
+fn each_step(
+    sector: u8,
+    goal: u8,
+    mark: u8,
+    first: u8,
+    last: u8,
+    boundary: u8,
+    zero: u8,
+    other_zero: u8,
+) -> u8
+    ensures { λ r. ⌜ r ≡ eachStep (sector ∷ goal ∷ mark ∷ first ∷ last ∷ boundary ∷ zero ∷ «other_zero» ∷ []) ⌝ }
+{
+    if 63 < sector {
+        return 4;
+    }
+    if 1 < mark {
+        return 4;
+    }
+    if zero != 0 {
+        return 4;
+    }
+    if other_zero != 0 {
+        return 4;
+    }
+    if mark == 1 {
+        return window_number(first, last, boundary);
+    }
+    if 99 < goal {
+        return 5;
+    }
+    0
+}
+
+// 3 to 8 for a step that is refused, else 0.
+pub fn step_number(step: &[u8]) -> u8
+    ensures { λ r. ⌜ r ≡ stepNumber (now (step .entry)) ⌝ }
+{
+    if step.len() != 8 {
+        return 3;
+    }
+    each_step(
+        step[0],
+        step[1],
+        step[2],
+        step[3],
+        step[4],
+        step[5],
+        step[6],
+        step[7],
+    )
+}
+
+// The byte at a place of a step, 0 where it has none.
+fn byte_at(step: &[u8], place: usize) -> u8
+    ensures { λ r. ⌜ r ≡ getD (now (step .entry)) place 0 ⌝ }
+{
+    if place < step.len() {
+        return step[place];
+    }
+    0
+}
+
+fn wide(byte: u8) -> usize
+    ensures { λ r. ⌜ r ≡ byte ⌝ }
+{
+    byte as usize
+}
+
+// How many cells a side's edge has; a direction that is no side has no edge.
+fn edge_length(boundary: CompassDir) -> usize
+    ensures { λ r. ⌜ r ≡ length (edge boundary) ⌝ }
+{
+    match boundary {
+        CompassDir::North => 10,
+        CompassDir::East => 10,
+        CompassDir::South => 10,
+        CompassDir::West => 10,
+        CompassDir::NorthEast => 0,
+        CompassDir::SouthEast => 0,
+        CompassDir::SouthWest => 0,
+        CompassDir::NorthWest => 0,
+        CompassDir::Zero => 0,
+    }
+}
+
+// A cell of a side's edge, by its place from the left or the top.
+fn edge_cell(boundary: CompassDir, place: usize) -> usize
+    requires { ⌜ place < 10 ⌝ }
+    ensures { λ r. ⌜ r ≡ getD (edge boundary) place 0 ⌝ }
+{
+    match boundary {
+        CompassDir::North => place,
+        CompassDir::East => place * 10 + 9,
+        CompassDir::South => place + 90,
+        CompassDir::West => place * 10,
+        CompassDir::NorthEast => 0,
+        CompassDir::SouthEast => 0,
+        CompassDir::SouthWest => 0,
+        CompassDir::NorthWest => 0,
+        CompassDir::Zero => 0,
+    }
+}
+
+// Whether a cell lies from the first to the last.
+fn is_between(first: usize, last: usize, cell: usize) -> bool
+    ensures { λ r. ⌜ r ≡ between first last cell ⌝ }
+{
+    if cell < first {
+        return false;
+    }
+    cell <= last
+}
+
+// The index of a column and a row counted round from the far edge.
+fn wrapped_index(column: usize, row: usize) -> usize
+    ensures { λ r. ⌜ r ≡ row % 10 * 10 + column % 10 ⌝ }
+{
+    row % 10 * 10 + column % 10
+}
+
+// The cell across a boundary that faces a cell.
+pub fn facing_cell(boundary: CompassDir, index: usize) -> usize
+    ensures { λ r. ⌜ r ≡ facing boundary index ⌝ }
+{
+    let column = index % 10;
+    let row = index / 10;
+    match boundary {
+        CompassDir::North => wrapped_index(column, row + 9),
+        CompassDir::East => wrapped_index(column + 1, row),
+        CompassDir::South => wrapped_index(column, row + 1),
+        CompassDir::West => wrapped_index(column + 9, row),
+        CompassDir::NorthEast => wrapped_index(column + 1, row + 9),
+        CompassDir::SouthEast => wrapped_index(column + 1, row + 1),
+        CompassDir::SouthWest => wrapped_index(column + 9, row + 1),
+        CompassDir::NorthWest => wrapped_index(column + 9, row + 9),
+        CompassDir::Zero => wrapped_index(column, row),
+    }
+}
+
+impl RouteStep {
+    // A step's bytes taken apart.
+    pub fn new(step: &[u8]) -> RouteStep
+        ensures { λ r. ⌜ r ≡ routeStep (now (step .entry)) ⌝ }
+    {
+        let sector = wide(byte_at(step, 0));
+        let goal = wide(byte_at(step, 1));
+        let mark = byte_at(step, 2);
+        let start = wide(byte_at(step, 3));
+        let end = wide(byte_at(step, 4));
+        let boundary = CompassDir::from_boundary(byte_at(step, 5));
+        RouteStep {
+            sector,
+            goal,
+            has_portal: mark == 1,
+            portal: PortalWindow {
+                start,
+                end,
+                boundary,
+            },
+        }
+    }
+}
+
+impl PortalWindow {
+    // The side of the sector that the window sits on.
+    pub fn get_boundary(self) -> CompassDir
+        ensures { λ r. ⌜ r ≡ self .boundary ⌝ }
+    {
+        self.boundary
+    }
+
+    // The indices of every cell along the window, left to right or top to bottom.
+    pub fn get_all_window_cells(self) -> WindowCells
+        ensures { λ r. ⌜ r ≡ listed (cellsBetween (self .boundary) (self .start) (self .end)) ⌝ }
+    {
+        let boundary = self.boundary;
+        let start = self.start;
+        let end = self.end;
+        let length = edge_length(boundary);
+        let mut cells = [0usize; 10];
+        let mut count = 0;
+        let mut place = 0;
+        while place < length {
+            let cell = edge_cell(boundary, place);
+            if is_between(start, end, cell) {
+                cells[count] = cell;
+                count += 1;
+            }
+            place += 1;
+        }
+        WindowCells { cells, count }
+    }
+}
