@@ -1,0 +1,3 @@
+pub mod Floor
+pub mod Walk
+pub mod Laws

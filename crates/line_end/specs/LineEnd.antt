@@ -1,0 +1,105 @@
+-- The end of a corner's line (01, "Integration: init", second paragraph): in f32, each operation rounded once, then floor.
+-- Assumes nothing.
+use mathlib.Core.Bool.{Bool, true, false, cond, _&&_, _||_}
+use Prim.Native.Nat.{ℕ, zero, suc, _+_, _-_, _*_, _/_, min}
+use lib.Dec.{ltb, eqb}
+use lib.IntN.{ℤ, pos, negsuc, negℤ}
+use lib.Ieee.{Float, nan, inf, fin, binary32, add, sub, mul, div, neg, ofInt, up, down}
+use Rattle.fields.specs.declared.FieldCell.{FieldCell}
+use Rattle.fields.specs.Cell.{cell, inside}
+use Rattle.line_end.specs.declared.LineEnd.{LineEnd}
+use Rattle.line_end.specs.declared.Row.{Row}
+
+-- ---- the line's rows, in f32
+-- a column or row as an f32
+abbrev pub f32 : ℕ → Float
+f32 n = ofInt binary32 (pos n)
+
+-- The line's rows for each column, and its row at column 0; each operation is rounded once, in this order.
+unfoldable pub gradient : FieldCell → FieldCell → Float
+gradient corner goal =
+    let rows = sub binary32 (f32 (corner .row)) (f32 (goal .row)) in
+    let columns = sub binary32 (f32 (corner .column)) (f32 (goal .column)) in
+    div binary32 rows columns
+
+unfoldable pub intercept : Float → FieldCell → Float
+intercept m corner = add binary32 (mul binary32 (neg m) (f32 (corner .column))) (f32 (corner .row))
+
+-- The greatest whole number that is not above x. A `nan` counts as 0 and an infinity as -1 or 10, as the Rust's tests take them.
+unfoldable pub floor : Float → ℤ
+floor nan = pos 0
+floor (inf s) = cond s (negsuc 0) (pos 10)
+floor (fin s m e) = cond s (negℤ (pos ((m * up e + (down e - 1)) / down e))) (pos (m * up e / down e))
+
+-- the line's row at a column
+unfoldable pub rowAt : Float → Float → ℕ → ℤ
+rowAt m b column = floor (add binary32 (mul binary32 m (f32 column)) b)
+
+-- ---- the column that ends the line
+-- rightward: one whose row is above 9 or below 0
+abbrev pub endsRightward : ℤ → Bool
+endsRightward (pos n) = ltb 9 n
+endsRightward (negsuc n) = true
+
+-- leftward, where a row below 0 counts as 0: one at row 0, or above 9
+abbrev pub endsLeftward : ℤ → Bool
+endsLeftward (pos n) = eqb n 0 || ltb 9 n
+endsLeftward (negsuc n) = true
+
+-- The first column that ends the line, tried from `column` on in the order of `next`; the last of the `after` columns behind it ends it in any case.
+-- The last argument is the test of `column`.
+unfoldable pub firstEnding : (ℕ → Bool) → (ℕ → ℕ) → ℕ → ℕ → Bool → ℕ
+firstEnding ends next zero column test = column
+firstEnding ends next (suc after) column true = column
+firstEnding ends next (suc after) column false = firstEnding ends next after (next column) (ends (next column))
+
+abbrev pub rightward : (ℕ → ℤ) → ℕ → ℕ
+rightward row column = firstEnding (λ (c : ℕ). endsRightward (row c)) suc (9 - column) column (endsRightward (row column))
+
+abbrev pub leftward : (ℕ → ℤ) → ℕ → ℕ
+leftward row column = firstEnding (λ (c : ℕ). endsLeftward (row c)) (λ (c : ℕ). c - 1) column column (endsLeftward (row column))
+
+-- the row that the line ends on: the edge row where its own is below 0 or above 9
+abbrev pub endRow : ℤ → ℕ
+endRow (pos n) = min n 9
+endRow (negsuc n) = 0
+
+abbrev pub endAt : (ℕ → ℤ) → ℕ → FieldCell
+endAt row column = cell column (endRow (row column))
+
+-- ---- the end
+-- the edge, 0 or 9, that lies away from the goal; 0 where the two are equal
+abbrev pub awayEdge : ℕ → ℕ → ℕ
+awayEdge corner goal = cond (ltb goal corner) 9 0
+
+-- Columns are tried from the corner's own, away from the goal: rightward where the goal lies left of the corner.
+unfoldable pub slantedEnd : (ℕ → ℤ) → ℕ → Bool → FieldCell
+slantedEnd row column true = endAt row (rightward row column)
+slantedEnd row column false = endAt row (leftward row column)
+
+-- In the goal's column the end is the edge row away from the goal (row 0 if the corner is the goal); in its row, the edge column away.
+-- The two tests say whether the corner lies in the goal's column and in its row.
+unfoldable pub endBy : Bool → Bool → FieldCell → FieldCell → FieldCell
+endBy true inRow corner goal = cell (corner .column) (awayEdge (corner .row) (goal .row))
+endBy false true corner goal = cell (awayEdge (corner .column) (goal .column)) (corner .row)
+endBy false false corner goal =
+    let m = gradient corner goal in
+    slantedEnd (rowAt m (intercept m corner)) (corner .column) (ltb (goal .column) (corner .column))
+
+unfoldable pub lineEnd : FieldCell → FieldCell → FieldCell
+lineEnd corner goal = endBy (eqb (corner .column) (goal .column)) (eqb (corner .row) (goal .row)) corner goal
+
+-- The call (01, the table of refusals): 13 for a column or row outside 0 to 9, with the cell zero.
+abbrev pub answer : ℕ → FieldCell → LineEnd
+answer n c = record { number = n; cell = c }
+
+unfoldable pub lineEndAnswer : FieldCell → FieldCell → LineEnd
+lineEndAnswer corner goal = cond (inside corner && inside goal) (answer 0 (lineEnd corner goal)) (answer 13 (cell 0 0))
+
+-- ---- what the program keeps of a row
+-- whether it is above 9 or below 0, and the row that the line would end on
+abbrev pub rowIs : Bool → ℕ → Row
+rowIs o r = record { outside = o; row = r }
+
+abbrev pub rowOf : ℤ → Row
+rowOf z = rowIs (endsRightward z) (endRow z)
