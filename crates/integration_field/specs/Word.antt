@@ -1,7 +1,7 @@
 -- A cell's 32 bits (01, "Integration: init": cost in the low 16, flags LOS 0x10000, GOAL 0x20000, BLOCKED 0x40000,
 -- PORTAL 0x80000, IMPASSABLE 0x2000000, CORNER 0x4000000).
 -- Assumes nothing.
-use mathlib.Core.Bool.{Bool}
+use mathlib.Core.Bool.{Bool, not, _&&_}
 use Prim.Native.Nat.{ℕ, _/_, _%_, _^_}
 use lib.Dec.{eqb}
 
@@ -30,3 +30,7 @@ isImpassable x = flag 25 x
 
 abbrev pub isCorner : ℕ → Bool
 isCorner x = flag 26 x
+
+-- a cell that takes offers (01, "Integration: build"): neither wall nor in sight
+abbrev pub isOpen : ℕ → Bool
+isOpen x = not (isImpassable x) && not (isLos x)

@@ -1,0 +1,44 @@
+-- The built field (01, "Integration: build"): the waves from the listed corners until one changes no cell, and how many changed one.
+--
+-- `settle` looks at one wave after the other and stops at the first that changes no cell. What it takes beside a wave is no limit: it is
+-- a proof that some later wave changes none, as `rest` has for every field, and the answer does not depend on it (`proofs/Settled.antt`).
+-- Assumes nothing.
+use mathlib.Core.Bool.{Bool, true, false}
+use mathlib.Core.List.{List, [], _∷_}
+use Prim.Native.Nat.{ℕ, zero, suc, _≤_}
+use native.Mathlib.Nat.{le-refl}
+use Rattle.integration_field.specs.declared.IntegrationField.{IntegrationField}
+use Rattle.integration_field.specs.Listed.{listOf, withCorners}
+use Rattle.integration_field.specs.Wave.{Wave, next}
+use Rattle.integration_field.specs.Rest.{Rests, total, rest}
+
+-- the cells that are left, and the number of waves that changed one
+pub record Built : Type 0 where
+  pub cells : List ℕ
+  pub waves : ℕ
+
+unfoldable pub isEmpty : List ℕ → Bool
+isEmpty [] = true
+isEmpty (x ∷ xs) = false
+
+unfoldable pub settle : (costs : List ℕ) (n : ℕ) (w : Wave) → Rests costs n w → Built
+settle costs zero w h = record { cells = w .cells; waves = 0 }
+settle costs (suc n) w h =
+    let u = next costs w in
+    elim (isEmpty (u .changed)) [
+      | true ↦ record { cells = w .cells; waves = 0 }
+      | false ↦ (let r = settle costs n u h in record { cells = r .cells; waves = suc (r .waves) })
+    ]
+
+-- these cells, built on these costs from these corners
+unfoldable pub build : List ℕ → List ℕ → List ℕ → Built
+build costs cells corners =
+    let w : Wave = record { cells = cells; changed = corners } in
+    settle costs (total cells) w (rest costs (total cells) w (le-refl (total cells)))
+
+-- a field, built: its cells, with the list that it had
+abbrev pub builtField : List ℕ → IntegrationField → IntegrationField
+builtField costs f = withCorners (build costs (f .field) (listOf f) .cells) (listOf f)
+
+abbrev pub waveCount : List ℕ → IntegrationField → ℕ
+waveCount costs f = build costs (f .field) (listOf f) .waves

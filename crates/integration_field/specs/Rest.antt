@@ -1,0 +1,110 @@
+-- Waves come to rest: each wave that changes a cell lowers the total of the values, so that one changes none. The definition of the
+-- built field leans on this, and on nothing else, to be a total function; how soon waves come to rest is `proofs/Least.antt`.
+-- Assumes nothing.
+use mathlib.Core.Path.{_≡_, refl, sym, ap, _∙_}
+use mathlib.Core.Bool.{Bool, true, false, not, cond, _&&_}
+use mathlib.Core.Logic.{_⊎_, inl, inr}
+use mathlib.Core.List.{List, [], _∷_}
+use Prim.Native.Nat.{ℕ, zero, suc, _+_, _≤_, _<_}
+use native.Mathlib.Omega.{arith}
+use lib.Dec.{ltb, eqb}
+use lib.ListN.{getD, set}
+use borrow.Author.Tests.{ltb-true, eq-eqb}
+use Rattle.utilities.specs.declared.CompassDir.{CompassDir}
+use Rattle.utilities.specs.Compass.{orthogonal}
+use Rattle.fields.specs.declared.FieldCell.{FieldCell}
+use Rattle.fields.specs.declared.Stepped.{Stepped}
+use Rattle.fields.specs.declared.Stepped.the-variants.{Cell, Outside}
+use Rattle.fields.specs.Cell.{indexOf, cellAt, stepped}
+use Rattle.integration_field.specs.Word.{low, isOpen}
+use Rattle.integration_field.specs.Wave.{isWritten, relaxed, offered, offeredAround, offeredBy, changedFrom, Wave, next}
+
+-- the wave after n more waves from w on changes no cell
+abbrev pub Rests : List ℕ → ℕ → Wave → Type 0
+Rests costs zero w = next costs w .changed ≡ []
+Rests costs (suc n) w = Rests costs n (next costs w)
+
+unfoldable pub total : List ℕ → ℕ
+total [] = 0
+total (w ∷ ws) = low w + total ws
+
+-- the same cells, or a lower total
+abbrev Lowered : List ℕ → List ℕ → Type 0
+Lowered a b = (b ≡ a) ⊎ (total b < total a)
+
+then : {a b c : List ℕ} → Lowered a b → Lowered b c → Lowered a c
+then (inl p) (inl q) = inl (q ∙ p)
+then (inl p) (inr m) = inr (omega (arith, ap total p))
+then (inr l) (inl q) = inr (omega (arith, ap total q))
+then (inr l) (inr m) = inr (omega arith)
+
+set-lower : (cells : List ℕ) (x s : ℕ) → s < low (getD cells x 0) → total (set cells x s) < total cells
+unfolding total
+set-lower [] x s h = absurd (omega arith)
+set-lower (w ∷ ws) zero s h = omega arith
+set-lower (w ∷ ws) (suc x) s h = omega (arith, set-lower ws x s h)
+
+and-right : (a b : Bool) → (a && b) ≡ true → b ≡ true
+and-right true b e = e
+and-right false true e = refl
+and-right false false e = e
+
+module _ (costs : List ℕ) where
+  relaxed-lowered : (v x : ℕ) (cells : List ℕ) → Lowered cells (relaxed costs v x cells)
+  unfolding relaxed
+  relaxed-lowered v x cells = go (isWritten (getD cells x 0) s) refl
+    where
+      s : ℕ
+      s = v + getD costs x 0
+
+      go : (b : Bool) → isWritten (getD cells x 0) s ≡ b → Lowered cells (cond b (set cells x s) cells)
+      go true e = inr (set-lower cells x s (ltb-true s (low (getD cells x 0)) (and-right (isOpen (getD cells x 0)) _ e)))
+      go false e = inl refl
+
+  step-lowered : (v : ℕ) (t : Stepped) (cells : List ℕ) → Lowered cells (offered costs v t cells)
+  step-lowered v (Cell c) cells = relaxed-lowered v (indexOf c) cells
+  step-lowered v Outside cells = inl refl
+
+  around-lowered : (v : ℕ) (c : FieldCell) (ds : List CompassDir) (cells : List ℕ) → Lowered cells (offeredAround costs v c ds cells)
+  unfolding offeredAround
+  around-lowered v c [] cells = inl refl
+  around-lowered v c (d ∷ ds) cells = then (step-lowered v (stepped c d) cells) (around-lowered v c ds (offered costs v (stepped c d) cells))
+
+  wave-lowered : (old is cells : List ℕ) → Lowered cells (offeredBy costs old is cells)
+  unfolding offeredBy
+  wave-lowered old [] cells = inl refl
+  wave-lowered old (i ∷ is) cells =
+      let v = low (getD old i 0) in
+      then (around-lowered v (cellAt i) orthogonal cells) (wave-lowered old is (offeredAround costs v (cellAt i) orthogonal cells))
+
+  none-changed : (i : ℕ) (cells : List ℕ) → changedFrom i cells cells ≡ []
+  unfolding changedFrom
+  none-changed i [] = refl
+  none-changed i (a ∷ as′) = rw (eq-eqb a a refl) (none-changed (suc i) as′)
+
+  -- a wave that changed no cell is followed by such waves
+  rests-on : (n : ℕ) (cells : List ℕ) → Rests costs n (record { cells = cells; changed = [] })
+  unfolding next offeredBy
+  rests-on zero cells = none-changed 0 cells
+  rests-on (suc n) cells = rw (none-changed 0 cells) (rests-on n cells)
+
+  same-next : (w : Wave) → next costs w .cells ≡ w .cells → next costs w ≡ record { cells = w .cells; changed = [] }
+  unfolding next
+  same-next w e = rw (e, none-changed 0 (w .cells))
+
+  next-lowered : (w : Wave) → Lowered (w .cells) (next costs w .cells)
+  unfolding next
+  next-lowered w = wave-lowered (w .cells) (w .changed) (w .cells)
+
+  -- waves come to rest
+  pub rest : (n : ℕ) (w : Wave) → total (w .cells) ≤ n → Rests costs n w
+  rest zero w h = go (next-lowered w)
+    where
+      go : Lowered (w .cells) (next costs w .cells) → next costs w .changed ≡ []
+      go (inl e) = ap (λ (u : Wave). u .changed) (same-next w e)
+      go (inr l) = absurd (omega arith)
+  rest (suc n) w h = go (next-lowered w) (λ l. rest n (next costs w) l)
+    where
+      go : Lowered (w .cells) (next costs w .cells) → (total (next costs w .cells) ≤ n → Rests costs n (next costs w)) → Rests costs n (next costs w)
+      go (inl e) ih = rw (same-next w e) (rests-on n (w .cells))
+      go (inr l) ih = ih (omega arith)
