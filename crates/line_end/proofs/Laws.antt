@@ -5,37 +5,23 @@
 -- Assumes nothing.
 use mathlib.Core.Path.{_≡_, refl}
 use mathlib.Core.Bool.{Bool, true, false, cond}
-use Prim.Native.Nat.{ℕ, zero, suc, _+_, _-_, _<_, _≤_}
+use Prim.Native.Nat.{ℕ, _<_, _≤_}
 use native.Mathlib.Omega.{arith}
 use lib.Dec.{ltb, eqb}
 use lib.IntN.{ℤ, pos, negsuc}
 use borrow.Author.Tests.{ltb-true, ltb-false, eqb-true, eqb-false}
 use Rattle.fields.specs.declared.FieldCell.{FieldCell}
-use Rattle.fields.specs.Cell.{cell, Inside}
+use Rattle.fields.specs.Cell.{Inside}
 use Rattle.line_end.specs.Away.{Away, Between}
-use Rattle.line_end.specs.LineEnd.{endsRightward, endsLeftward, firstEnding, rightward, leftward, endRow, awayEdge, rowAt, gradient, intercept, slantedEnd, endBy, lineEnd}
+use Rattle.line_end.specs.LineEnd.{rightward, leftward, endRow, awayEdge, lineRow, slantedEnd, endBy, lineEnd}
+use Rattle.line_end.proofs.First.{right-first, left-first}
 
 -- ---- the columns that a walk tries
-walks-right : (ends : ℕ → Bool) (after column : ℕ) (test : Bool)
-    → (column ≤ firstEnding ends suc after column test) × (firstEnding ends suc after column test ≤ after + column)
-unfolding firstEnding
-walks-right ends zero column test = (omega arith, omega arith)
-walks-right ends (suc after) column true = (omega arith, omega arith)
-walks-right ends (suc after) column false = let h = walks-right ends after (suc column) (ends (suc column)) in (omega arith, omega arith)
-
-walks-left : (ends : ℕ → Bool) (after column : ℕ) (test : Bool) → firstEnding ends (λ (c : ℕ). c - 1) after column test ≤ column
-unfolding firstEnding
-walks-left ends zero column test = omega arith
-walks-left ends (suc after) column true = omega arith
-walks-left ends (suc after) column false = let h = walks-left ends after (column - 1) (ends (column - 1)) in omega arith
-
 rightward-from : (row : ℕ → ℤ) (column : ℕ) → column < 10 → (column ≤ rightward row column) × (rightward row column < 10)
-rightward-from row column h =
-    let w = walks-right (λ (c : ℕ). endsRightward (row c)) (9 - column) column (endsRightward (row column)) in
-    (w .0, omega arith)
+rightward-from row column h = let f = right-first row column h in (omega (arith, f .tried-from), omega (arith, f .tried-to))
 
 leftward-from : (row : ℕ → ℤ) (column : ℕ) → leftward row column ≤ column
-leftward-from row column = walks-left (λ (c : ℕ). endsLeftward (row c)) column column (endsLeftward (row column))
+leftward-from row column = let f = left-first row column in omega (arith, f .tried-to)
 
 -- ---- the end lies in the sector
 row-in : (z : ℤ) → endRow z < 10
@@ -56,8 +42,7 @@ unfolding endBy
 by-inside true q corner goal h = record { column-in = h .column-in; row-in = edge-in (ltb (goal .row) (corner .row)) }
 by-inside false true corner goal h = record { column-in = edge-in (ltb (goal .column) (corner .column)); row-in = h .row-in }
 by-inside false false corner goal h =
-    let m = gradient corner goal in
-    slanted-inside (rowAt m (intercept m corner)) (corner .column) (ltb (goal .column) (corner .column)) (h .column-in)
+    slanted-inside (lineRow corner goal) (corner .column) (ltb (goal .column) (corner .column)) (h .column-in)
 
 pub end-inside : (corner goal : FieldCell) → Inside corner → Inside (lineEnd corner goal)
 unfolding lineEnd
@@ -121,8 +106,7 @@ by-away false true corner goal h e f =
     }
 by-away false false corner goal h e f =
     let k : corner .column ≡ goal .column → ⊥ = eqb-false (corner .column) (goal .column) e in
-    let m = gradient corner goal in
-    let s = sideways (rowAt m (intercept m corner)) (corner .column) (goal .column) (ltb (goal .column) (corner .column)) (h .column-in) refl in
+    let s = sideways (lineRow corner goal) (corner .column) (goal .column) (ltb (goal .column) (corner .column)) (h .column-in) refl in
     record {
       right = s .rightwards;
       left = s .leftwards;

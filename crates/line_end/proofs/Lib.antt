@@ -1,3 +1,4 @@
 pub mod Floor
 pub mod Walk
+pub mod First
 pub mod Laws

@@ -15,7 +15,7 @@ use Rattle.line_end.specs.declared.Row.{Row}
 abbrev pub f32 : ℕ → Float
 f32 n = ofInt binary32 (pos n)
 
--- The line's rows for each column, and its row at column 0; each operation is rounded once, in this order.
+-- The line through goal and corner: its rows for each column, and its row at column 0. Each operation is rounded once, in this order.
 unfoldable pub gradient : FieldCell → FieldCell → Float
 gradient corner goal =
     let rows = sub binary32 (f32 (corner .row)) (f32 (goal .row)) in
@@ -35,6 +35,9 @@ floor (fin s m e) = cond s (negℤ (pos ((m * up e + (down e - 1)) / down e))) (
 unfoldable pub rowAt : Float → Float → ℕ → ℤ
 rowAt m b column = floor (add binary32 (mul binary32 m (f32 column)) b)
 
+abbrev pub lineRow : FieldCell → FieldCell → ℕ → ℤ
+lineRow corner goal = rowAt (gradient corner goal) (intercept (gradient corner goal) corner)
+
 -- ---- the column that ends the line
 -- rightward: one whose row is above 9 or below 0
 abbrev pub endsRightward : ℤ → Bool
@@ -46,8 +49,8 @@ abbrev pub endsLeftward : ℤ → Bool
 endsLeftward (pos n) = eqb n 0 || ltb 9 n
 endsLeftward (negsuc n) = true
 
--- The first column that ends the line, tried from `column` on in the order of `next`; the last of the `after` columns behind it ends it in any case.
--- The last argument is the test of `column`.
+-- The first column that ends the line, of those tried from `column` on; `next` is the one tried after, and the last ends it in any case.
+-- `after` counts the columns behind `column`, and the last argument is the test of `column`. (`Slanted` of `Away` says it without them.)
 unfoldable pub firstEnding : (ℕ → Bool) → (ℕ → ℕ) → ℕ → ℕ → Bool → ℕ
 firstEnding ends next zero column test = column
 firstEnding ends next (suc after) column true = column
@@ -77,14 +80,12 @@ unfoldable pub slantedEnd : (ℕ → ℤ) → ℕ → Bool → FieldCell
 slantedEnd row column true = endAt row (rightward row column)
 slantedEnd row column false = endAt row (leftward row column)
 
--- In the goal's column the end is the edge row away from the goal (row 0 if the corner is the goal); in its row, the edge column away.
+-- In the goal's column the end is the edge row away from the goal (row 0 if the corner is the goal); in its row, the edge column away; else as above.
 -- The two tests say whether the corner lies in the goal's column and in its row.
 unfoldable pub endBy : Bool → Bool → FieldCell → FieldCell → FieldCell
 endBy true inRow corner goal = cell (corner .column) (awayEdge (corner .row) (goal .row))
 endBy false true corner goal = cell (awayEdge (corner .column) (goal .column)) (corner .row)
-endBy false false corner goal =
-    let m = gradient corner goal in
-    slantedEnd (rowAt m (intercept m corner)) (corner .column) (ltb (goal .column) (corner .column))
+endBy false false corner goal = slantedEnd (lineRow corner goal) (corner .column) (ltb (goal .column) (corner .column))
 
 unfoldable pub lineEnd : FieldCell → FieldCell → FieldCell
 lineEnd corner goal = endBy (eqb (corner .column) (goal .column)) (eqb (corner .row) (goal .row)) corner goal
