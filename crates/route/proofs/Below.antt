@@ -13,7 +13,7 @@ abbrev pub holds : ℕ → (ℕ → Bool) → Bool
 holds zero t = true
 holds (suc n) t = t n && holds n t
 
-and-true : (a b : Bool) → (a && b) ≡ true → (a ≡ true) × (b ≡ true)
+pub and-true : (a b : Bool) → (a && b) ≡ true → (a ≡ true) × (b ≡ true)
 and-true true b e = (refl, e)
 and-true false b e = let z : _≡_ {A = ℕ} 0 1 = cc in absurd (omega arith)
 

@@ -67,40 +67,35 @@ module _ (p : ℕ → Bool) where
       step true e = ap (λ (l : List ℕ). x ∷ l) e
       step false e = e
 
-  pub select-at-most : (l : List ℕ) → length (select p l) ≤ length l
-  select-at-most [] = omega arith
-  select-at-most (x ∷ l) = step (p x) (select-at-most l)
-    where
-      step : (t : Bool) → length (select p l) ≤ length l → length (cond t (x ∷ select p l) (select p l)) ≤ suc (length l)
-      step true h = omega arith
-      step false h = omega arith
-
 -- an array and a count that hold those of a list's first k that pass a test
 pub record Collected (p : ℕ → Bool) (l : List ℕ) (k : ℕ) (cells : List ℕ) (count : ℕ) : Type 0 where
   pub cells-are : cells ≡ padded 10 0 (select p (take k l))
   pub count-is : count ≡ length (select p (take k l))
+  pub at-most : count ≤ k
 
-module _ (p : ℕ → Bool) (l : List ℕ) (k : ℕ) (cells : List ℕ) (count : ℕ) (fits : length l ≤ 10) (more : k < length l) (c : Collected p l k cells count) where
+module _ {p : ℕ → Bool} {l : List ℕ} {k : ℕ} {cells : List ℕ} {count : ℕ} (c : Collected p l k cells count) (fits : length l ≤ 10) (more : k < length l) where
   next : select p (take (k + 1) l) ≡ select p (take k l) ++ select p (getD l k 0 ∷ [])
   next = rw (add-one, take-suc l k 0 more) (select-append p (take k l) (getD l k 0 ∷ []))
-
-  pub room : count < 10
-  room = omega (arith, c .count-is, select-at-most p (take k l), length-take k l)
 
   pub taken : (x : ℕ) → x ≡ getD l k 0 → p x ≡ true → Collected p l (k + 1) (set cells count x) (count + 1)
   taken x e t =
       let q : p (getD l k 0) ≡ true = rw (← e) t in
       let n : select p (take (k + 1) l) ≡ select p (take k l) ++ (x ∷ []) = rw (next, q, e) in
       record {
-        cells-are = rw (n, c .cells-are, c .count-is) (padded-push 10 0 (select p (take k l)) x (omega (arith, room, c .count-is)));
+        cells-are = rw (n, c .cells-are, c .count-is) (padded-push 10 0 (select p (take k l)) x (omega (arith, c .count-is)));
         count-is = rw (n, length-append, c .count-is);
+        at-most = omega arith;
       }
 
   pub passed : (x : ℕ) → x ≡ getD l k 0 → p x ≡ false → Collected p l (k + 1) cells count
   passed x e t =
       let q : p (getD l k 0) ≡ false = rw (← e) t in
       let n : select p (take (k + 1) l) ≡ select p (take k l) = rw (next, q) (append-nil (select p (take k l))) in
-      record { cells-are = rw n (c .cells-are); count-is = rw n (c .count-is) }
+      record { cells-are = rw n (c .cells-are); count-is = rw n (c .count-is); at-most = omega arith }
+
+pub collected-all : {p : ℕ → Bool} {l : List ℕ} {k : ℕ} {cells : List ℕ} {count : ℕ} → Collected p l k cells count → length l ≤ k
+    → record { cells = cells; count = count } ≡ listed (select p l)
+collected-all {p} {l} {k} c h = rw (c .cells-are, c .count-is, take-all k l h)
 
 -- the cells of the four edges, by their place
 pub north-at : (k : ℕ) → k < 10 → getD (edge North) k 0 ≡ k
@@ -118,6 +113,3 @@ south-at = same-at 10 (λ k. getD (edge South) k 0) (λ k. k + 90) refl
 pub west-at : (k : ℕ) → k < 10 → getD (edge West) k 0 ≡ k * 10
 unfolding edge onEdge
 west-at = same-at 10 (λ k. getD (edge West) k 0) (λ k. k * 10) refl
-
-pub collected-all : (p : ℕ → Bool) (l : List ℕ) (k : ℕ) (cells : List ℕ) (count : ℕ) → length l ≤ k → Collected p l k cells count → record { cells = cells; count = count } ≡ listed (select p l)
-collected-all p l k cells count h c = rw (c .cells-are, c .count-is, take-all k l h)

@@ -1,5 +1,5 @@
 use native.Mathlib.Omega.{arith}
-use borrow.Author.Tests.{eq-eqb, ne-eqb}
+use borrow.Author.Tests.{ne-eqb}
 use mathlib.Core.Path.{_≡_}
 use Rattle.route.specs.Step.{eachStep}
 use Rattle.route.proofs.Rows.{tests}
@@ -36,16 +36,14 @@ returns-5 c =
 returns-6 : tie.Need-returns-6
 unfolding eachStep
 returns-6 c =
-    let m = c .before .before .before .before .before .before .args .mark in
-    let g : m ≡ 0 = omega arith in
-    search (tests, eq-eqb m 0 g, ne-eqb m 1 (λ z. omega arith))
+    let g : c .before .before .before .before .before .before .args .mark ≡ 0 = omega arith in
+    search tests
 
 returns-7 : tie.Need-returns-7
 unfolding eachStep
 returns-7 c =
-    let m = c .before .before .before .before .before .before .args .mark in
-    let g : m ≡ 0 = omega arith in
-    search (tests, eq-eqb m 0 g, ne-eqb m 1 (λ z. omega arith))
+    let g : c .before .before .before .before .before .before .args .mark ≡ 0 = omega arith in
+    search tests
 
 pub each-step-spec : {M : Type 1} → statement M
 each-step-spec =

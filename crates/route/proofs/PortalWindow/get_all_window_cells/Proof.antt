@@ -1,14 +1,11 @@
-use mathlib.Core.Path.{_≡_, refl, sym, _∙_, ap, ap₂, subst}
+use mathlib.Core.Path.{refl, sym, _∙_}
 use mathlib.Core.Logic.{⊎-elim}
-use lib.ListN.{length}
-use mathlib.Core.Bool.{true, false}
-use mathlib.Core.List.{List, []}
-use Prim.Native.Nat.{ℕ, _≤_, _<_, _-_}
+use Prim.Native.Nat.{_≤_, _<_, _-_}
 use native.Mathlib.Omega.{arith}
 use borrow.Author.Needs.{needs}
-use lib.ListN.{take}
+use lib.ListN.{length}
 use Rattle.route.specs.Window.{edge, between, cellsBetween}
-use Rattle.route.proofs.Cells.{Collected, edge-at-most, room, taken, passed, collected-all}
+use Rattle.route.proofs.Cells.{Collected, edge-at-most, taken, passed, collected-all}
 use Rattle.route.proofs.PortalWindow.get_all_window_cells.Statement.{statement}
 use Rattle.route.proofs.PortalWindow.get_all_window_cells.Tie as tie
 
@@ -22,7 +19,7 @@ edge-length-requires : tie.Need-edge-length-requires Inv-loop μ-loop
 edge-length-requires c κs = search needs
 
 loop-holds : tie.Need-loop-holds Inv-loop μ-loop
-loop-holds c = (omega arith, record { cells-are = refl; count-is = refl })
+loop-holds c = (omega arith, record { cells-are = refl; count-is = refl; at-most = omega arith })
 
 edge-cell-requires : tie.Need-edge-cell-requires Inv-loop μ-loop
 edge-cell-requires c κs = omega (arith, c .before .before .edge-length .ensures, edge-at-most (c .before .before .before .args .self .boundary))
@@ -31,18 +28,13 @@ is-between-requires : tie.Need-is-between-requires Inv-loop μ-loop
 is-between-requires c κs = search needs
 
 mul-cells : tie.Need-mul-cells Inv-loop μ-loop
-mul-cells c = let a = c .before .before .before .before .before .before .args .self in
-    let r = room (between (a .start) (a .end)) (edge (a .boundary)) (c .before .before .before .before .loop .place) (c .before .before .before .before .loop .cells) (c .before .before .before .before .loop .count) (edge-at-most (a .boundary)) (rw (← c .before .before .before .before .before .edge-length .ensures) (c .before .before .before .loop-test .taken)) (c .before .before .before .before .loop .inv .1) in
-    omega arith
+mul-cells c = omega (arith, c .before .before .before .before .before .edge-length .ensures, edge-at-most (c .before .before .before .before .before .before .args .self .boundary))
 
 array-write-cells : tie.Need-array-write-cells Inv-loop μ-loop
-array-write-cells c = let a = c .before .before .before .before .before .before .args .self in
-    room (between (a .start) (a .end)) (edge (a .boundary)) (c .before .before .before .before .loop .place) (c .before .before .before .before .loop .cells) (c .before .before .before .before .loop .count) (edge-at-most (a .boundary)) (rw (← c .before .before .before .before .before .edge-length .ensures) (c .before .before .before .loop-test .taken)) (c .before .before .before .before .loop .inv .1)
+array-write-cells c = omega (arith, c .before .before .before .before .before .edge-length .ensures, edge-at-most (c .before .before .before .before .before .before .args .self .boundary))
 
 add-count : tie.Need-add-count Inv-loop μ-loop
-add-count c = let a = c .before .before .before .before .before .before .args .self in
-    let r = room (between (a .start) (a .end)) (edge (a .boundary)) (c .before .before .before .before .loop .place) (c .before .before .before .before .loop .cells) (c .before .before .before .before .loop .count) (edge-at-most (a .boundary)) (rw (← c .before .before .before .before .before .edge-length .ensures) (c .before .before .before .loop-test .taken)) (c .before .before .before .before .loop .inv .1) in
-    omega arith
+add-count c = omega (arith, c .before .before .before .before .before .edge-length .ensures, edge-at-most (c .before .before .before .before .before .before .args .self .boundary))
 
 add-place : tie.Need-add-place Inv-loop μ-loop
 add-place c = omega arith
@@ -54,21 +46,20 @@ loop-again : tie.Need-loop-again Inv-loop μ-loop
 loop-again c =
     let a = c .before .before .before .before .before .before .args .self in
     let l = c .before .before .before .before .loop in
-    let p = between (a .start) (a .end) in
+    let fits = edge-at-most (a .boundary) in
     let more : l .place < length (edge (a .boundary)) = rw (← c .before .before .before .before .before .edge-length .ensures) (c .before .before .before .loop-test .taken) in
-    let x = c .before .before .edge-cell .result in (
+    let x = c .before .before .edge-cell in
+    let answer = sym (c .before .is-between .ensures) in (
       omega arith,
       ⊎-elim
-          (λ w. rw (w .1, w .2) (taken p (edge (a .boundary)) (l .place) (l .cells) (l .count) (edge-at-most (a .boundary)) more (l .inv .1) x (c .before .before .edge-cell .ensures) (sym (c .before .is-between .ensures) ∙ w .0 .taken)))
-          (λ w. rw (w .1, w .2) (passed p (edge (a .boundary)) (l .place) (l .cells) (l .count) (edge-at-most (a .boundary)) more (l .inv .1) x (c .before .before .edge-cell .ensures) (sym (c .before .is-between .ensures) ∙ w .0 .left)))
+          (λ w. rw (w .1, w .2) (taken (l .inv .1) fits more (x .result) (x .ensures) (answer ∙ w .0 .taken)))
+          (λ w. rw (w .1, w .2) (passed (l .inv .1) fits more (x .result) (x .ensures) (answer ∙ w .0 .left)))
           (c .if1 .came),
     )
 
 returns : tie.Need-returns Inv-loop μ-loop
 unfolding cellsBetween
-returns c =
-    let a = c .before .before .before .args .self in
-    collected-all (between (a .start) (a .end)) (edge (a .boundary)) (c .before .loop .place) (c .before .loop .cells) (c .before .loop .count) (omega (arith, c .before .before .edge-length .ensures)) (c .before .loop .inv .1)
+returns c = collected-all (c .before .loop .inv .1) (omega (arith, c .before .before .edge-length .ensures))
 
 pub get-all-window-cells-spec : {M : Type 1} → statement M
 get-all-window-cells-spec =

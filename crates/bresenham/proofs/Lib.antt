@@ -1,0 +1,5 @@
+pub mod Lists
+pub mod Offset
+pub mod Walks
+pub mod Theorem
+pub mod Calls

@@ -1,0 +1,202 @@
+-- The offset of the shorter coordinate: what `nearest` gives, and that Bresenham's difference finds it.
+-- Assumes nothing.
+use mathlib.Core.Path.{_≡_, refl, sym, ap, _∙_}
+use mathlib.Core.Bool.{Bool, true, false}
+use Prim.Native.Nat.{ℕ, zero, suc, _+_, _-_, _*_, _/_, _<_, _≤_, min, max}
+use native.Mathlib.Nat.{div-zero, div-eq-of-lt-le, div-mul-le-self, lt-mul-div-succ, mul-comm, mul-left-comm, mul-assoc, mul-add, add-mul, one-mul, mul-one, zero-mul, mul-zero, mul-le-mul-right, lt-of-mul-lt-mul-left, le-of-lt}
+use native.Mathlib.Omega.{arith}
+use lib.Dec.{leb}
+use borrow.Author.Tests.{leb-true, leb-false}
+use Rattle.bresenham.specs.Line.{apart, toward, nearest, minorAt}
+use Rattle.bresenham.specs.Nearest.{Between}
+
+-- q is x / (2 * m), from the two bounds
+quotient : (m q x : ℕ) → 0 < m → 2 * (m * q) ≤ x → x < 2 * (m * q) + 2 * m → q ≡ x / (2 * m)
+quotient m q x p a b =
+    let e : q * (2 * m) ≡ 2 * (m * q) = mul-left-comm q 2 m ∙ ap (λ (z : ℕ). 2 * z) (mul-comm q m) in
+    let f : (q + 1) * (2 * m) ≡ q * (2 * m) + 1 * (2 * m) = add-mul q 1 (2 * m) in
+    sym (div-eq-of-lt-le (2 * m) (omega arith) (omega arith))
+
+-- the same, and 0 where m is
+quotient₀ : (m q x : ℕ) → (0 < m → (2 * (m * q) ≤ x) × (x < 2 * (m * q) + 2 * m)) → (m ≡ 0 → q ≡ 0) → q ≡ x / (2 * m)
+quotient₀ zero q x b z = z refl ∙ sym (div-zero x)
+quotient₀ (suc m) q x b z = let p : 0 < suc m = omega arith in quotient (suc m) q x p (b p .0) (b p .1)
+
+flat : (d m k : ℕ) → m ≡ 0 → nearest d m k ≡ 0
+unfolding nearest
+flat d m k e = rw e (div-zero (2 * (k * d) + 0 - 1))
+
+-- the two bounds of the nearest number
+pub record Bounds (d m k y : ℕ) : Type 0 where
+  pub lower : 2 * (m * y) ≤ 2 * (k * d) + m - 1
+  pub upper : 2 * (k * d) + m - 1 < 2 * (m * y) + 2 * m
+
+pub bounds : (d m k : ℕ) → 0 < m → Bounds d m k (nearest d m k)
+unfolding nearest
+bounds d m k p =
+    let x = 2 * (k * d) + m - 1 in
+    let y = x / (2 * m) in
+    let e : y * (2 * m) ≡ 2 * (m * y) = mul-left-comm y 2 m ∙ ap (λ (z : ℕ). 2 * z) (mul-comm y m) in
+    let f : 2 * m * (y + 1) ≡ 2 * m * y + 2 * m * 1 = mul-add (2 * m) y 1 in
+    let g : 2 * m * y ≡ 2 * (m * y) = mul-assoc 2 m y in
+    let l : y * (2 * m) ≤ x = div-mul-le-self x (2 * m) in
+    let q : 0 < 2 * m = omega arith in
+    let u : x < 2 * m * (y + 1) = lt-mul-div-succ x q in
+    record { lower = omega arith; upper = omega arith }
+
+pub nearest-start : (d m : ℕ) → nearest d m 0 ≡ 0
+unfolding nearest
+nearest-start d m =
+    let z : 0 * d ≡ 0 = zero-mul d in
+    let y : m * 0 ≡ 0 = mul-zero m in
+    sym (quotient₀ m 0 (2 * (0 * d) + m - 1) (λ p. (omega arith, omega arith)) (λ e. refl))
+
+pub nearest-end : (d m : ℕ) → d ≤ m → nearest d m m ≡ d
+unfolding nearest
+nearest-end d m h = sym (quotient₀ m d (2 * (m * d) + m - 1) (λ p. (omega arith, omega arith)) (λ e. omega arith))
+
+-- up to the last step an offset is at most the whole span
+pub nearest-le : (d m k : ℕ) → k ≤ m → nearest d m k ≤ d
+nearest-le d zero k h = rw (flat d zero k refl) (omega arith)
+nearest-le d (suc m) k h =
+    let y = nearest d (suc m) k in
+    let b = bounds d (suc m) k (omega arith) in
+    let p : k * d ≤ suc m * d = mul-le-mul-right d h in
+    let q : suc m * (d + 1) ≡ suc m * d + suc m * 1 = mul-add (suc m) d 1 in
+    let x : suc m * y < suc m * (d + 1) = omega arith in
+    let z = lt-of-mul-lt-mul-left (suc m) x in
+    omega arith
+
+next : (d k : ℕ) → (k + 1) * d ≡ k * d + d
+next d k = add-mul k 1 d ∙ ap (λ (z : ℕ). k * d + z) (one-mul d)
+
+-- from one step to the next an offset stays, or grows by one
+pub record Grows (y z : ℕ) : Type 0 where
+  pub stays : y ≤ z
+  pub grown : z ≤ y + 1
+
+pub nearest-grows : (d m k : ℕ) → d ≤ m → Grows (nearest d m k) (nearest d m (k + 1))
+nearest-grows d zero k n = rw (flat d zero k refl, flat d zero (k + 1) refl) (record { stays = omega arith; grown = omega arith })
+nearest-grows d (suc m) k n =
+    let y = nearest d (suc m) k in
+    let z = nearest d (suc m) (k + 1) in
+    let b = bounds d (suc m) k (omega arith) in
+    let c = bounds d (suc m) (k + 1) (omega arith) in
+    let e = next d k in
+    let p : suc m * (z + 1) ≡ suc m * z + suc m * 1 = mul-add (suc m) z 1 in
+    let q : suc m * (y + 2) ≡ suc m * y + suc m * 2 = mul-add (suc m) y 2 in
+    let u : suc m * y < suc m * (z + 1) = omega arith in
+    let v : suc m * z < suc m * (y + 2) = omega arith in
+    let i = lt-of-mul-lt-mul-left (suc m) u in
+    let j = lt-of-mul-lt-mul-left (suc m) v in
+    record { stays = omega arith; grown = omega arith }
+
+-- what holds at step k of the walk: the offset, and the Rust's difference plus twice the span
+pub record State (d m k offset difference : ℕ) : Type 0 where
+  pub near : offset ≡ nearest d m k
+  pub balance : difference + 2 * (m * offset) ≡ 2 * (k * d) + 2 * d + m
+  pub low : 2 * d + min 1 m ≤ difference
+  pub high : difference ≤ 2 * d + 2 * m
+
+module _ (d m : ℕ) (narrow : d ≤ m) where
+  pub start : State d m 0 0 (2 * d + m)
+  start =
+      let z : 0 * d ≡ 0 = zero-mul d in
+      let y : m * 0 ≡ 0 = mul-zero m in
+      record { near = sym (nearest-start d m); balance = omega arith; low = omega arith; high = omega arith }
+
+  pub up : {k o e : ℕ} → State d m k o e → 2 * m < e → State d m (k + 1) (o + 1) (e + 2 * d - 2 * m)
+  unfolding nearest
+  up {k} {o} {e} s h =
+      let a : m * (o + 1) ≡ m * o + m = mul-add m o 1 ∙ ap (λ (z : ℕ). m * o + z) (mul-one m) in
+      let b : (k + 1) * d ≡ k * d + d = next d k in
+      let f = s .balance in
+      let l = s .low in
+      let g = s .high in
+      record {
+        near = quotient m (o + 1) (2 * ((k + 1) * d) + m - 1) (omega arith) (omega arith) (omega arith);
+        balance = omega arith;
+        low = omega arith;
+        high = omega arith;
+      }
+
+  pub level : {k o e : ℕ} → State d m k o e → e ≤ 2 * m → State d m (k + 1) o (e + 2 * d)
+  unfolding nearest
+  level {k} {o} {e} s h =
+      let b : (k + 1) * d ≡ k * d + d = next d k in
+      let f = s .balance in
+      let l = s .low in
+      let g = s .high in
+      record {
+        near = quotient₀ m o (2 * ((k + 1) * d) + m - 1) (λ p. (omega arith, omega arith)) (λ z. s .near ∙ flat d m k z);
+        balance = omega arith;
+        low = omega arith;
+        high = omega arith;
+      }
+
+-- a coordinate on the way from a to b
+toward-up : (a b o : ℕ) → a ≤ b → toward a b o ≡ a + min o (b - a)
+unfolding toward
+toward-up a b o h = omega arith
+
+toward-down : (a b o : ℕ) → b ≤ a → toward a b o ≡ a - min o (a - b)
+unfolding toward
+toward-down a b o h = omega arith
+
+apart-more : (a o : ℕ) → apart a (a + o) ≡ o
+apart-more a o = omega arith
+
+apart-less : (a o : ℕ) → o ≤ a → apart a (a - o) ≡ o
+apart-less a o h = omega arith
+
+near-more : (a u v : ℕ) → u ≤ v → v ≤ u + 1 → apart (a + u) (a + v) ≤ 1
+near-more a u v p q = omega arith
+
+near-less : (a u v : ℕ) → v ≤ a → u ≤ v → v ≤ u + 1 → apart (a - u) (a - v) ≤ 1
+near-less a u v h p q = omega arith
+
+pub toward-offset : (a b o : ℕ) → o ≤ apart a b → apart a (toward a b o) ≡ o
+toward-offset a b o h = go (leb a b) refl
+  where
+    go : (t : Bool) → leb a b ≡ t → apart a (toward a b o) ≡ o
+    go true e =
+        let p = leb-true a b e in
+        let q : min o (b - a) ≡ o = omega arith in
+        rw (toward-up a b o p, q) (apart-more a o)
+    go false e =
+        let p = le-of-lt (leb-false a b e) in
+        let q : min o (a - b) ≡ o = omega arith in
+        rw (toward-down a b o p, q) (apart-less a o (omega arith))
+
+toward-next : (a b y z : ℕ) → y ≤ z → z ≤ y + 1 → apart (toward a b y) (toward a b z) ≤ 1
+toward-next a b y z u v = go (leb a b) refl
+  where
+    go : (t : Bool) → leb a b ≡ t → apart (toward a b y) (toward a b z) ≤ 1
+    go true e =
+        let p = leb-true a b e in
+        rw (toward-up a b y p, toward-up a b z p) (near-more a (min y (b - a)) (min z (b - a)) (omega arith) (omega arith))
+    go false e =
+        let p = le-of-lt (leb-false a b e) in
+        rw (toward-down a b y p, toward-down a b z p) (near-less a (min y (a - b)) (min z (a - b)) (omega arith) (omega arith) (omega arith))
+
+-- the shorter coordinate: never outside the two ends, from the one to the other, and by one at most at each step
+pub minor-between : (a b m k : ℕ) → Between a b (minorAt a b m k)
+unfolding toward
+minor-between a b m k = record { from = omega arith; to = omega arith }
+
+pub minor-offset : (a b m k : ℕ) → k ≤ m → apart a (minorAt a b m k) ≡ nearest (apart a b) m k
+minor-offset a b m k h = toward-offset a b (nearest (apart a b) m k) (nearest-le (apart a b) m k h)
+
+pub minor-start : (a b m : ℕ) → minorAt a b m 0 ≡ a
+unfolding toward
+minor-start a b m = let e = nearest-start (apart a b) m in omega arith
+
+module _ (a b m : ℕ) (narrow : apart a b ≤ m) where
+  pub minor-end : minorAt a b m m ≡ b
+  unfolding toward
+  minor-end = let e = nearest-end (apart a b) m narrow in omega arith
+
+  pub minor-next : (k : ℕ) → apart (minorAt a b m k) (minorAt a b m (k + 1)) ≤ 1
+  minor-next k =
+      let g = nearest-grows (apart a b) m k narrow in
+      toward-next a b (nearest (apart a b) m k) (nearest (apart a b) m (k + 1)) (g .stays) (g .grown)

@@ -1,0 +1,126 @@
+-- The walks of the definition are nearest walks, from either end.
+-- Assumes nothing.
+use mathlib.Core.Path.{_≡_, refl, sym, ap, ap₂, _∙_, subst}
+use mathlib.Core.List.{List, reverse}
+use Prim.Native.Nat.{ℕ, zero, suc, _+_, _-_, _*_, _<_, _≤_, max}
+use native.Mathlib.Nat.{zero-mul}
+use native.Mathlib.Omega.{arith}
+use lib.ListN.{length, getD, length-reverse}
+use Rattle.fields.specs.declared.FieldCell.{FieldCell}
+use Rattle.fields.specs.Cell.{cell}
+use Rattle.bresenham.specs.Table.{table}
+use Rattle.bresenham.specs.Line.{apart, nearest, minorAt, shallowAt, steepAt, shallow, steep}
+use Rattle.bresenham.specs.Nearest.{Between, Neighbours, NearestCell, NearestWalk, columnOf, rowOf}
+use Rattle.bresenham.proofs.Lists.{length-table, getD-table, getD-reverse}
+use Rattle.bresenham.proofs.Offset.{bounds, minor-between, minor-offset, minor-start, minor-end, minor-next}
+
+half-at-most : (d m k : ℕ) → k ≤ m → 2 * apart (k * d) (m * nearest d m k) ≤ m
+half-at-most d zero zero h =
+    let p : 0 * d ≡ 0 = zero-mul d in
+    let q : 0 * nearest d 0 0 ≡ 0 = zero-mul (nearest d 0 0) in
+    omega arith
+half-at-most d zero (suc k) h = absurd (omega arith)
+half-at-most d (suc m) k h =
+    let b = bounds d (suc m) k (omega arith) in
+    let l = b .lower in
+    let u = b .upper in
+    omega arith
+
+half-nearer : (d m k : ℕ) → k ≤ m → 2 * apart (k * d) (m * nearest d m k) ≡ m → m * nearest d m k ≤ k * d
+half-nearer d zero k h e = let q : 0 * nearest d 0 k ≡ 0 = zero-mul (nearest d 0 k) in omega arith
+half-nearer d (suc m) k h e =
+    let b = bounds d (suc m) k (omega arith) in
+    let l = b .lower in
+    let u = b .upper in
+    omega arith
+
+between-up : (x m k : ℕ) → k ≤ m → Between x (x + m) (x + k)
+between-up x m k h = record { from = omega arith; to = omega arith }
+
+-- what is known of the cells of a walk from a to b that are listed from s to t
+pub record Walked (major minor : FieldCell → ℕ) (a b s t : FieldCell) (l : List FieldCell) : Type 0 where
+  pub many : length l ≡ apart (major a) (major b) + 1
+  pub first : getD l 0 (cell 0 0) ≡ s
+  pub last : getD l (length l - 1) (cell 0 0) ≡ t
+  pub moves : (k : ℕ) → k + 1 < length l → Neighbours (getD l k (cell 0 0)) (getD l (k + 1) (cell 0 0))
+  pub each : NearestWalk major minor a b l
+
+-- a walk of m steps whose step k is f k: the same for columns and rows, and for rows and columns
+module _
+    (major minor : FieldCell → ℕ)
+    (same : (c d : FieldCell) → major c ≡ major d → minor c ≡ minor d → c ≡ d)
+    (neighbours : (c d : FieldCell) → apart (major c) (major d) ≡ 1 → apart (minor c) (minor d) ≤ 1 → Neighbours c d)
+    (a b : FieldCell) (m : ℕ) (f : ℕ → FieldCell)
+    (ahead : major b ≡ major a + m)
+    (narrow : apart (minor a) (minor b) ≤ m)
+    (along : (k : ℕ) → major (f k) ≡ major a + k)
+    (aside : (k : ℕ) → minor (f k) ≡ minorAt (minor a) (minor b) m k) where
+  step-nearest : (k : ℕ) → k ≤ m → NearestCell major minor a b (f k)
+  step-nearest k h =
+      let d = apart (minor a) (minor b) in
+      let g = along k in
+      let p : apart (major a) (major (f k)) ≡ k = omega arith in
+      let q : apart (major a) (major b) ≡ m = omega arith in
+      let r : apart (minor a) (minor (f k)) ≡ nearest d m k = ap (apart (minor a)) (aside k) ∙ minor-offset (minor a) (minor b) m k h in
+      record {
+        along = rw (ahead, g) (between-up (major a) m k h);
+        aside = subst (Between (minor a) (minor b)) (sym (aside k)) (minor-between (minor a) (minor b) m k);
+        half-at-most = rw (p, q, r) (half-at-most d m k h);
+        half-nearer-first = rw (p, q, r) (half-nearer d m k h);
+      }
+
+  step-moves : (k : ℕ) → Neighbours (f k) (f (k + 1))
+  step-moves k =
+      let p = along k in
+      let q = along (k + 1) in
+      neighbours (f k) (f (k + 1)) (omega arith) (rw (aside k, aside (k + 1)) (minor-next (minor a) (minor b) m narrow k))
+
+  at : (k : ℕ) → k ≤ m → getD (table (m + 1) f) k (cell 0 0) ≡ f k
+  at k h = getD-table (m + 1) f k (cell 0 0) (omega arith)
+
+  pub walked : Walked major minor a b a b (table (m + 1) f)
+  walked =
+      let n : length (table (m + 1) f) ≡ m + 1 = length-table (m + 1) f in
+      let e : length (table (m + 1) f) - 1 ≡ m = omega arith in
+      let p = along 0 in
+      let q = along m in
+      record {
+        many = omega arith;
+        first = at 0 (omega arith) ∙ same (f 0) a (omega arith) (aside 0 ∙ minor-start (minor a) (minor b) m);
+        last = rw e (at m (omega arith) ∙ same (f m) b (omega arith) (aside m ∙ minor-end (minor a) (minor b) m narrow));
+        moves = λ k h. rw (at k (omega arith), at (k + 1) (omega arith)) (step-moves k);
+        each = λ k h. rw (at k (omega arith)) (step-nearest k (omega arith));
+      }
+
+neighbours-back : (c d : FieldCell) → Neighbours c d → Neighbours d c
+neighbours-back c d h = omega arith
+
+-- the same cells from the last
+pub walked-back : (major minor : FieldCell → ℕ) (a b s t : FieldCell) (l : List FieldCell) → Walked major minor a b s t l → Walked major minor a b t s (reverse l)
+walked-back major minor a b s t l w =
+    let n = length l in
+    let p : length (reverse l) ≡ n = length-reverse l in
+    let m = w .many in
+    let at : (k : ℕ) → k < n → getD (reverse l) k (cell 0 0) ≡ getD l (n - 1 - k) (cell 0 0) = λ k h. getD-reverse l k (cell 0 0) h in
+    record {
+      many = p ∙ m;
+      first = let e : n - 1 - 0 ≡ n - 1 = omega arith in at 0 (omega arith) ∙ ap (λ (i : ℕ). getD l i (cell 0 0)) e ∙ w .last;
+      last =
+          let e : n - 1 - (n - 1) ≡ 0 = omega arith in
+          ap (λ (i : ℕ). getD (reverse l) (i - 1) (cell 0 0)) p ∙ at (n - 1) (omega arith) ∙ ap (λ (i : ℕ). getD l i (cell 0 0)) e ∙ w .first;
+      moves = λ k h.
+          let e : n - 1 - k ≡ n - 1 - (k + 1) + 1 = omega arith in
+          rw (at k (omega arith), at (k + 1) (omega arith), e)
+          (neighbours-back (getD l (n - 1 - (k + 1)) (cell 0 0)) (getD l (n - 1 - (k + 1) + 1) (cell 0 0)) (w .moves (n - 1 - (k + 1)) (omega arith)));
+      each = λ k h. rw (at k (omega arith)) (w .each (n - 1 - k) (omega arith));
+    }
+
+-- the two walks
+module _ (s t : FieldCell) where
+  pub shallow-walked : s .column ≤ t .column → apart (s .row) (t .row) ≤ t .column - s .column → Walked columnOf rowOf s t s t (shallow s t)
+  unfolding shallow
+  shallow-walked h n = walked columnOf rowOf (λ c d p q. ap₂ cell p q) (λ c d p q. omega arith) s t (t .column - s .column) (shallowAt s t) (omega arith) n (λ k. refl) (λ k. refl)
+
+  pub steep-walked : s .row ≤ t .row → apart (s .column) (t .column) ≤ t .row - s .row → Walked rowOf columnOf s t s t (steep s t)
+  unfolding steep
+  steep-walked h n = walked rowOf columnOf (λ c d p q. ap₂ cell q p) (λ c d p q. omega arith) s t (t .row - s .row) (steepAt s t) (omega arith) n (λ k. refl) (λ k. refl)

@@ -1,0 +1,4 @@
+pub mod Table
+pub mod Line
+pub mod Inner
+pub mod Nearest

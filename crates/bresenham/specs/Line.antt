@@ -1,0 +1,77 @@
+-- The cells of a line (01, "Line"), and what the line calls answer.
+-- Assumes nothing.
+use mathlib.Core.Bool.{Bool, true, false, cond, _&&_}
+use mathlib.Core.List.{List, [], _∷_, _++_, reverse}
+use Prim.Native.Nat.{ℕ, _+_, _-_, _*_, _/_, min}
+use lib.Dec.{leb, ltb}
+use lib.ListN.{length, replicate}
+use Rattle.fields.specs.declared.FieldCell.{FieldCell}
+use Rattle.fields.specs.Cell.{cell, inside}
+use Rattle.bresenham.specs.declared.Line.{Line}
+use Rattle.bresenham.specs.Table.{table}
+
+-- how far apart two coordinates are: one of the two differences is 0
+abbrev pub apart : ℕ → ℕ → ℕ
+apart a b = a - b + (b - a)
+
+-- the coordinate that is o from a on the way to b, and never beyond b
+unfoldable pub toward : ℕ → ℕ → ℕ → ℕ
+toward a b o = a + min o (b - a) - min o (a - b)
+
+-- The nearest whole number to k * d / m, the exact line at step k of m where the shorter span is d (01, "Line").
+-- Of two equally near it is the smaller, which keeps nearer the walk's first cell. A line of one cell has 0.
+unfoldable pub nearest : ℕ → ℕ → ℕ → ℕ
+nearest d m k = (2 * (k * d) + m - 1) / (2 * m)
+
+-- the shorter coordinate at step k of a walk of m steps that takes it from a to b
+abbrev pub minorAt : ℕ → ℕ → ℕ → ℕ → ℕ
+minorAt a b m k = toward a b (nearest (apart a b) m k)
+
+-- step k of a walk from s to t that gains a column at each step, and of one that gains a row
+abbrev pub shallowAt : FieldCell → FieldCell → ℕ → FieldCell
+shallowAt s t k = cell (s .column + k) (minorAt (s .row) (t .row) (t .column - s .column) k)
+
+abbrev pub steepAt : FieldCell → FieldCell → ℕ → FieldCell
+steepAt s t k = cell (minorAt (s .column) (t .column) (t .row - s .row) k) (s .row + k)
+
+unfoldable pub shallow : FieldCell → FieldCell → List FieldCell
+shallow s t = table (t .column - s .column + 1) (shallowAt s t)
+
+unfoldable pub steep : FieldCell → FieldCell → List FieldCell
+steep s t = table (t .row - s .row + 1) (steepAt s t)
+
+-- The line from s to t (01, "Line"). Toward a lower major coordinate it is walked from t and reversed. Equal spans are steep.
+unfoldable pub line : FieldCell → FieldCell → List FieldCell
+line s t =
+    cond (ltb (apart (s .row) (t .row)) (apart (s .column) (t .column)))
+    (cond (leb (s .column) (t .column)) (shallow s t) (reverse (shallow t s)))
+    (cond (leb (s .row) (t .row)) (steep s t) (reverse (steep t s)))
+
+-- an answer of these cells; the places beyond their count hold 0
+abbrev pub padded : List FieldCell → List FieldCell
+padded l = l ++ replicate (10 - length l) (cell 0 0)
+
+abbrev pub answered : List FieldCell → Line
+answered l = record { number = 0; cells = padded l; count = length l }
+
+-- an answer of a number alone
+abbrev pub refused : ℕ → Line
+refused n = record { number = n; cells = replicate 10 (cell 0 0); count = 0 }
+
+-- what a line call answers: 13 for a column or row outside 0 to 9 (01, "A leg", the table), else these cells
+abbrev pub called : FieldCell → FieldCell → List FieldCell → Line
+called s t l = cond (inside s && inside t) (answered l) (refused 13)
+
+unfoldable pub lineCall : FieldCell → FieldCell → Line
+lineCall s t = called s t (line s t)
+
+-- the two walks alone: no cells where s to t is no walk of that kind
+abbrev pub walked : Bool → List FieldCell → List FieldCell
+walked true l = l
+walked false l = []
+
+unfoldable pub shallowCall : FieldCell → FieldCell → Line
+shallowCall s t = called s t (walked (leb (s .column) (t .column) && leb (apart (s .row) (t .row)) (t .column - s .column)) (shallow s t))
+
+unfoldable pub steepCall : FieldCell → FieldCell → Line
+steepCall s t = called s t (walked (leb (s .row) (t .row) && leb (apart (s .column) (t .column)) (t .row - s .row)) (steep s t))

@@ -1,0 +1,66 @@
+-- Bresenham's line (01, "Line"), said of any list of cells and apart from how a line is worked out.
+-- Assumes nothing.
+use mathlib.Core.Path.{_≡_}
+use mathlib.Core.List.{List}
+use Prim.Native.Nat.{ℕ, _+_, _-_, _*_, _<_, _≤_, min, max}
+use lib.ListN.{length, getD, take}
+use Rattle.fields.specs.declared.FieldCell.{FieldCell}
+use Rattle.fields.specs.Cell.{cell, Inside}
+use Rattle.bresenham.specs.declared.Line.{Line}
+use Rattle.bresenham.specs.Line.{apart}
+
+-- x lies between a and b, or is one of them
+pub record Between (a b x : ℕ) : Type 0 where
+  pub from : min a b ≤ x
+  pub to : x ≤ max a b
+
+-- c lies in the rectangle whose corners are s and t
+pub record Spanned (s t c : FieldCell) : Type 0 where
+  pub columns : Between (s .column) (t .column) (c .column)
+  pub rows : Between (s .row) (t .row) (c .row)
+
+-- one of the eight neighbours: columns and rows differ by one at most, and not both by nothing
+abbrev pub Neighbours : FieldCell → FieldCell → Type 0
+Neighbours c d = max (apart (c .column) (d .column)) (apart (c .row) (d .row)) ≡ 1
+
+-- A walk from a to b is m long in its major coordinate and d wide in its minor one. A cell c of it lies k on and y aside.
+-- The exact line lies k * d / m aside there, so that c is |k * d - m * y| parts of m off it.
+module _ (major minor : FieldCell → ℕ) (a b c : FieldCell) where
+  abbrev pub exact : ℕ
+  exact = apart (major a) (major c) * apart (minor a) (minor b)
+
+  abbrev pub taken : ℕ
+  taken = apart (major a) (major b) * apart (minor a) (minor c)
+
+  -- c is the nearest cell to the exact line, and of two equally near the one nearer a, the walk's first cell
+  pub record NearestCell : Type 0 where
+    pub along : Between (major a) (major b) (major c)
+    pub aside : Between (minor a) (minor b) (minor c)
+    pub half-at-most : 2 * apart exact taken ≤ apart (major a) (major b)
+    pub half-nearer-first : 2 * apart exact taken ≡ apart (major a) (major b) → taken ≤ exact
+
+-- each cell of l is one of the walk from a to b
+abbrev pub NearestWalk : (FieldCell → ℕ) → (FieldCell → ℕ) → FieldCell → FieldCell → List FieldCell → Type 0
+NearestWalk major minor a b l = (k : ℕ) → k < length l → NearestCell major minor a b (getD l k (cell 0 0))
+
+abbrev pub columnOf : FieldCell → ℕ
+columnOf c = c .column
+
+abbrev pub rowOf : FieldCell → ℕ
+rowOf c = c .row
+
+-- l is the line from s to t: it starts at s, ends at t, moves to a neighbour at each step and has as many cells as the longer span wants.
+-- Its cells are the nearest ones along the longer span, walked from the end where that coordinate is lower. Equal spans are steep.
+pub record NearestLine (s t : FieldCell) (l : List FieldCell) : Type 0 where
+  pub many : length l ≡ max (apart (s .column) (t .column)) (apart (s .row) (t .row)) + 1
+  pub first : getD l 0 (cell 0 0) ≡ s
+  pub last : getD l (length l - 1) (cell 0 0) ≡ t
+  pub moves : (k : ℕ) → k + 1 < length l → Neighbours (getD l k (cell 0 0)) (getD l (k + 1) (cell 0 0))
+  pub shallow : apart (s .row) (t .row) < apart (s .column) (t .column) → s .column ≤ t .column → NearestWalk columnOf rowOf s t l
+  pub shallow-back : apart (s .row) (t .row) < apart (s .column) (t .column) → t .column < s .column → NearestWalk columnOf rowOf t s l
+  pub steep : apart (s .column) (t .column) ≤ apart (s .row) (t .row) → s .row ≤ t .row → NearestWalk rowOf columnOf s t l
+  pub steep-back : apart (s .column) (t .column) ≤ apart (s .row) (t .row) → t .row < s .row → NearestWalk rowOf columnOf t s l
+
+-- what a line call promises of its answer, wherever it is not refused
+abbrev pub HoldsNearestLine : FieldCell → FieldCell → Line → Type 0
+HoldsNearestLine s t r = Inside s → Inside t → NearestLine s t (take (r .count) (r .cells))

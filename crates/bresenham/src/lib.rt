@@ -1,0 +1,199 @@
+// The cells of a line by Bresenham's algorithm.
+use fields::FieldCell;
+ghost use mathlib.Core.Path.{_≡_};
+ghost use mathlib.Core.Bool.{_&&_};
+ghost use Prim.Native.Nat.{_+_, _-_, _≤_, _<_};
+ghost use Rattle.fields.specs.Cell.{cell, inside};
+ghost use Rattle.bresenham.specs.Table.{table};
+ghost use Rattle.bresenham.specs.Line.{apart, toward, answered, refused, lineCall, shallowCall, steepCall};
+ghost use Rattle.bresenham.specs.Inner.{placed, walkAt, backward};
+ghost use Rattle.bresenham.specs.Nearest.{HoldsNearestLine};
+
+// The cells of a line, and how many they are; the places beyond hold 0. A refused call's number says why.
+#[repr(C)]
+pub struct Line {
+    pub number: u8,
+    pub cells: [FieldCell; 10],
+    pub count: usize,
+}
+
+// An answer without cells.
+fn empty(number: u8) -> Line
+    ensures { λ r. ⌜ r ≡ refused number ⌝ }
+{
+    Line {
+        number,
+        cells: [FieldCell { column: 0, row: 0 }; 10],
+        count: 0,
+    }
+}
+
+fn is_inside(cell: FieldCell) -> bool
+    ensures { λ r. ⌜ r ≡ inside cell ⌝ }
+{
+    if cell.column < 10 {
+        return cell.row < 10;
+    }
+    false
+}
+
+fn both_inside(source: FieldCell, target: FieldCell) -> bool
+    ensures { λ r. ⌜ r ≡ (inside source && inside target) ⌝ }
+{
+    if is_inside(source) {
+        return is_inside(target);
+    }
+    false
+}
+
+fn distance(a: usize, b: usize) -> usize
+    ensures { λ r. ⌜ r ≡ apart a b ⌝ }
+{
+    if a <= b { b - a } else { a - b }
+}
+
+// The coordinate that is `offset` from `a` on the way to `b`.
+fn moved(a: usize, b: usize, offset: usize) -> usize
+    requires { ⌜ (a < 10) × (b < 10) × (offset ≤ apart a b) ⌝ }
+    ensures { λ r. ⌜ r ≡ toward a b offset ⌝ }
+{
+    if a <= b { a + offset } else { a - offset }
+}
+
+// A cell of a walk: the rows are the major coordinate of a steep one.
+fn placed_cell(steep: bool, major: usize, minor: usize) -> FieldCell
+    ensures { λ r. ⌜ r ≡ placed steep major minor ⌝ }
+{
+    if steep {
+        return FieldCell {
+            column: minor,
+            row: major,
+        };
+    }
+    FieldCell {
+        column: major,
+        row: minor,
+    }
+}
+
+// The cells of a walk, which gains one in its major coordinate at each step.
+// `difference` is that of the Rust plus twice the span, which is never below 0.
+fn walk(steep: bool, major_0: usize, minor_0: usize, major_1: usize, minor_1: usize) -> Line
+    requires { ⌜ (major_0 ≤ major_1) × (major_1 < 10) × (minor_0 < 10) × (minor_1 < 10) × (apart minor_0 minor_1 ≤ major_1 - major_0) ⌝ }
+    ensures { λ r. ⌜ r ≡ answered (table (major_1 - major_0 + 1) (walkAt steep major_0 minor_0 major_1 minor_1)) ⌝ }
+{
+    let span = major_1 - major_0;
+    let rise = distance(minor_0, minor_1);
+    let mut cells = [FieldCell { column: 0, row: 0 }; 10];
+    let mut difference = 2 * rise + span;
+    let mut offset = 0usize;
+    let mut k = 0usize;
+    while k <= span {
+        let minor = moved(minor_0, minor_1, offset);
+        cells[k] = placed_cell(steep, major_0 + k, minor);
+        if difference > 2 * span {
+            offset += 1;
+            difference = difference + 2 * rise - 2 * span;
+        } else {
+            difference += 2 * rise;
+        }
+        k += 1;
+    }
+    Line {
+        number: 0,
+        cells,
+        count: span + 1,
+    }
+}
+
+// The line steps through the columns, of which it has as many as rows, or more.
+pub fn walk_bresenham_shallow(col_0: usize, row_0: usize, col_1: usize, row_1: usize) -> Line
+    ensures { λ r. ⌜ r ≡ shallowCall (cell col_0 row_0) (cell col_1 row_1) ⌝ }
+{
+    let source = FieldCell {
+        column: col_0,
+        row: row_0,
+    };
+    let target = FieldCell {
+        column: col_1,
+        row: row_1,
+    };
+    if !both_inside(source, target) {
+        return empty(13);
+    }
+    if col_1 < col_0 {
+        return empty(0);
+    }
+    if col_1 - col_0 < distance(row_0, row_1) {
+        return empty(0);
+    }
+    walk(false, col_0, row_0, col_1, row_1)
+}
+
+// The line steps through the rows, of which it has as many as columns, or more.
+pub fn walk_bresenham_steep(col_0: usize, row_0: usize, col_1: usize, row_1: usize) -> Line
+    ensures { λ r. ⌜ r ≡ steepCall (cell col_0 row_0) (cell col_1 row_1) ⌝ }
+{
+    let source = FieldCell {
+        column: col_0,
+        row: row_0,
+    };
+    let target = FieldCell {
+        column: col_1,
+        row: row_1,
+    };
+    if !both_inside(source, target) {
+        return empty(13);
+    }
+    if row_1 < row_0 {
+        return empty(0);
+    }
+    if row_1 - row_0 < distance(col_0, col_1) {
+        return empty(0);
+    }
+    walk(true, row_0, col_0, row_1, col_1)
+}
+
+// The same cells from the last.
+fn reversed(line: Line) -> Line
+    requires { ⌜ line .count ≤ 10 ⌝ }
+    ensures { λ r. ⌜ r ≡ backward line ⌝ }
+{
+    let count = line.count;
+    let from = line.cells;
+    let mut cells = [FieldCell { column: 0, row: 0 }; 10];
+    let mut k = 0usize;
+    while k < count {
+        cells[k] = from[count - 1 - k];
+        k += 1;
+    }
+    Line {
+        number: line.number,
+        cells,
+        count,
+    }
+}
+
+// The cells on the line from `source` to `target`, both of them included; 13 where a column or row lies outside 0 to 9.
+pub fn get_cells_between_points(source: FieldCell, target: FieldCell) -> Line
+    ensures answer { λ r. ⌜ r ≡ lineCall source target ⌝ }
+    ensures nearest { λ r. ⌜ HoldsNearestLine source target r ⌝ }
+{
+    if !both_inside(source, target) {
+        return empty(13);
+    }
+    let source_col = source.column;
+    let source_row = source.row;
+    let target_col = target.column;
+    let target_row = target.row;
+    if distance(source_row, target_row) < distance(source_col, target_col) {
+        if source_col <= target_col {
+            return walk_bresenham_shallow(source_col, source_row, target_col, target_row);
+        }
+        return reversed(walk_bresenham_shallow(target_col, target_row, source_col, source_row));
+    }
+    if source_row <= target_row {
+        return walk_bresenham_steep(source_col, source_row, target_col, target_row);
+    }
+    reversed(walk_bresenham_steep(target_col, target_row, source_col, source_row))
+}

@@ -1,0 +1,40 @@
+-- Sectors of a floor (01, "A leg": 64 sectors, sector s at column s % 8, row s / 8).
+-- Assumes nothing.
+use mathlib.Core.Bool.{Bool, true, false, _&&_}
+use Prim.Native.Nat.{ℕ, _+_, _-_, _*_, _/_, _%_}
+use lib.Dec.{leb, ltb}
+use Rattle.utilities.specs.declared.CompassDir.{CompassDir}
+use Rattle.utilities.specs.Compass.{differences, points}
+use Rattle.sectors.specs.declared.Across.{Across}
+use Rattle.sectors.specs.declared.Across.the-variants.{Sector, OffFloor}
+
+abbrev pub columnOf : ℕ → ℕ
+columnOf s = s % 8
+
+abbrev pub rowOf : ℕ → ℕ
+rowOf s = s / 8
+
+-- the sector at a column and a row
+abbrev pub sectorAt : ℕ → ℕ → ℕ
+sectorAt column row = row * 8 + column
+
+-- a sector where the test holds, else off the floor
+abbrev pub sectorIf : Bool → ℕ → Across
+sectorIf true s = Sector s
+sectorIf false s = OffFloor
+
+-- the sum x + more - less lies in 0 to 7
+abbrev pub onFloor : ℕ → ℕ → ℕ → Bool
+onFloor x more less = leb less (x + more) && leb (x + more) (7 + less)
+
+-- the sector at a column and a row that are counted from 1, where both lie in 1 to 8
+unfoldable pub placed : ℕ → ℕ → Across
+placed column row = sectorIf (leb 1 column && leb column 8 && (leb 1 row && leb row 8)) (sectorAt (column - 1) (row - 1))
+
+-- The sector one step away: the one at the two sums of the sector's column and row and the direction's differences, where both lie in 0 to 7.
+-- There is none for a number over 63, nor for `Zero`, which points nowhere.
+unfoldable pub across : ℕ → CompassDir → Across
+across s d =
+    let δ = differences d in
+    sectorIf (ltb s 64 && points d && (onFloor (columnOf s) (δ .east) (δ .west) && onFloor (rowOf s) (δ .south) (δ .north)))
+    (sectorAt (columnOf s + δ .east - δ .west) (rowOf s + δ .south - δ .north))
