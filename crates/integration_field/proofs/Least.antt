@@ -1,6 +1,7 @@
 -- Building finds the least walks, and counts its waves.
 --     least-walks       what is promised of the built cells
 --     waves-counted     what is promised of the count
+--     rests-within      any number of waves from 99 on is enough
 -- Assumes nothing.
 use mathlib.Core.Path.{_≡_, refl, sym, ap, _∙_}
 use mathlib.Core.Bool.{Bool, true, false, not, _&&_, true≢false}
@@ -17,13 +18,14 @@ use Rattle.waves.specs.Waves.{Changed, Waves, Ends}
 use Rattle.waves.proofs.Least.{walk-into, fallen-walk}
 use Rattle.waves.proofs.End.{waves-end, few, least, counted}
 use Rattle.integration_field.specs.Word.{low, isOpen, isLos, isImpassable}
-use Rattle.integration_field.specs.Wave.{changedFrom, next, waveAt}
+use Rattle.integration_field.specs.Wave.{changedFrom, Wave, next, waveAt}
+use Rattle.integration_field.specs.Rest.{Rests}
 use Rattle.integration_field.specs.Build.{Built, isEmpty, build}
 use Rattle.integration_field.specs.Walks.{Beside, grid, MayEnter, Permitted}
 use Rattle.integration_field.specs.Promise.{Walked, LeastWalks, Changes, Counted}
 use Rattle.integration_field.proofs.Neighbours.{neighbour-beside, beside-neighbour}
 use Rattle.integration_field.proofs.Offers.{Held, kept, written, held-le, held-open, Made, Offer, offers-made, offers-taken, differs-changed, changed-differs}
-use Rattle.integration_field.proofs.Settled.{Settled, settled}
+use Rattle.integration_field.proofs.Settled.{Settled, settled, next-wave}
 
 -- ---- lists
 
@@ -36,6 +38,10 @@ some-one : (l : List ℕ) → isEmpty l ≡ false → (x : ℕ) × List·Memᴰ 
 unfolding isEmpty
 some-one [] e = absurd (true≢false e)
 some-one (x ∷ l) e = (x, List·Memᴰ·head refl)
+
+no-members : (l : List ℕ) → ((x : ℕ) → List·Memᴰ x l → ⊥) → l ≡ []
+no-members [] h = refl
+no-members (x ∷ l) h = absurd (h x (List·Memᴰ·head refl))
 
 -- ---- words
 
@@ -190,7 +196,7 @@ module _ (costs cells corners : List ℕ) where
             inr (by (p .0) (p .1) (f .0) (walk-into (grid costs cells corners) (Below (grid costs cells corners) Open) (MayEnter costs cells corners) permitted (f .1)))
 
     -- a walk that comes to less than the cell held before has entered it
-    last-entered : (j x s : ℕ) → Permitted costs cells corners j x s → s < low (getD cells x 0) → MayEnter costs cells corners x s
+    pub last-entered : (j x s : ℕ) → Permitted costs cells corners j x s → s < low (getD cells x 0) → MayEnter costs cells corners x s
     last-entered j x s (start c e) l = absurd (omega arith)
     last-entered j x s (move p b m e) l = m
 
@@ -247,3 +253,16 @@ module _ (costs cells corners : List ℕ) where
       at-most = (let h : n < 100 = few (grid costs cells corners) Open value waves 100 fell-inside n (omega arith) ends in omega arith);
       settled = λ k l. (let e : (k - n) + n ≡ k = omega arith in rw e at (rests (k - n)));
     })
+
+    -- ---- any number of waves from 99 on is enough
+
+    none-after : (k : ℕ) → n ≤ k → changed (suc k) ≡ []
+    none-after k h = no-members (changed (suc k)) (λ x m. let c : k < n = numbered k .1 (x, changed-fell (suc k) x m) in omega arith)
+
+    rests-from : (m k : ℕ) (w : Wave) → w ≡ waveAt costs cells corners k → n ≤ m + k → Rests costs m w
+    rests-from zero k w e h = ap (λ (u : Wave). next costs u .changed) e ∙ ap (λ (u : Wave). u .changed) (next-wave costs cells corners k) ∙ none-after k (omega arith)
+    rests-from (suc m) k w e h = rests-from m (suc k) (next costs w) (ap (next costs) e ∙ next-wave costs cells corners k) (omega arith)
+
+    pub rests-within : (m : ℕ) → 99 ≤ m → Rests costs m (record { cells = cells; changed = corners })
+    unfolding waveAt
+    rests-within m h = rests-from m 0 (record { cells = cells; changed = corners }) refl (omega (arith, waves-counted .at-most))

@@ -4,4 +4,5 @@ pub mod Neighbours
 pub mod Offers
 pub mod Settled
 pub mod Least
+pub mod Answers
 pub mod Examples

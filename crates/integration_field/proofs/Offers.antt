@@ -85,7 +85,7 @@ module _ (costs : List ℕ) (v : ℕ) where
       passed : {r : List ℕ} → r ≡ cells → (isOpen here ≡ true → low here ≤ sum) → Taken r
       lowered : {r : List ℕ} → r ≡ set cells x sum → isOpen here ≡ true → sum < low here → Taken r
 
-    taken : Taken (relaxed costs v x cells)
+    taken : Taken (relaxed sum x cells)
     unfolding relaxed
     taken = go (isOpen here) (ltb sum (low here)) refl refl
       where

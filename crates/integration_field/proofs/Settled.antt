@@ -47,7 +47,7 @@ module _ (costs : List ℕ) where
     abbrev at : ℕ → Wave
     at = waveAt costs cells corners
 
-    next-wave : (k : ℕ) → next costs (at k) ≡ at (suc k)
+    pub next-wave : (k : ℕ) → next costs (at k) ≡ at (suc k)
     unfolding waveAt
     next-wave k = refl
 
@@ -80,6 +80,11 @@ module _ (costs : List ℕ) where
               each = λ i. elim i [ zero ↦ λ l. rw zero-add first | suc j ↦ λ l. rw (suc-add, ← add-suc) (s .each j (omega arith)) ];
               still = rw (suc-add, ← add-suc) (s .still);
             })
+
+    -- the answer is that of any number of waves that is enough
+    pub settle-build : (n : ℕ) (h : Rests costs n (record { cells = cells; changed = corners })) → settle costs n (record { cells = cells; changed = corners }) h ≡ build costs cells corners
+    unfolding build
+    settle-build n h = settle-any n (total cells) (record { cells = cells; changed = corners }) h (rest costs (total cells) _ (le-refl (total cells)))
 
     pub settled : Settled 0 (build costs cells corners)
     unfolding build waveAt

@@ -1,9 +1,9 @@
 pub mod Word
 pub mod Diagonal
 pub mod Listed
-pub mod Answer
 pub mod Wave
 pub mod Rest
 pub mod Build
+pub mod Answer
 pub mod Walks
 pub mod Promise

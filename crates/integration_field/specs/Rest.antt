@@ -49,20 +49,17 @@ and-right true b e = e
 and-right false true e = refl
 and-right false false e = e
 
+relaxed-lowered : (s x : ℕ) (cells : List ℕ) → Lowered cells (relaxed s x cells)
+unfolding relaxed
+relaxed-lowered s x cells = go (isWritten (getD cells x 0) s) refl
+  where
+    go : (b : Bool) → isWritten (getD cells x 0) s ≡ b → Lowered cells (cond b (set cells x s) cells)
+    go true e = inr (set-lower cells x s (ltb-true s (low (getD cells x 0)) (and-right (isOpen (getD cells x 0)) _ e)))
+    go false e = inl refl
+
 module _ (costs : List ℕ) where
-  relaxed-lowered : (v x : ℕ) (cells : List ℕ) → Lowered cells (relaxed costs v x cells)
-  unfolding relaxed
-  relaxed-lowered v x cells = go (isWritten (getD cells x 0) s) refl
-    where
-      s : ℕ
-      s = v + getD costs x 0
-
-      go : (b : Bool) → isWritten (getD cells x 0) s ≡ b → Lowered cells (cond b (set cells x s) cells)
-      go true e = inr (set-lower cells x s (ltb-true s (low (getD cells x 0)) (and-right (isOpen (getD cells x 0)) _ e)))
-      go false e = inl refl
-
   step-lowered : (v : ℕ) (t : Stepped) (cells : List ℕ) → Lowered cells (offered costs v t cells)
-  step-lowered v (Cell c) cells = relaxed-lowered v (indexOf c) cells
+  step-lowered v (Cell c) cells = relaxed-lowered (v + getD costs (indexOf c) 0) (indexOf c) cells
   step-lowered v Outside cells = inl refl
 
   around-lowered : (v : ℕ) (c : FieldCell) (ds : List CompassDir) (cells : List ℕ) → Lowered cells (offeredAround costs v c ds cells)

@@ -18,15 +18,13 @@ use Rattle.integration_field.specs.Word.{low, isOpen}
 abbrev pub isWritten : ℕ → ℕ → Bool
 isWritten w s = isOpen w && ltb s (low w)
 
--- the cells after the value v is offered to cell x, whose cost is added
-unfoldable pub relaxed : List ℕ → ℕ → ℕ → List ℕ → List ℕ
-relaxed costs v x cells =
-    let s = v + getD costs x 0 in
-    cond (isWritten (getD cells x 0) s) (set cells x s) cells
+-- the cells after the sum s is offered to cell x
+unfoldable pub relaxed : ℕ → ℕ → List ℕ → List ℕ
+relaxed s x cells = cond (isWritten (getD cells x 0) s) (set cells x s) cells
 
--- the same to where a step arrives
+-- the cells after the value v is offered to where a step arrives: v and the cost of the cell entered
 abbrev pub offered : List ℕ → ℕ → Stepped → List ℕ → List ℕ
-offered costs v (Cell c) cells = relaxed costs v (indexOf c) cells
+offered costs v (Cell c) cells = relaxed (v + getD costs (indexOf c) 0) (indexOf c) cells
 offered costs v Outside cells = cells
 
 -- the same from a cell in each of these directions

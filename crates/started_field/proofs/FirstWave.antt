@@ -1,0 +1,352 @@
+-- The first wave looks from the goal alone.
+--     Hides           a cell from which a wall beside the goal would make the goal a corner
+--     first-blocks    the first wave leaves such a cell BLOCKED, so that it is never in a wave
+--     first-meets     and it has met three cells, the goal and two of its neighbours
+-- Assumes nothing.
+use mathlib.Core.Path.{_≡_, refl, sym, _∙_, ap, subst}
+use mathlib.Core.Bool.{Bool, true, false, cond, not, _&&_, _||_}
+use mathlib.Core.List.{List, [], _∷_, _++_}
+use mathlib.Core.Logic.{_⊎_, inl, inr, ⊎-elim}
+use Prim.Native.Nat.{ℕ, zero, suc, _+_, _*_, _<_, _≤_, _/_, _%_}
+use native.Mathlib.Omega.{arith}
+use native.Mathlib.Decide.{decLt}
+use borrow.Author.Tests.{eq-eqb}
+use lib.ListN.{length, getD, set}
+use lib.Dec.{eqb}
+use Rattle.utilities.specs.declared.CompassDir.{CompassDir}
+use Rattle.utilities.specs.declared.CompassDir.the-variants.{North, East, South, West}
+use Rattle.utilities.specs.Compass.{orthogonal, opposite}
+use Rattle.fields.specs.declared.FieldCell.{FieldCell}
+use Rattle.fields.specs.declared.Stepped.{Stepped}
+use Rattle.fields.specs.declared.Stepped.the-variants.{Cell, Outside}
+use Rattle.fields.specs.Cell.{cell, Inside, cellAt, indexOf, stepped}
+use Rattle.fields.proofs.Steps.{stepped-cell, steps-to, index-below, index-of-cell, cell-inside, cell-of-index}
+use Rattle.integration_field.specs.Word.{isLos, isGoal, isBlocked, isImpassable}
+use Rattle.integration_field.specs.Diagonal.{wallAt, diagonal, betweenWalls}
+use Rattle.started_field.specs.Sight.{
+  Sight,
+  marked,
+  stopped,
+  lineMarked,
+  seen,
+  unlessWall,
+  firstSide,
+  extended,
+  cornerOf,
+  sideTried,
+  wallMet,
+  neighbourLooked,
+  looked,
+  lookedAround,
+}
+use Rattle.started_field.specs.Lines.{Lines}
+use Rattle.started_field.proofs.Count.{Each, Once, count, once-room, at-set}
+use Rattle.started_field.proofs.Words.{Flags, corner-flags, seen-flags}
+use Rattle.started_field.proofs.Kept.{isSide, listed, Found, Keeps, kept-marked, kept-line, kept-side, kept-wall, kept-looked, kept-around}
+use Rattle.started_field.proofs.Sides.{Sideways, by-side, back, square, odd, side-opposite, side-sideways, sideways-back, sideways-away}
+use Rattle.started_field.proofs.Wave.{isMet, met-los, met-goal, met-blocked, met-wall, true-false, Sound, met, Wave, wave-keeps}
+
+-- a cell has a neighbour in its row, and one in its column
+record Neighbour (c : FieldCell) : Type 0 where
+  way : CompassDir
+  at : FieldCell
+  is-side : isSide way ≡ true
+  step : stepped c way ≡ Cell at
+
+in-row : (c : FieldCell) → Inside c → (n : Neighbour c) × (n .at .row ≡ c .row) × (n .at .column ≡ c .column → ⊥)
+in-row c i = elim (decLt (c .column) 9) [ yes h ↦ east h | no h ↦ west (λ q. h q) ]
+  where
+    east : c .column < 9 → (n : Neighbour c) × (n .at .row ≡ c .row) × (n .at .column ≡ c .column → ⊥)
+    east h = (record { way = East; at = cell (c .column + 1) (c .row); is-side = refl; step = steps-to c East (cell (c .column + 1) (c .row)) (record { pointing = refl; column-from = omega arith; row-from = omega arith; column-at = omega arith; row-at = omega arith; within = record { column-in = omega arith; row-in = i .row-in } }) }, refl, omega arith)
+
+    west : (c .column < 9 → ⊥) → (n : Neighbour c) × (n .at .row ≡ c .row) × (n .at .column ≡ c .column → ⊥)
+    west h = (record { way = West; at = cell 8 (c .row); is-side = refl; step = steps-to c West (cell 8 (c .row)) (record { pointing = refl; column-from = omega arith; row-from = omega arith; column-at = omega arith; row-at = omega arith; within = record { column-in = omega arith; row-in = i .row-in } }) }, refl, omega arith)
+
+in-column : (c : FieldCell) → Inside c → (n : Neighbour c) × (n .at .column ≡ c .column) × (n .at .row ≡ c .row → ⊥)
+in-column c i = elim (decLt (c .row) 9) [ yes h ↦ south h | no h ↦ north (λ q. h q) ]
+  where
+    south : c .row < 9 → (n : Neighbour c) × (n .at .column ≡ c .column) × (n .at .row ≡ c .row → ⊥)
+    south h = (record { way = South; at = cell (c .column) (c .row + 1); is-side = refl; step = steps-to c South (cell (c .column) (c .row + 1)) (record { pointing = refl; column-from = omega arith; row-from = omega arith; column-at = omega arith; row-at = omega arith; within = record { column-in = i .column-in; row-in = omega arith } }) }, refl, omega arith)
+
+    north : (c .row < 9 → ⊥) → (n : Neighbour c) × (n .at .column ≡ c .column) × (n .at .row ≡ c .row → ⊥)
+    north h = (record { way = North; at = cell (c .column) 8; is-side = refl; step = steps-to c North (cell (c .column) 8) (record { pointing = refl; column-from = omega arith; row-from = omega arith; column-at = omega arith; row-at = omega arith; within = record { column-in = i .column-in; row-in = omega arith } }) }, refl, omega arith)
+
+-- three different places that pass a test are no more than the count
+three : (f : ℕ → Bool) (cells : List ℕ) (a b c : ℕ) → f 0 ≡ false → a < length cells → b < length cells → c < length cells → f (getD cells a 0) ≡ true → f (getD cells b 0) ≡ true → f (getD cells c 0) ≡ true
+    → (a ≡ b → ⊥) → (a ≡ c → ⊥) → (b ≡ c → ⊥) → 3 ≤ count f cells
+three f cells a b c z ha hb hc ta tb tc ab ac bc = once-room f z (a ∷ b ∷ c ∷ []) cells all once
+  where
+    all : Each (λ n. (n < length cells) × (f (getD cells n 0) ≡ true)) (a ∷ b ∷ c ∷ [])
+    all zero h = (ha, ta)
+    all (suc zero) h = (hb, tb)
+    all (suc (suc zero)) h = (hc, tc)
+    all (suc (suc (suc i))) h = absurd (omega arith)
+
+    once : Once (a ∷ b ∷ c ∷ [])
+    once zero zero h k = absurd (omega arith)
+    once zero (suc zero) h k = ab
+    once zero (suc (suc zero)) h k = ac
+    once zero (suc (suc (suc j))) h k = absurd (omega arith)
+    once (suc zero) zero h k = absurd (omega arith)
+    once (suc zero) (suc zero) h k = absurd (omega arith)
+    once (suc zero) (suc (suc zero)) h k = bc
+    once (suc zero) (suc (suc (suc j))) h k = absurd (omega arith)
+    once (suc (suc i)) j h k = absurd (omega arith)
+
+index-column : (c : FieldCell) → Inside c → indexOf c % 10 ≡ c .column
+index-column c i = omega arith
+
+index-row : (c : FieldCell) → Inside c → indexOf c / 10 ≡ c .row
+index-row c i = omega arith
+
+other-order : (a b c d : ℕ) → (a + b + c + d) % 2 ≡ 1 → (c + d + a + b) % 2 ≡ 1
+other-order a b c d e = omega arith
+
+marked-blocked : (value n : ℕ) (s : Sight) → n < length (s .cells) → value < 0x10000 → isBlocked (getD (marked value n s .cells) n 0) ≡ true
+unfolding marked
+marked-blocked value n s h v = go (isBlocked (getD (s .cells) n 0)) refl
+  where
+    go : (b : Bool) → isBlocked (getD (s .cells) n 0) ≡ b → isBlocked (getD (cond b s (listed value n s) .cells) n 0) ≡ true
+    go true e = e
+    go false e = at-set (λ x. isBlocked x ≡ true) (s .cells) n (value + 0x4040000) n h (λ q. corner-flags value v .blocked-is) (λ q. absurd (q refl))
+
+-- nothing
+abbrev pub Never : ℕ → Type 0
+Never n = ⊥
+
+module _ (goal : ℕ) (goal-in : goal < 100) (walls : ℕ → Bool) where
+  pub record Hides (c : ℕ) : Type 0 where
+    pub way : CompassDir
+    pub wall-cell : FieldCell
+    pub side : CompassDir
+    pub free-cell : FieldCell
+    pub is-side : isSide way ≡ true
+    pub found : Found walls c way wall-cell side free-cell (cellAt goal)
+
+  -- the corner beside a wall, by cells
+  pub corner-step : (from : ℕ) (d : CompassDir) (x : FieldCell) (side : CompassDir) (a b : FieldCell) → Found walls from d x side a b → stepped x side ≡ Cell b
+  corner-step from d x side a b f = ap (λ (y : FieldCell). stepped y side) (sym (cell-of-index x (stepped-cell (cellAt from) d x (f .ahead) .within))) ∙ f .cornered
+
+  pub goal-found : (from : ℕ) (d : CompassDir) (x : FieldCell) (side : CompassDir) (a b : FieldCell) → Found walls from d x side a b → indexOf b ≡ goal → Found walls from d x side a (cellAt goal)
+  goal-found from d x side a b f e =
+      let i = stepped-cell x side b (corner-step from d x side a b f) .within in
+      subst (λ (y : FieldCell). Found walls from d x side a y) (sym (cell-of-index b i) ∙ ap cellAt e) f
+
+  -- a cell an odd number of steps from the goal
+  abbrev pub Odd : ℕ → Type 0
+  Odd n = (n % 10 + n / 10 + goal % 10 + goal / 10) % 2 ≡ 1
+
+  pub hides-even : (c : ℕ) → Hides c → Odd c → ⊥
+  hides-even c h q =
+      let f = h .found in
+      let p = odd (h .way) (cellAt c) (h .wall-cell) (h .is-side) (f .ahead) in
+      let r = odd (h .side) (h .wall-cell) (cellAt goal) (side-sideways (h .way) (h .side) (h .is-side) (f .sideways)) (corner-step c (h .way) (h .wall-cell) (h .side) (h .free-cell) (cellAt goal) f) in
+      omega arith
+
+  pub hides-apart : (c : ℕ) → Hides c → c ≡ goal → ⊥
+  hides-apart c h e =
+      let f = h .found in
+      sideways-away (cellAt c) (h .wall-cell) (h .way) (h .side) (h .is-side) (f .sideways) (f .ahead)
+      (corner-step c (h .way) (h .wall-cell) (h .side) (h .free-cell) (cellAt goal) f ∙ ap (λ (n : ℕ). Cell (cellAt n)) (sym e))
+
+  module _ (cornerLine : ℕ → List ℕ) (lines : Lines goal cornerLine) where
+    abbrev pub IsGoal : ℕ → Type 0
+    IsGoal n = n ≡ goal
+
+    away : (from : ℕ) (d : CompassDir) (x : FieldCell) (side : CompassDir) (a b : FieldCell) → IsGoal from → isSide d ≡ true → Found walls from d x side a b → indexOf b ≡ goal → ⊥
+    away from d x side a b g o f e = hides-apart from (record { way = d; wall-cell = x; side = side; free-cell = a; is-side = o; found = goal-found from d x side a b f e }) g
+
+    next : (Kept : ℕ → Type 0) (from : ℕ) (d : CompassDir) (n : FieldCell) → IsGoal from → isSide d ≡ true → stepped (cellAt from) d ≡ Cell n → walls (indexOf n) ≡ false → (Kept (indexOf n) → ⊥) → Odd (indexOf n)
+    next Kept from d n g o e w k =
+        let p : (goal % 10 + goal / 10 + n .column + n .row) % 2 ≡ 1 = subst (λ (m : ℕ). (m % 10 + m / 10 + n .column + n .row) % 2 ≡ 1) g (odd d (cellAt from) n o e) in
+        let i = stepped-cell (cellAt from) d n e .within in
+        rw (index-column n i, index-row n i) (other-order (goal % 10) (goal / 10) (n .column) (n .row) p)
+
+    -- the first wave, in which cells `Kept` stay BLOCKED and cells `Met` stay met
+    abbrev pub First : (ℕ → Type 0) → (ℕ → Type 0) → Sight → Type 0
+    First Kept Met = Wave goal walls 1 Odd Kept Met
+
+    abbrev Frees : ℕ → Type 0
+    Frees n = (n < 100) × (n ≡ goal → ⊥)
+
+    pub first-keeps : (Kept Met : ℕ → Type 0) → Keeps cornerLine 1 walls IsGoal Frees (First Kept Met)
+    first-keeps Kept Met = wave-keeps goal walls cornerLine lines 1 1 (omega arith) (omega arith) (omega arith) IsGoal Odd Kept Met away (next Kept)
+
+    abbrev look : CompassDir → Sight → Sight
+    look d s = looked cornerLine 1 goal d (stepped (cellAt goal) d) s
+
+    look-keeps : (Kept Met : ℕ → Type 0) (d : CompassDir) (s : Sight) → isSide d ≡ true → First Kept Met s → First Kept Met (look d s)
+    look-keeps Kept Met d s o p = kept-looked cornerLine 1 walls IsGoal Frees (First Kept Met) (first-keeps Kept Met) goal refl d s o p
+
+    -- what one of the four looks brings about, and the others keep, holds after them all
+    around : (Kept Met : ℕ → Type 0) (d : CompassDir) → isSide d ≡ true → ((t : Sight) → First Never Never t → First Kept Met (look d t))
+        → (s : Sight) → First Never Never s → First Kept Met (lookedAround cornerLine 1 goal orthogonal s)
+    unfolding lookedAround
+    around Kept Met d o =
+        let later = look-keeps Kept Met in
+        let before = look-keeps Never Never in
+        by-side (λ e. ((t : Sight) → First Never Never t → First Kept Met (look e t)) → (s : Sight) → First Never Never s → First Kept Met (look West (look South (look East (look North s)))))
+        (λ hit s p. later West (look South (look East (look North s))) refl (later South (look East (look North s)) refl (later East (look North s) refl (hit s p))))
+        (λ hit s p. later West (look South (look East (look North s))) refl (later South (look East (look North s)) refl (hit (look North s) (before North s refl p))))
+        (λ hit s p. later West (look South (look East (look North s))) refl (hit (look East (look North s)) (before East (look North s) refl (before North s refl p))))
+        (λ hit s p. hit (look South (look East (look North s))) (before South (look East (look North s)) refl (before East (look North s) refl (before North s refl p))))
+        d o
+
+    -- each neighbour of the goal is met
+    module _ (d : CompassDir) (n : FieldCell) (o : isSide d ≡ true) (step : stepped (cellAt goal) d ≡ Cell n) where
+      abbrev This : ℕ → Type 0
+      This m = m ≡ indexOf n
+
+      this-in : indexOf n < 100
+      this-in = index-below n (stepped-cell (cellAt goal) d n step .within)
+
+      meets-by : (t : Sight) → First Never Never t → isMet (getD (t .cells) (indexOf n) 0) ≡ true → First Never This t
+      meets-by t p e = record {
+        sound = p .sound;
+        met-least = p .met-least;
+        met-queued = p .met-queued;
+        all-next = p .all-next;
+        stays = λ c h k. absurd k;
+        stays-met = λ c h k. subst (λ (m : ℕ). isMet (getD (t .cells) m 0) ≡ true) (sym k) e;
+      }
+
+      meets : (t : Sight) → First Never Never t → First Never This (look d t)
+      unfolding neighbourLooked seen
+      meets t p = rw step (go (isBlocked x) refl (isGoal x) refl (isImpassable x) refl (isLos x) refl)
+        where
+          x : ℕ
+          x = getD (t .cells) (indexOf n) 0
+
+          go : (b : Bool) → isBlocked x ≡ b → (g : Bool) → isGoal x ≡ g → (w : Bool) → isImpassable x ≡ w → (l : Bool) → isLos x ≡ l
+              → First Never This (cond (b || g) t (cond w (wallMet cornerLine 1 goal (indexOf n) d t) (cond l t (seen 1 (indexOf n) t))))
+          go true eb g eg w ew l el = meets-by t p (met-blocked x eb)
+          go false eb true eg w ew l el = meets-by t p (met-goal x eg)
+          go false eb false eg true ew l el =
+              kept-wall cornerLine 1 walls IsGoal Frees (First Never This) (first-keeps Never This) goal d n refl o step (sym (p .sound .same (indexOf n)) ∙ ew) t (meets-by t p (met-wall x ew))
+          go false eb false eg false ew true el = meets-by t p (met-los x el)
+          go false eb false eg false ew false el =
+              meets-by (seen 1 (indexOf n) t)
+              (first-keeps Never Never .sees goal d n t p refl o step (record { los-is = el; goal-is = eg; blocked-is = eb; impassable-is = ew }))
+              (at-set (λ y. isMet y ≡ true) (t .cells) (indexOf n) (1 + 0x10000) (indexOf n) (omega (arith, this-in, p .sound .room .full)) (λ q. refl) (λ q. absurd (q refl)))
+
+      pub neighbour-met : (s : Sight) → First Never Never s → isMet (getD (lookedAround cornerLine 1 goal orthogonal s .cells) (indexOf n) 0) ≡ true
+      neighbour-met s p = around Never This d o meets s p .stays-met (indexOf n) this-in refl
+
+    pub first-meets : (s : Sight) → First Never Never s → 3 ≤ met goal walls (lookedAround cornerLine 1 goal orthogonal s)
+    first-meets s p =
+        let t = lookedAround cornerLine 1 goal orthogonal s in
+        let q = kept-around cornerLine 1 walls IsGoal Frees (First Never Never) (first-keeps Never Never) goal refl s p in
+        let i = cell-inside goal goal-in in
+        let a = in-row (cellAt goal) i in
+        let b = in-column (cellAt goal) i in
+        let ia = stepped-cell (cellAt goal) (a .0 .way) (a .0 .at) (a .0 .step) .within in
+        let ib = stepped-cell (cellAt goal) (b .0 .way) (b .0 .at) (b .0 .step) .within in
+        let full : length (t .cells) ≡ 100 = q .sound .room .full in
+        let ra : indexOf (a .0 .at) / 10 ≡ goal / 10 = index-row (a .0 .at) ia ∙ a .1 in
+        let ca : indexOf (a .0 .at) % 10 ≡ goal % 10 → ⊥ = λ e. a .2 (sym (index-column (a .0 .at) ia) ∙ e) in
+        let cb : indexOf (b .0 .at) % 10 ≡ goal % 10 = index-column (b .0 .at) ib ∙ b .1 in
+        let rb : indexOf (b .0 .at) / 10 ≡ goal / 10 → ⊥ = λ e. b .2 (sym (index-row (b .0 .at) ib) ∙ e) in
+        three isMet (t .cells) goal (indexOf (a .0 .at)) (indexOf (b .0 .at)) refl
+        (rw full goal-in) (rw full (index-below (a .0 .at) ia)) (rw full (index-below (b .0 .at) ib))
+        (ap isMet (q .sound .at-goal))
+        (neighbour-met (a .0 .way) (a .0 .at) (a .0 .is-side) (a .0 .step) s p)
+        (neighbour-met (b .0 .way) (b .0 .at) (b .0 .is-side) (b .0 .step) s p)
+        (λ e. ca (ap (λ (m : ℕ). m % 10) (sym e)))
+        (λ e. rb (ap (λ (m : ℕ). m / 10) (sym e)))
+        (λ e. rb (ap (λ (m : ℕ). m / 10) (sym e) ∙ ra))
+
+    -- a cell that hides the goal, and is no wall, is made a corner
+    module _ (c : ℕ) (c-in : c < 100) (h : Hides c) (free : walls c ≡ false) where
+      abbrev Only : ℕ → Type 0
+      Only m = m ≡ c
+
+      apart : c ≡ goal → ⊥
+      apart = hides-apart c h
+
+      x-inside : Inside (h .wall-cell)
+      x-inside = stepped-cell (cellAt c) (h .way) (h .wall-cell) (h .found .ahead) .within
+
+      to-goal : stepped (h .wall-cell) (h .side) ≡ Cell (cellAt goal)
+      to-goal = corner-step c (h .way) (h .wall-cell) (h .side) (h .free-cell) (cellAt goal) (h .found)
+
+      side-side : isSide (h .side) ≡ true
+      side-side = side-sideways (h .way) (h .side) (h .is-side) (h .found .sideways)
+
+      -- the goal sees the wall, beside it the free cell, and beside the wall this one
+      sees-wall : stepped (cellAt goal) (opposite (h .side)) ≡ Cell (h .wall-cell)
+      sees-wall = back (h .side) (h .wall-cell) (cellAt goal) side-side x-inside to-goal
+
+      sees-free : stepped (cellAt goal) (opposite (h .way)) ≡ Cell (h .free-cell)
+      sees-free =
+          back (h .way) (h .free-cell) (cellAt goal) (h .is-side) (stepped-cell (cellAt c) (h .side) (h .free-cell) (h .found .beside) .within)
+          (square (h .way) (h .side) (cellAt c) (h .wall-cell) (h .free-cell) (cellAt goal) (h .found .ahead) to-goal (h .found .beside))
+
+      sees-this : stepped (cellAt (indexOf (h .wall-cell))) (opposite (h .way)) ≡ Cell (cellAt c)
+      sees-this =
+          ap (λ (y : FieldCell). stepped y (opposite (h .way))) (cell-of-index (h .wall-cell) x-inside)
+          ∙ back (h .way) (cellAt c) (h .wall-cell) (h .is-side) (cell-inside c c-in) (h .found .ahead)
+
+      blocks-by : (t : Sight) → First Never Never t → isBlocked (getD (t .cells) c 0) ≡ true → First Only Never t
+      blocks-by t p e = record {
+        sound = p .sound;
+        met-least = p .met-least;
+        met-queued = p .met-queued;
+        all-next = p .all-next;
+        stays = λ m k q. subst (λ (i : ℕ). isBlocked (getD (t .cells) i 0) ≡ true) (sym q) e;
+        stays-met = λ m k q. absurd q;
+      }
+
+      mark-blocks : (t : Sight) → First Never Never t → First Only Never (marked (1 + 1 + 0) c t)
+      mark-blocks t p =
+          blocks-by (marked (1 + 1 + 0) c t)
+          (kept-marked cornerLine 1 walls IsGoal Frees (First Never Never) (first-keeps Never Never) (1 + 1 + 0) c t p (c-in, apart) (omega arith) (p .sound .same c ∙ free))
+          (marked-blocked (1 + 1 + 0) c t (omega (arith, p .sound .room .full)) (omega arith))
+
+      open-way : (t : Sight) → First Never Never t → stopped (t .cells) c c ≡ false
+      unfolding betweenWalls
+      open-way t p = rw (p .sound .same c, free, eq-eqb (c / 10) (c / 10) refl)
+
+      line-blocks : (t : Sight) → First Never Never t → First Only Never (extended cornerLine 1 c t)
+      unfolding extended lineMarked
+      line-blocks t p = go (cornerLine c) refl
+        where
+          go : (l : List ℕ) → cornerLine c ≡ l → First Only Never (lineMarked 1 0 c l t)
+          go [] e = absurd (omega (arith, lines .begun c c-in, ap length e))
+          go (n ∷ ns) e =
+              let q : n ≡ c = ap (λ (l : List ℕ). getD l 0 0) (sym e) ∙ lines .begins c c-in in
+              let frees : Each Frees (n ∷ ns) = subst (Each Frees) e (λ i k. (lines .inside c c-in i k, lines .past c c-in apart i k)) in
+              subst (λ (m : ℕ). First Only Never (lineMarked 1 0 c (m ∷ ns) t)) (sym q)
+              (rw (open-way t p)
+              (kept-line cornerLine 1 walls IsGoal Frees (First Only Never) (first-keeps Only Never) ns 1 c (marked (1 + 1 + 0) c t) (mark-blocks t p)
+              (λ i k. frees (suc i) (omega arith))
+              (omega (arith, lines .short c c-in, ap length e))))
+
+      side-blocks : (t : Sight) → First Never Never t → First Only Never (sideTried cornerLine 1 goal (indexOf (h .wall-cell)) (opposite (h .way)) t)
+      unfolding sideTried
+      side-blocks t p =
+          let a : wallAt (t .cells) (indexOf (h .free-cell)) ≡ false = p .sound .same (indexOf (h .free-cell)) ∙ h .found .beside-free in
+          let b : wallAt (t .cells) (indexOf (cellAt c)) ≡ false = p .sound .same (indexOf (cellAt c)) ∙ ap walls (index-of-cell c) ∙ free in
+          rw (sees-free, sees-this, a, b, index-of-cell c) (line-blocks t p)
+
+      wall-blocks : (t : Sight) → First Never Never t → First Only Never (wallMet cornerLine 1 goal (indexOf (h .wall-cell)) (opposite (h .side)) t)
+      unfolding wallMet
+      wall-blocks t p =
+          let way = opposite (h .side) in
+          let o = side-opposite (h .side) side-side in
+          let try : CompassDir → Sight → Sight = λ side u. sideTried cornerLine 1 goal (indexOf (h .wall-cell)) side u in
+          ⊎-elim
+          (λ (e : opposite (h .way) ≡ firstSide way).
+          kept-side cornerLine 1 walls IsGoal Frees (First Only Never) (first-keeps Only Never) goal way (h .wall-cell) refl o sees-wall (h .found .wall) (opposite (firstSide way)) (try (firstSide way) t) (inr refl)
+          (subst (λ (side : CompassDir). First Only Never (try side t)) e (side-blocks t p)))
+          (λ (e : opposite (h .way) ≡ opposite (firstSide way)).
+          subst (λ (side : CompassDir). First Only Never (try side (try (firstSide way) t))) e
+          (side-blocks (try (firstSide way) t)
+          (kept-side cornerLine 1 walls IsGoal Frees (First Never Never) (first-keeps Never Never) goal way (h .wall-cell) refl o sees-wall (h .found .wall) (firstSide way) t (inl refl) p)))
+          (sideways-back (h .way) (h .side) (h .is-side) (h .found .sideways))
+
+      look-blocks : (t : Sight) → First Never Never t → First Only Never (look (opposite (h .side)) t)
+      unfolding neighbourLooked
+      look-blocks t p = rw (sees-wall, p .sound .at-wall (indexOf (h .wall-cell)) (index-below (h .wall-cell) x-inside) (h .found .wall)) (wall-blocks t p)
+
+      pub first-blocks : (s : Sight) → First Never Never s → isBlocked (getD (lookedAround cornerLine 1 goal orthogonal s .cells) c 0) ≡ true
+      first-blocks s p = around Only Never (opposite (h .side)) (side-opposite (h .side) side-side) look-blocks s p .stays c c-in refl

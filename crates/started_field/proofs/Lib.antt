@@ -1,0 +1,12 @@
+pub mod Count
+pub mod Words
+pub mod Kept
+pub mod Room
+pub mod Sides
+pub mod Wave
+pub mod FirstWave
+pub mod Waves
+pub mod Window
+pub mod Lines
+pub mod Started
+pub mod Examples

@@ -1,0 +1,17 @@
+-- What keeps the lists of sight short: no cell is listed twice, and none is queued twice.
+-- Assumes nothing.
+use mathlib.Core.Path.{_≡_}
+use mathlib.Core.Bool.{true, _||_}
+use Prim.Native.Nat.{ℕ, _<_}
+use lib.ListN.{length, getD}
+use Rattle.integration_field.specs.Word.{isLos, isBlocked}
+use Rattle.started_field.specs.Sight.{Sight}
+
+pub record Room (s : Sight) : Type 0 where
+  pub full : length (s .cells) ≡ 100
+  pub corner-in : (i : ℕ) → i < length (s .corners) → getD (s .corners) i 0 < 100
+  pub corner-blocked : (i : ℕ) → i < length (s .corners) → isBlocked (getD (s .cells) (getD (s .corners) i 0) 0) ≡ true
+  pub corner-once : (i j : ℕ) → i < j → j < length (s .corners) → getD (s .corners) i 0 ≡ getD (s .corners) j 0 → ⊥
+  pub queued-in : (i : ℕ) → i < length (s .queue) → getD (s .queue) i 0 < 100
+  pub queued-known : (i : ℕ) → i < length (s .queue) → (isLos (getD (s .cells) (getD (s .queue) i 0) 0) || isBlocked (getD (s .cells) (getD (s .queue) i 0) 0)) ≡ true
+  pub queued-once : (i j : ℕ) → i < j → j < length (s .queue) → getD (s .queue) i 0 ≡ getD (s .queue) j 0 → ⊥

@@ -1,0 +1,50 @@
+-- The started field of costs and a step, and what `init` answers (01, "Integration: init"; the table of "A leg").
+-- Assumes nothing.
+use mathlib.Core.Path.{_≡_}
+use mathlib.Core.Bool.{Bool, true, false, cond, not}
+use mathlib.Core.List.{List}
+use Prim.Native.Nat.{ℕ, _<_, _≤_}
+use lib.Dec.{eqb}
+use lib.ListN.{length, getD}
+use Rattle.route.specs.Step.{goalOf, isWindow, windowCells, stepNumber}
+use Rattle.integration_field.specs.declared.IntegrationField.{IntegrationField}
+use Rattle.integration_field.specs.Listed.{listOf, withCorners, zeroField}
+use Rattle.started_field.specs.declared.InitAnswer.{InitAnswer}
+use Rattle.started_field.specs.Sight.{walls, withPortals, Sight, sightAfter}
+use Rattle.started_field.specs.CornerLine.{cornerLine}
+use Rattle.started_field.specs.StartedCell.{GoalStarted, WindowStarted}
+
+-- Sight from a goal, after wave 100: no cell is left to look from, and every later wave leaves the same (Sizes).
+unfoldable pub sightFrom : List ℕ → ℕ → Sight
+sightFrom costs goal = sightAfter (cornerLine goal) (walls costs) goal 100
+
+unfoldable pub startedFrom : List ℕ → ℕ → IntegrationField
+startedFrom costs goal = withCorners (sightFrom costs goal .cells) (sightFrom costs goal .corners)
+
+-- window cells are listed as corners in order
+unfoldable pub startedAt : List ℕ → List ℕ → IntegrationField
+startedAt costs window = withCorners (withPortals window (walls costs)) window
+
+unfoldable pub started : List ℕ → List ℕ → IntegrationField
+started costs step = cond (isWindow step) (startedAt costs (windowCells step)) (startedFrom costs (goalOf step))
+
+-- 1 for cost bytes that are not 100, else the step's number: 3, 4 to 8, or 0
+unfoldable pub initNumber : List ℕ → List ℕ → ℕ
+initNumber costs step = cond (not (eqb (length costs) 100)) 1 (stepNumber step)
+
+abbrev pub initRefused : ℕ → InitAnswer
+initRefused n = record { number = n; field = zeroField }
+
+abbrev pub initAccepted : IntegrationField → InitAnswer
+initAccepted f = record { number = 0; field = f }
+
+unfoldable pub initAnswer : List ℕ → List ℕ → InitAnswer
+initAnswer costs step = cond (eqb (initNumber costs step) 0) (initAccepted (started costs step)) (initRefused (initNumber costs step))
+
+-- What a started field is, for costs and a step that are accepted.
+pub record StartedField (costs step : List ℕ) (f : IntegrationField) : Type 0 where
+  pub list-fits : f .count ≤ 100
+  pub list-full : length (f .«los_corners») ≡ 100
+  pub list-beyond : (i : ℕ) → f .count ≤ i → getD (f .«los_corners») i 0 ≡ 0
+  pub of-goal : isWindow step ≡ false → GoalStarted costs (goalOf step) (f .field) (listOf f)
+  pub of-window : isWindow step ≡ true → WindowStarted costs (windowCells step) (f .field) (listOf f)
