@@ -1,0 +1,148 @@
+-- Laws of the definitions, one turn of a loop at a time.
+--     wave-step, wave-end          the offers of the cells from place i on: those of the cell at i, then those from i + 1 on; none past the last
+--     corners-step, corners-end    the same for the test of the corners
+--     changed-same, changed-other  one index more, at which the cells agree or differ
+--     changed-few, changed-ready   the changed cells are a wavefront
+--     corner-more                  a corner more
+-- Assumes nothing.
+use mathlib.Core.Path.{_≡_, refl, sym, ap, _∙_}
+use mathlib.Core.Bool.{Bool, true, false, not, _&&_}
+use mathlib.Core.List.{List, [], _∷_, _++_, append-nil}
+use Prim.Native.Nat.{ℕ, zero, suc, _+_, _-_, _≤_, _<_}
+use native.Mathlib.Nat.{add-zero}
+use native.Mathlib.Numerals.{add-one}
+use native.Mathlib.Omega.{arith}
+use lib.Dec.{ltb, eqb}
+use lib.ListN.{length, getD, set, take}
+use lib.Seq.{slice, slice-cons, slice-empty, take-suc, length-take-le}
+use borrow.Author.Tests.{eq-eqb, ne-eqb, lt-ltb, le-ltb}
+use Rattle.utilities.specs.Compass.{orthogonal}
+use Rattle.fields.specs.Cell.{cellAt}
+use Rattle.integration_field.specs.Word.{low}
+use Rattle.integration_field.specs.Listed.{padded}
+use Rattle.integration_field.specs.Wave.{offeredAround, offeredBy, consIf, changedFrom}
+use Rattle.integration_field.specs.Answer.{allCells}
+use Rattle.integration_field.proofs.Lists.{padded-length, padded-push, padded-at}
+use Rattle.integration_build.specs.Wavefront.{Ready, frontOf}
+
+-- ---- the offers of a wavefront
+
+module _ (costs old wave : List ℕ) (count : ℕ) where
+  pub wave-step : (i : ℕ) (cells : List ℕ) → i < count → count ≤ length wave
+      → offeredBy costs old (slice i count wave) cells
+      ≡ offeredBy costs old (slice (i + 1) count wave) (offeredAround costs (low (getD old (getD wave i 0) 0)) (cellAt (getD wave i 0)) orthogonal cells)
+  unfolding offeredBy
+  wave-step i cells h k =
+      ap (λ (l : List ℕ). offeredBy costs old l cells) (slice-cons i count wave 0 h k)
+      ∙ ap (λ (n : ℕ). offeredBy costs old (slice n count wave) (offeredAround costs (low (getD old (getD wave i 0) 0)) (cellAt (getD wave i 0)) orthogonal cells)) (sym (add-one i))
+
+  pub wave-end : (cells : List ℕ) → offeredBy costs old (slice count count wave) cells ≡ cells
+  unfolding offeredBy
+  wave-end cells = ap (λ (l : List ℕ). offeredBy costs old l cells) (slice-empty count wave)
+
+-- ---- the test of the corners
+
+module _ (corners : List ℕ) (count : ℕ) where
+  pub corners-step : (i : ℕ) → i < count → count ≤ length corners → getD corners i 0 < 100
+      → allCells (slice i count corners) ≡ allCells (slice (i + 1) count corners)
+  unfolding allCells
+  corners-step i h k l =
+      ap allCells (slice-cons i count corners 0 h k)
+      ∙ ap (λ (b : Bool). b && allCells (slice (suc i) count corners)) (lt-ltb (getD corners i 0) 100 l)
+      ∙ ap (λ (n : ℕ). allCells (slice n count corners)) (sym (add-one i))
+
+  pub corners-out : (i : ℕ) → i < count → count ≤ length corners → 100 ≤ getD corners i 0 → allCells (slice i count corners) ≡ false
+  unfolding allCells
+  corners-out i h k l =
+      ap allCells (slice-cons i count corners 0 h k)
+      ∙ ap (λ (b : Bool). b && allCells (slice (suc i) count corners)) (le-ltb (getD corners i 0) 100 l)
+
+  pub corners-end : allCells (slice count count corners) ≡ true
+  unfolding allCells
+  corners-end = ap allCells (slice-empty count corners)
+
+  -- a corner more in the list
+  pub corner-more : (i : ℕ) → i < length corners → i < 100 → set (padded (take i corners)) i (getD corners i 0) ≡ padded (take (i + 1) corners)
+  corner-more i h l =
+      let n : length (take i corners) ≡ i = length-take-le i corners (omega arith) in
+      ap (λ (k : ℕ). set (padded (take i corners)) k (getD corners i 0)) (sym n)
+      ∙ padded-push (take i corners) (getD corners i 0) (omega arith)
+      ∙ ap padded (sym (take-suc corners i 0 h))
+      ∙ ap (λ (k : ℕ). padded (take k corners)) (sym (add-one i))
+
+-- ---- the changed cells
+
+cons-append : (b : Bool) (x : ℕ) (l m : List ℕ) → consIf b x (l ++ m) ≡ consIf b x l ++ m
+cons-append true x l m = refl
+cons-append false x l m = refl
+
+changed-snoc : (k : ℕ) (olds news : List ℕ) (a b : ℕ) → length olds ≡ length news
+    → changedFrom k (olds ++ a ∷ []) (news ++ b ∷ []) ≡ changedFrom k olds news ++ consIf (not (eqb a b)) (k + length olds) []
+unfolding changedFrom
+changed-snoc k [] [] a b e = ap (λ (n : ℕ). consIf (not (eqb a b)) n []) (sym (add-zero k))
+changed-snoc k [] (y ∷ news) a b e = absurd (omega arith)
+changed-snoc k (x ∷ olds) [] a b e = absurd (omega arith)
+changed-snoc k (x ∷ olds) (y ∷ news) a b e =
+    let q : suc k + length olds ≡ k + suc (length olds) = omega arith in
+    ap (consIf (not (eqb x y)) k) (changed-snoc (suc k) olds news a b (omega arith))
+    ∙ cons-append (not (eqb x y)) k (changedFrom (suc k) olds news) (consIf (not (eqb a b)) (suc k + length olds) [])
+    ∙ ap (λ (n : ℕ). consIf (not (eqb x y)) k (changedFrom (suc k) olds news) ++ consIf (not (eqb a b)) n []) q
+
+module _ (before after : List ℕ) where
+  -- the changed cells below index i
+  abbrev pub changedTo : ℕ → List ℕ
+  changedTo i = changedFrom 0 (take i before) (take i after)
+
+  module _ (i : ℕ) (h : i < length before) (k : i < length after) where
+    changed-more : changedTo (i + 1) ≡ changedTo i ++ consIf (not (eqb (getD before i 0) (getD after i 0))) i []
+    changed-more =
+        let n : length (take i before) ≡ i = length-take-le i before (omega arith) in
+        let m : length (take i after) ≡ i = length-take-le i after (omega arith) in
+        let q : 0 + length (take i before) ≡ i = omega arith in
+        ap changedTo (add-one i)
+        ∙ ap (λ (l : List ℕ). changedFrom 0 l (take (suc i) after)) (take-suc before i 0 h)
+        ∙ ap (λ (l : List ℕ). changedFrom 0 (take i before ++ getD before i 0 ∷ []) l) (take-suc after i 0 k)
+        ∙ changed-snoc 0 (take i before) (take i after) (getD before i 0) (getD after i 0) (n ∙ sym m)
+        ∙ ap (λ (j : ℕ). changedTo i ++ consIf (not (eqb (getD before i 0) (getD after i 0))) j []) q
+
+    pub changed-same : getD before i 0 ≡ getD after i 0 → changedTo (i + 1) ≡ changedTo i
+    changed-same e =
+        changed-more
+        ∙ ap (λ (b : Bool). changedTo i ++ consIf (not b) i []) (eq-eqb _ _ e)
+        ∙ append-nil (changedTo i)
+
+    pub changed-other : (getD before i 0 ≡ getD after i 0 → ⊥) → changedTo (i + 1) ≡ changedTo i ++ i ∷ []
+    changed-other e = changed-more ∙ ap (λ (b : Bool). changedTo i ++ consIf (not b) i []) (ne-eqb _ _ e)
+
+cons-few : (b : Bool) (x : ℕ) (l : List ℕ) (n : ℕ) → length l ≤ n → length (consIf b x l) ≤ suc n
+cons-few true x l n h = omega arith
+cons-few false x l n h = omega arith
+
+pub changed-few : (k : ℕ) (olds news : List ℕ) → length (changedFrom k olds news) ≤ length olds
+unfolding changedFrom
+changed-few k [] news = omega arith
+changed-few k (a ∷ olds) [] = omega arith
+changed-few k (a ∷ olds) (b ∷ news) = cons-few (not (eqb a b)) k (changedFrom (suc k) olds news) (length olds) (changed-few (suc k) olds news)
+
+-- every element is below n
+abbrev AllBelow : ℕ → List ℕ → Type 0
+AllBelow n l = (i : ℕ) → i < length l → getD l i 0 < n
+
+cons-below : (b : Bool) (x n : ℕ) (l : List ℕ) → x < n → AllBelow n l → AllBelow n (consIf b x l)
+cons-below true x n l h a zero k = h
+cons-below true x n l h a (suc i) k = a i (omega arith)
+cons-below false x n l h a i k = a i k
+
+changed-below : (k n : ℕ) (olds news : List ℕ) → k + length olds ≤ n → AllBelow n (changedFrom k olds news)
+unfolding changedFrom
+changed-below k n [] news h i l = absurd (omega arith)
+changed-below k n (a ∷ olds) [] h i l = absurd (omega arith)
+changed-below k n (a ∷ olds) (b ∷ news) h i l =
+    cons-below (not (eqb a b)) k n (changedFrom (suc k) olds news) (omega arith) (λ j m. changed-below (suc k) n olds news (omega arith) j m) i l
+
+-- a list of at most 100 indexes of cells is a wavefront
+pub front-ready : (l : List ℕ) → length l ≤ 100 → AllBelow 100 l → Ready (length l) (padded l)
+front-ready l h a = record { long = padded-length l h; count-in = h; cells-in = λ i k. rw (padded-at l i k) (a i k) }
+
+pub changed-ready : (before after : List ℕ) → length before ≡ 100 → Ready (length (changedFrom 0 before after)) (padded (changedFrom 0 before after))
+changed-ready before after e = front-ready (changedFrom 0 before after) (omega (arith, changed-few 0 before after)) (changed-below 0 100 before after (omega arith))

@@ -1,0 +1,77 @@
+-- `integration_build::corner_wave` meets its contract. The loop's invariant: the places hold the first i corners.
+-- Assumes nothing.
+use mathlib.Core.Path.{_≡_, refl, sym, ap, _∙_}
+use mathlib.Core.List.{List}
+use Prim.Native.Nat.{ℕ, _-_, _<_, _≤_}
+use native.Mathlib.Omega.{arith}
+use lib.ListN.{length, take, set, getD}
+use lib.Seq.{length-take-le}
+use borrow.Author.Needs.{needs}
+use Rattle.integration_field.specs.Listed.{padded}
+use Rattle.integration_build.proofs.Loops.{corner-more}
+use Rattle.integration_build.proofs.corner_wave.Statement.{statement}
+use Rattle.integration_build.proofs.corner_wave.Tie as tie
+
+abbrev Inv-loop : tie.InvT-loop
+Inv-loop corners count cells₀ i₀ cells i =
+    (i ≤ count) × (cells ≡ padded (take i corners))
+
+abbrev μ-loop : tie.MeasureT-loop
+μ-loop corners count cells₀ i₀ cells i = count - i
+
+loop-holds : tie.Need-loop-holds Inv-loop μ-loop
+loop-holds c = (search needs, refl)
+
+mul-cells : tie.Need-mul-cells Inv-loop μ-loop
+mul-cells c = search needs
+
+element-copy-out-cells : tie.Need-element-copy-out-cells Inv-loop μ-loop
+element-copy-out-cells c = search needs
+
+mul-cells-2 : tie.Need-mul-cells-2 Inv-loop μ-loop
+mul-cells-2 c = search needs
+
+array-write-cells : tie.Need-array-write-cells Inv-loop μ-loop
+array-write-cells c = search needs
+
+add-i : tie.Need-add-i Inv-loop μ-loop
+add-i c = search needs
+
+loop-less : tie.Need-loop-less Inv-loop μ-loop
+loop-less c = search needs
+
+loop-again : tie.Need-loop-again Inv-loop μ-loop
+loop-again c =
+    let a = c .before .before .before .args in
+    let l = c .before .before .loop in
+    let long : length (a .corners .now) ≡ 100 = c .before .before .before .pre .1 in
+    let room : l .i < 100 = omega (arith, c .before .before .before .pre .0) in (
+      search needs,
+      ap (λ (x : List ℕ). set x (l .i) (getD (a .corners .now) (l .i) 0)) (l .inv .1) ∙ corner-more (a .corners .now) (a .count) (l .i) (omega arith) room,
+    )
+
+returns : tie.Need-returns Inv-loop μ-loop
+returns c =
+    let a = c .before .before .args in
+    let l = c .before .loop in
+    let e : l .i ≡ a .count = omega arith in
+    let long : length (a .corners .now) ≡ 100 = c .before .before .pre .1 in
+    let n : length (take (a .count) (a .corners .now)) ≡ a .count = length-take-le (a .count) (a .corners .now) (omega (arith, c .before .before .pre .0)) in
+    ap (λ (x : List ℕ). record { cells = x; count = a .count }) (l .inv .1 ∙ ap (λ (k : ℕ). padded (take k (a .corners .now))) e)
+    ∙ ap (λ (k : ℕ). record { cells = padded (take (a .count) (a .corners .now)); count = k }) (sym n)
+
+pub corner-wave-spec : {M : Type 1} → statement M
+corner-wave-spec =
+    tie.close
+    (tie.spec
+    Inv-loop
+    μ-loop
+    loop-holds
+    mul-cells
+    element-copy-out-cells
+    mul-cells-2
+    array-write-cells
+    add-i
+    loop-less
+    loop-again
+    returns)

@@ -1,0 +1,72 @@
+-- `integration_build::corners_inside` meets its contract. The loop's invariant: the corners that are left decide.
+-- Assumes nothing.
+use mathlib.Core.Path.{_≡_, refl, sym, ap, _∙_}
+use Prim.Native.Nat.{ℕ, _-_, _≤_}
+use native.Mathlib.Omega.{arith}
+use lib.ListN.{length, take}
+use lib.Seq.{slice}
+use borrow.Author.Needs.{needs}
+use Rattle.integration_field.specs.Answer.{allCells}
+use Rattle.integration_build.proofs.Loops.{corners-step, corners-out, corners-end}
+use Rattle.integration_build.proofs.corners_inside.Statement.{statement}
+use Rattle.integration_build.proofs.corners_inside.Tie as tie
+
+abbrev Inv-loop : tie.InvT-loop
+Inv-loop corners count i₀ i =
+    (i ≤ count) × (allCells (take count corners) ≡ allCells (slice i count corners))
+
+abbrev μ-loop : tie.MeasureT-loop
+μ-loop corners count i₀ i = count - i
+
+loop-holds : tie.Need-loop-holds Inv-loop μ-loop
+loop-holds c = (search needs, refl)
+
+mul-if1 : tie.Need-mul-if1 Inv-loop μ-loop
+mul-if1 c = search needs
+
+element-copy-out-if1 : tie.Need-element-copy-out-if1 Inv-loop μ-loop
+element-copy-out-if1 c = search needs
+
+returns : tie.Need-returns Inv-loop μ-loop
+returns c =
+    let a = c .before .before .before .before .args in
+    let l = c .before .before .before .loop in
+    let long : length (a .corners .now) ≡ 100 = c .before .before .before .before .pre .1 in
+    sym (l .inv .1 ∙ corners-out (a .corners .now) (a .count) (l .i) (c .before .before .loop-test .taken) (omega (arith, c .before .before .before .before .pre .0)) (c .if1 .taken))
+
+add-i : tie.Need-add-i Inv-loop μ-loop
+add-i c = search needs
+
+loop-less : tie.Need-loop-less Inv-loop μ-loop
+loop-less c = search needs
+
+loop-again : tie.Need-loop-again Inv-loop μ-loop
+loop-again c =
+    let a = c .before .before .before .before .args in
+    let l = c .before .before .before .loop in
+    let long : length (a .corners .now) ≡ 100 = c .before .before .before .before .pre .1 in (
+      search needs,
+      l .inv .1 ∙ corners-step (a .corners .now) (a .count) (l .i) (c .before .before .loop-test .taken) (omega (arith, c .before .before .before .before .pre .0)) (omega (arith, c .if1 .left)),
+    )
+
+returns-2 : tie.Need-returns-2 Inv-loop μ-loop
+returns-2 c =
+    let a = c .before .before .args in
+    let l = c .before .loop in
+    let e : l .i ≡ a .count = omega arith in
+    sym (l .inv .1 ∙ ap (λ (k : ℕ). allCells (slice k (a .count) (a .corners .now))) e ∙ corners-end (a .corners .now) (a .count))
+
+pub corners-inside-spec : {M : Type 1} → statement M
+corners-inside-spec =
+    tie.close
+    (tie.spec
+    Inv-loop
+    μ-loop
+    loop-holds
+    mul-if1
+    element-copy-out-if1
+    returns
+    add-i
+    loop-less
+    loop-again
+    returns-2)

@@ -1,0 +1,29 @@
+-- `integration_build::is_written` meets its contract. Its tests are those of the definition.
+-- Assumes nothing.
+use mathlib.Core.Path.{sym, _∙_}
+use borrow.Author.Needs.{needs}
+use Rattle.integration_build.proofs.is_written.Statement.{statement}
+use Rattle.integration_build.proofs.is_written.Tie as tie
+
+is-impassable-requires : tie.Need-is-impassable-requires
+is-impassable-requires c κs = search needs
+
+returns : tie.Need-returns
+returns c = simp (sym (c .before .is-impassable .ensures) ∙ c .if1 .taken)
+
+is-los-requires : tie.Need-is-los-requires
+is-los-requires c κs = search needs
+
+returns-2 : tie.Need-returns-2
+returns-2 c = simp (sym (c .before .before .before .is-impassable .ensures) ∙ c .before .before .if1 .left, sym (c .before .is-los .ensures) ∙ c .if2 .taken)
+
+low-bits-requires : tie.Need-low-bits-requires
+low-bits-requires c κs = search needs
+
+returns-3 : tie.Need-returns-3
+returns-3 c = simp (sym (c .before .before .before .before .is-impassable .ensures) ∙ c .before .before .before .if1 .left, sym (c .before .before .is-los .ensures) ∙ c .before .if2 .left, c .low-bits .ensures)
+
+pub is-written-spec : {M : Type 1} → statement M
+is-written-spec =
+    tie.close
+    (tie.spec is-impassable-requires returns is-los-requires returns-2 low-bits-requires returns-3)

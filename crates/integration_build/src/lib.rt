@@ -1,0 +1,231 @@
+// Building an integration field: waves of offers from its corners, one wave a call.
+use fields::FieldCell;
+use fields::Stepped;
+use integration_field::BuildAnswer;
+use integration_field::IntegrationField;
+use utilities::CompassDir;
+ghost use mathlib.Core.Path.{_≡_};
+ghost use Prim.Native.Nat.{ℕ, _<_, _≤_};
+ghost use lib.ListN.{length, take};
+ghost use Rattle.utilities.specs.Compass.{orthogonal};
+ghost use Rattle.fields.specs.Cell.{cellAt, stepped};
+ghost use Rattle.integration_field.specs.Listed.{listOf};
+ghost use Rattle.integration_field.specs.Wave.{isWritten, relaxed, offered, offeredAround, offeredBy, changedFrom};
+ghost use Rattle.integration_field.specs.Answer.{answerOf, allCells, Accepted, buildAnswer};
+ghost use Rattle.integration_field.specs.Promise.{LeastWalks, Counted};
+ghost use Rattle.integration_build.specs.Wavefront.{Ready, frontOf, Settles};
+
+// Indexes of cells: `count` of them, in the first places of `cells`, and 0 in the others.
+pub struct Wavefront {
+    pub cells: [usize; 100],
+    pub count: usize,
+}
+
+// A field after the waves from a wavefront on, and how many of them changed a cell.
+pub struct Propagated {
+    pub field: IntegrationField,
+    pub waves: usize,
+}
+
+// A cost byte as a number of a cell's width.
+fn wide(cost: u8) -> u32
+    ensures { λ r. ⌜ (r ≡ cost) × (r < 256) ⌝ }
+{
+    cost as u32
+}
+
+// Whether a sum offered to a cell is written there: neither wall nor in sight, and strictly smaller.
+fn is_written(old: u32, sum: u32) -> bool
+    ensures { λ r. ⌜ r ≡ isWritten old sum ⌝ }
+{
+    if integration_field::is_impassable(old) {
+        return false;
+    }
+    if integration_field::is_los(old) {
+        return false;
+    }
+    sum < integration_field::low_bits(old)
+}
+
+// A sum offered to a cell.
+fn relax(cells: &mut [u32; 100], index: usize, sum: u32)
+    requires { ⌜ index < 100 ⌝ }
+    ensures { λ _. ⌜ now (cells .exit) ≡ relaxed sum index (now (cells .entry)) ⌝ }
+{
+    let old = cells[index];
+    if is_written(old, sum) {
+        cells[index] = sum;
+    }
+}
+
+// A value offered to the neighbour in one direction: the sum is compared before it is cut to 16 bits.
+fn offer_towards(cells: &mut [u32; 100], costs: &[u8], value: u32, cell: usize, dir: CompassDir)
+    requires { ⌜ (value < 65536) × (length (now costs) ≡ 100) ⌝ }
+    ensures { λ _. ⌜ now (cells .exit) ≡ offered (now (costs .entry)) value (stepped (cellAt cell) dir) (now (cells .entry)) ⌝ }
+{
+    let from = FieldCell::from_index(cell);
+    let Stepped::Cell(neighbour) = from.get_in_compass_direction(dir) else {
+        return;
+    };
+    let index = neighbour.as_1d_index();
+    let cost = wide(costs[index]);
+    let sum = value + cost;
+    relax(cells, index, sum);
+}
+
+// A value offered to the four neighbours.
+fn offer_around(cells: &mut [u32; 100], costs: &[u8], value: u32, cell: usize)
+    requires { ⌜ (value < 65536) × (length (now costs) ≡ 100) ⌝ }
+    ensures { λ _. ⌜ now (cells .exit) ≡ offeredAround (now (costs .entry)) value (cellAt cell) orthogonal (now (cells .entry)) ⌝ }
+{
+    offer_towards(cells, costs, value, cell, CompassDir::North);
+    offer_towards(cells, costs, value, cell, CompassDir::East);
+    offer_towards(cells, costs, value, cell, CompassDir::South);
+    offer_towards(cells, costs, value, cell, CompassDir::West);
+}
+
+// The offers of a wavefront's cells, each from the value that the wave before left.
+fn offer_wave(
+    cells: &mut [u32; 100],
+    costs: &[u8],
+    before: &[u32; 100],
+    wave: &[usize; 100],
+    count: usize,
+)
+    requires { ⌜ (Ready count (now wave)) × (length (now costs) ≡ 100) ⌝ }
+    ensures { λ _. ⌜ now (cells .exit) ≡ offeredBy (now (costs .entry)) (now (before .entry)) (take count (now (wave .entry))) (now (cells .entry)) ⌝ }
+{
+    let mut i = 0;
+    while i < count {
+        let cell = wave[i];
+        let value = integration_field::low_bits(before[cell]);
+        offer_around(cells, costs, value, cell);
+        i += 1;
+    }
+}
+
+// The cells that a wave changed, each once, in the order of their indexes.
+fn changed(before: &[u32; 100], after: &[u32; 100]) -> Wavefront
+    requires { ⌜ (length (now before) ≡ 100) × (length (now after) ≡ 100) ⌝ }
+    ensures { λ r. ⌜ r ≡ frontOf (changedFrom 0 (now (before .entry)) (now (after .entry))) ⌝ }
+{
+    let mut cells = [0; 100];
+    let mut count = 0;
+    let mut i = 0;
+    while i < 100 {
+        if before[i] != after[i] {
+            cells[count] = i;
+            count += 1;
+        }
+        i += 1;
+    }
+    Wavefront { cells, count }
+}
+
+// The waves from a wavefront on, one a call, at most `fuel` of them.
+fn propagate_integrated_wavefront(
+    costs: &[u8],
+    field: IntegrationField,
+    wavefront: Wavefront,
+    fuel: usize,
+) -> Propagated
+    requires { ⌜ (Ready (wavefront .count) (wavefront .cells)) × (length (now costs) ≡ 100) ⌝ }
+    ensures { λ r. ⌜ Settles (now (costs .entry)) field wavefront fuel r ⌝ }
+{
+    if fuel == 0 {
+        return Propagated { field, waves: 0 };
+    }
+    let before = field.field;
+    let mut cells = field.field;
+    let count = wavefront.count;
+    offer_wave(&mut cells, costs, &before, &wavefront.cells, count);
+    let next = changed(&before, &cells);
+    let some = next.count;
+    if some == 0 {
+        return Propagated { field, waves: 0 };
+    }
+    let los_corners = field.los_corners;
+    let listed = field.count;
+    let left = IntegrationField {
+        field: cells,
+        los_corners,
+        count: listed,
+    };
+    let rest = propagate_integrated_wavefront(costs, left, next, fuel - 1);
+    let last = rest.field;
+    Propagated {
+        field: last,
+        waves: rest.waves + 1,
+    }
+}
+
+// Whether each listed corner is the index of a cell.
+fn corners_inside(corners: &[usize; 100], count: usize) -> bool
+    requires { ⌜ (count ≤ 100) × (length (now corners) ≡ 100) ⌝ }
+    ensures { λ r. ⌜ r ≡ allCells (take count (now (corners .entry))) ⌝ }
+{
+    let mut i = 0;
+    while i < count {
+        if 99 < corners[i] {
+            return false;
+        }
+        i += 1;
+    }
+    true
+}
+
+// Wave 0: the listed corners, and 0 in the places beyond them.
+fn corner_wave(corners: &[usize; 100], count: usize) -> Wavefront
+    requires { ⌜ (count ≤ 100) × (length (now corners) ≡ 100) ⌝ }
+    ensures { λ r. ⌜ r ≡ frontOf (take count (now (corners .entry))) ⌝ }
+{
+    let mut cells = [0; 100];
+    let mut i = 0;
+    while i < count {
+        cells[i] = corners[i];
+        i += 1;
+    }
+    Wavefront { cells, count }
+}
+
+// A field whose corners are cells, built: no number of waves from 99 on gives another answer than 100.
+fn built(costs: &[u8], field: IntegrationField) -> BuildAnswer
+    requires { ⌜ Accepted (now costs) field ⌝ }
+    ensures { λ r. ⌜ r ≡ answerOf 0 (now (costs .entry)) field ⌝ }
+{
+    let count = field.count;
+    let wave = corner_wave(&field.los_corners, count);
+    let cells = field.field;
+    let los_corners = wave.cells;
+    let listed = IntegrationField {
+        field: cells,
+        los_corners,
+        count,
+    };
+    let last = propagate_integrated_wavefront(costs, listed, wave, 100);
+    let left = last.field;
+    BuildAnswer {
+        number: 0,
+        field: left,
+        waves: last.waves,
+    }
+}
+
+// A field given by hand, built on these costs.
+pub fn build(costs: &[u8], field: IntegrationField) -> BuildAnswer
+    ensures answer { λ r. ⌜ r ≡ buildAnswer (now (costs .entry)) field ⌝ }
+    ensures least { λ r. ⌜ (r .number ≡ 0 → LeastWalks (now (costs .entry)) (field .field) (listOf field) (r .field .field)) ⌝ }
+    ensures counted { λ r. ⌜ (r .number ≡ 0 → Counted (now (costs .entry)) (field .field) (listOf field) (r .field .field) (r .waves)) ⌝ }
+{
+    if costs.len() != 100 {
+        return integration_field::refused(1);
+    }
+    let count = field.count;
+    if 100 < count {
+        return integration_field::refused(11);
+    }
+    if corners_inside(&field.los_corners, count) {
+        return built(costs, field);
+    }
+    integration_field::refused(11)
+}
