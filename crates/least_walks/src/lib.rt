@@ -1,0 +1,1 @@
+// Least walks of started fields: definitions and theorems, with no code.
