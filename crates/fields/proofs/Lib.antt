@@ -1,2 +1,4 @@
 pub mod Coordinates
 pub mod Steps
+pub mod Beside
+pub mod Neighbouring

@@ -3,7 +3,7 @@
 --     stepped-cell                                  where a step arrives: at the two sums, inside
 --     step-back                                     a step is undone by the opposite step
 -- Assumes nothing.
-use mathlib.Core.Path.{_≡_, refl, subst}
+use mathlib.Core.Path.{_≡_, refl, subst, ap, _∙_}
 use mathlib.Core.Bool.{Bool, true, false, _&&_}
 use Prim.Native.Nat.{ℕ, _+_, _-_, _*_, _<_, _≤_, _/_, _%_}
 use native.Mathlib.Omega.{arith}
@@ -11,7 +11,7 @@ use lib.Dec.{leb, ltb}
 use borrow.Author.Tests.{lt-ltb, leb-true}
 use Rattle.utilities.specs.declared.CompassDir.{CompassDir}
 use Rattle.utilities.specs.declared.CompassDir.the-variants.{North, East, South, West, NorthEast, SouthEast, SouthWest, NorthWest, Zero}
-use Rattle.utilities.specs.Compass.{differences, points, opposite}
+use Rattle.utilities.specs.Compass.{Differences, differences, points, opposite}
 use Rattle.fields.specs.declared.FieldCell.{FieldCell}
 use Rattle.fields.specs.declared.Stepped.{Stepped}
 use Rattle.fields.specs.declared.Stepped.the-variants.{Cell, Outside}
@@ -92,3 +92,46 @@ steps-to c d n a =
       ← p,
       ← q,
     )
+
+opposite-points : (d : CompassDir) → points (opposite d) ≡ points d
+opposite-points North = refl
+opposite-points East = refl
+opposite-points South = refl
+opposite-points West = refl
+opposite-points NorthEast = refl
+opposite-points SouthEast = refl
+opposite-points SouthWest = refl
+opposite-points NorthWest = refl
+opposite-points Zero = refl
+
+-- the differences of the opposite direction, the other way round
+opposite-differences : (d : CompassDir)
+    → differences (opposite d) ≡ record { east = differences d .west; west = differences d .east; south = differences d .north; north = differences d .south }
+opposite-differences North = refl
+opposite-differences East = refl
+opposite-differences South = refl
+opposite-differences West = refl
+opposite-differences NorthEast = refl
+opposite-differences SouthEast = refl
+opposite-differences SouthWest = refl
+opposite-differences NorthWest = refl
+opposite-differences Zero = refl
+
+-- a step that stays inside is undone by the opposite step
+pub step-back : (c : FieldCell) (d : CompassDir) (n : FieldCell) → Inside c → stepped c d ≡ Cell n → stepped n (opposite d) ≡ Cell c
+step-back c d n i e =
+    let a = stepped-cell c d n e in
+    let δ = differences d in
+    let o = opposite-differences d in
+    let oe : differences (opposite d) .east ≡ δ .west = ap (λ (x : Differences). x .east) o in
+    let ow : differences (opposite d) .west ≡ δ .east = ap (λ (x : Differences). x .west) o in
+    let os : differences (opposite d) .south ≡ δ .north = ap (λ (x : Differences). x .south) o in
+    let on : differences (opposite d) .north ≡ δ .south = ap (λ (x : Differences). x .north) o in
+    steps-to n (opposite d) c (record {
+      pointing = opposite-points d ∙ a .pointing;
+      column-from = omega (arith, a .column-at, a .column-from);
+      row-from = omega (arith, a .row-at, a .row-from);
+      column-at = omega (arith, a .column-at, a .column-from);
+      row-at = omega (arith, a .row-at, a .row-from);
+      within = i;
+    })

@@ -11,7 +11,7 @@ use Rattle.route.specs.declared.RouteStep.{RouteStep}
 use Rattle.route.specs.Table.{Row, row, firstNumber}
 use Rattle.route.specs.Window.{onEdge, cellsBetween}
 
--- The 8 bytes: sector; goal cell; window mark (0 none, 1 window); first and last window cell; boundary; two zero bytes.
+-- The 8 bytes (01, "A leg"): sector; goal cell; window mark (0 none, 1 window); first and last window cell; boundary; two zero bytes.
 -- A byte that is not there counts as 0.
 abbrev pub sectorOf : List ℕ → ℕ
 sectorOf s = getD s 0 0
@@ -54,7 +54,7 @@ routeStep s =
       portal = record { start = firstOf s; end = lastOf s; boundary = boundaryOf s };
     }
 
--- the table's lines for each step, numbers 4 to 8
+-- the table's lines for each step, numbers 4 to 8 (01, "A leg", the table); with mark 0 the window bytes are not read, with mark 1 the goal byte is not
 abbrev pub stepRows : List ℕ → List Row
 stepRows s =
     row 4 (ltb 63 (sectorOf s) || ltb 1 (markOf s) || not (eqb (getD s 6 0) 0) || not (eqb (getD s 7 0) 0))

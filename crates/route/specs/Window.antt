@@ -33,7 +33,7 @@ onEdge SouthWest i = false
 onEdge NorthWest i = false
 onEdge Zero i = false
 
--- the cells of a side's edge: left to right, or top to bottom
+-- the cells of a side's edge (01, "A leg"): left to right, or top to bottom
 unfoldable pub edge : CompassDir → List ℕ
 edge side = select (onEdge side) (below 100)
 
@@ -41,7 +41,7 @@ edge side = select (onEdge side) (below 100)
 abbrev pub between : ℕ → ℕ → ℕ → Bool
 between first last i = leb first i && leb i last
 
--- the cells of a window: those of its edge from the first to the last
+-- the cells of a window (01, "A leg": first and last window cell): those of its edge from the first to the last
 unfoldable pub cellsBetween : CompassDir → ℕ → ℕ → List ℕ
 cellsBetween side first last = select (between first last) (edge side)
 
@@ -49,11 +49,11 @@ cellsBetween side first last = select (between first last) (edge side)
 abbrev pub stride : CompassDir → ℕ
 stride side = cond (eqb (differences side .east + differences side .west) 0) 1 10
 
--- window cells in an array, with their count
+-- window cells in an array, with their count (01, under the table: places of a list beyond its count hold 0)
 abbrev pub listed : List ℕ → WindowCells
 listed l = record { cells = padded 10 0 l; count = length l }
 
--- the cell across the boundary that faces cell i: one step over the boundary, into the next sector's first row or column on that side
+-- the cell across the boundary that faces cell i (01, "Flow byte": facing cells): one step on, columns and rows counted round into the next sector
 abbrev pub facing : CompassDir → ℕ → ℕ
 facing side i =
     let δ = differences side in

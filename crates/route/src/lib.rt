@@ -8,7 +8,6 @@ ghost use Rattle.route.specs.Window.{onEdge, edge, between, cellsBetween
 ghost use Rattle.route.specs.Step.{routeStep, eachStep, stepNumber};
 
 // The start and end index of a portal, and the side of the sector that it sits on.
-#[repr(C)]
 pub struct PortalWindow {
     pub start: usize,
     pub end: usize,

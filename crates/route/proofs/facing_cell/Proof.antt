@@ -1,3 +1,7 @@
+use mathlib.Core.Path.{_∙_}
+use Prim.Native.Nat.{_+_, _/_, _%_}
+use Rattle.utilities.specs.declared.CompassDir.the-variants.{North, East, South, West, NorthEast, SouthEast, SouthWest, NorthWest, Zero}
+use Rattle.route.proofs.Facing.{faces}
 use native.Mathlib.Omega.{arith}
 use borrow.Author.Needs.{needs}
 use Rattle.route.proofs.facing_cell.Statement.{statement}
@@ -94,31 +98,31 @@ wrapped-index-requires-9 : tie.Need-wrapped-index-requires-9
 wrapped-index-requires-9 c κs = search needs
 
 returns : tie.Need-returns
-returns c = rw (c .before .enum-told .given .1) (omega (arith, c .wrapped-index .ensures))
+returns c = let i = c .before .before .before .args .index in rw (c .before .enum-told .given .1) (c .wrapped-index .ensures ∙ faces North i (i % 10) (i / 10 + 9) (omega arith) (omega arith))
 
 returns-2 : tie.Need-returns-2
-returns-2 c = rw (c .before .enum-told2 .given .1) (omega (arith, c .wrapped-index2 .ensures))
+returns-2 c = let i = c .before .before .before .args .index in rw (c .before .enum-told2 .given .1) (c .wrapped-index2 .ensures ∙ faces East i (i % 10 + 1) (i / 10) (omega arith) (omega arith))
 
 returns-3 : tie.Need-returns-3
-returns-3 c = rw (c .before .enum-told3 .given .1) (omega (arith, c .wrapped-index3 .ensures))
+returns-3 c = let i = c .before .before .before .args .index in rw (c .before .enum-told3 .given .1) (c .wrapped-index3 .ensures ∙ faces South i (i % 10) (i / 10 + 1) (omega arith) (omega arith))
 
 returns-4 : tie.Need-returns-4
-returns-4 c = rw (c .before .enum-told4 .given .1) (omega (arith, c .wrapped-index4 .ensures))
+returns-4 c = let i = c .before .before .before .args .index in rw (c .before .enum-told4 .given .1) (c .wrapped-index4 .ensures ∙ faces West i (i % 10 + 9) (i / 10) (omega arith) (omega arith))
 
 returns-5 : tie.Need-returns-5
-returns-5 c = rw (c .before .enum-told5 .given .1) (omega (arith, c .wrapped-index5 .ensures))
+returns-5 c = let i = c .before .before .before .args .index in rw (c .before .enum-told5 .given .1) (c .wrapped-index5 .ensures ∙ faces NorthEast i (i % 10 + 1) (i / 10 + 9) (omega arith) (omega arith))
 
 returns-6 : tie.Need-returns-6
-returns-6 c = rw (c .before .enum-told6 .given .1) (omega (arith, c .wrapped-index6 .ensures))
+returns-6 c = let i = c .before .before .before .args .index in rw (c .before .enum-told6 .given .1) (c .wrapped-index6 .ensures ∙ faces SouthEast i (i % 10 + 1) (i / 10 + 1) (omega arith) (omega arith))
 
 returns-7 : tie.Need-returns-7
-returns-7 c = rw (c .before .enum-told7 .given .1) (omega (arith, c .wrapped-index7 .ensures))
+returns-7 c = let i = c .before .before .before .args .index in rw (c .before .enum-told7 .given .1) (c .wrapped-index7 .ensures ∙ faces SouthWest i (i % 10 + 9) (i / 10 + 1) (omega arith) (omega arith))
 
 returns-8 : tie.Need-returns-8
-returns-8 c = rw (c .before .enum-told8 .given .1) (omega (arith, c .wrapped-index8 .ensures))
+returns-8 c = let i = c .before .before .before .args .index in rw (c .before .enum-told8 .given .1) (c .wrapped-index8 .ensures ∙ faces NorthWest i (i % 10 + 9) (i / 10 + 9) (omega arith) (omega arith))
 
 returns-9 : tie.Need-returns-9
-returns-9 c = rw (c .before .enum-told9 .given .1) (omega (arith, c .wrapped-index9 .ensures))
+returns-9 c = let i = c .before .before .before .args .index in rw (c .before .enum-told9 .given .1) (c .wrapped-index9 .ensures ∙ faces Zero i (i % 10) (i / 10) (omega arith) (omega arith))
 
 pub facing-cell-spec : {M : Type 1} → statement M
 facing-cell-spec =

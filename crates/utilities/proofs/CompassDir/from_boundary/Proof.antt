@@ -6,26 +6,19 @@ use Rattle.utilities.specs.declared.CompassDir.the-variants.{Zero}
 use Rattle.utilities.specs.Compass.{orthogonal}
 use Rattle.utilities.proofs.CompassDir.from_boundary.Statement.{statement}
 use Rattle.utilities.proofs.CompassDir.from_boundary.Tie as tie
-use Rattle.utilities.proofs.CompassDir.from_boundary.Reads as reads
-use Rattle.utilities.proofs.CompassDir.from_boundary.Lts as lts
 
--- src/lib.rt:57:5
 returns : tie.Need-returns
 returns c = search needs
 
--- src/lib.rt:57:5
 returns-2 : tie.Need-returns-2
 returns-2 c = search needs
 
--- src/lib.rt:57:5
 returns-3 : tie.Need-returns-3
 returns-3 c = search needs
 
--- src/lib.rt:57:5
 returns-4 : tie.Need-returns-4
 returns-4 c = search needs
 
--- src/lib.rt:57:5
 returns-5 : tie.Need-returns-5
 returns-5 c = sym (List·getD-eq-default orthogonal Zero {n = c .before .args .boundary} (omega arith))
 
