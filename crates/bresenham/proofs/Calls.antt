@@ -1,22 +1,18 @@
 -- What the line calls answer, by the tests that they make.
 -- Assumes nothing.
-use mathlib.Core.Path.{_≡_, refl, sym, ap, ap₂, _∙_, subst}
+use mathlib.Core.Path.{_≡_, refl, _∙_}
 use mathlib.Core.Bool.{Bool, true, false, _&&_}
-use mathlib.Core.List.{List, [], reverse}
-use Prim.Native.Nat.{ℕ, _+_, _-_, _<_, _≤_}
-use native.Mathlib.Nat.{le-of-lt}
+use mathlib.Core.List.{List, reverse}
+use Prim.Native.Nat.{ℕ, _-_, _<_, _≤_}
 use native.Mathlib.Omega.{arith}
 use lib.Dec.{leb, ltb}
-use lib.ListN.{length, replicate, length-reverse}
 use lib.Seq.{take-append-seam}
 use borrow.Author.Tests.{ltb-true, lt-ltb, le-ltb, le-leb, lt-leb}
 use Rattle.fields.specs.declared.FieldCell.{FieldCell}
-use Rattle.fields.specs.Cell.{cell, Inside, inside}
+use Rattle.fields.specs.Cell.{Inside, inside}
 use Rattle.bresenham.specs.declared.Line.{Line}
-use Rattle.bresenham.specs.Line.{apart, shallowAt, steepAt, shallow, steep, line, answered, refused, padded, called, walked, lineCall, shallowCall, steepCall}
-use Rattle.bresenham.specs.Inner.{backward}
+use Rattle.bresenham.specs.Line.{apart, shallow, steep, line, answered, refused, called, walked, lineCall, shallowCall, steepCall}
 use Rattle.bresenham.specs.Nearest.{HoldsNearestLine}
-use Rattle.bresenham.proofs.Lists.{length-table, table-reverse}
 use Rattle.bresenham.proofs.Theorem.{nearest-line}
 
 and-true : (a b : Bool) → (a && b) ≡ true → (a ≡ true) × (b ≡ true)
@@ -105,47 +101,29 @@ module _ (s t : FieldCell) where
         rw (f, take-append-seam (line s t)) (nearest-line s t),
   )
 
-backward-answered : (l : List FieldCell) → backward (answered l) ≡ answered (reverse l)
-backward-answered l =
-    ap₂ (λ (x : List FieldCell) (n : ℕ). record { number = 0; cells = padded x; count = n })
-    (table-reverse l (replicate (10 - length l) (cell 0 0)) (cell 0 0) (length l) refl) (sym (length-reverse l))
+-- a shorter span fits the longer one, from either end
+pub fits-forth : (x a b : ℕ) → x ≤ apart a b → a ≤ b → x ≤ b - a
+fits-forth x a b h k = omega arith
+
+pub fits-back : (p q a b : ℕ) → apart p q ≤ apart a b → b < a → apart q p ≤ a - b
+fits-back p q a b h k = omega arith
 
 -- the shallow lines, forth and back
 module _ (s t : FieldCell) (e : (inside s && inside t) ≡ true) (n : apart (s .row) (t .row) < apart (s .column) (t .column)) where
-  pub shallow-forth : (r : Line) → s .column ≤ t .column → r ≡ shallowCall s t → r ≡ lineCall s t
+  pub shallow-forth : s .column ≤ t .column → lineCall s t ≡ answered (shallow s t)
   unfolding lineCall line
-  shallow-forth r h f = rw (e, lt-ltb _ _ n, le-leb (s .column) (t .column) h) (f ∙ shallow-taken s t e h (omega arith))
+  shallow-forth h = rw (e, lt-ltb (apart (s .row) (t .row)) (apart (s .column) (t .column)) n, le-leb (s .column) (t .column) h)
 
-  shallow-answer : (w : Line) → t .column < s .column → w ≡ shallowCall t s → w ≡ answered (shallow t s)
-  shallow-answer w h f = let i = both-in s t e in f ∙ shallow-taken t s (in-both t s (i .1) (i .0)) (le-of-lt h) (omega arith)
-
-  pub shallow-room : (w : Line) → t .column < s .column → w ≡ shallowCall t s → w .count ≤ 10
-  unfolding shallow
-  shallow-room w h f =
-      let i = both-in s t e in
-      let p = i .0 .column-in in
-      rw (shallow-answer w h f, length-table (s .column - t .column + 1) (shallowAt t s)) (omega arith)
-
-  pub shallow-back : (w r : Line) → t .column < s .column → w ≡ shallowCall t s → r ≡ backward w → r ≡ lineCall s t
+  pub shallow-back : t .column < s .column → lineCall s t ≡ answered (reverse (shallow t s))
   unfolding lineCall line
-  shallow-back w r h f g = rw (e, lt-ltb _ _ n, lt-leb (s .column) (t .column) h) (g ∙ ap backward (shallow-answer w h f) ∙ backward-answered (shallow t s))
+  shallow-back h = rw (e, lt-ltb (apart (s .row) (t .row)) (apart (s .column) (t .column)) n, lt-leb (s .column) (t .column) h)
 
 -- the steep lines, forth and back
 module _ (s t : FieldCell) (e : (inside s && inside t) ≡ true) (n : apart (s .column) (t .column) ≤ apart (s .row) (t .row)) where
-  pub steep-forth : (r : Line) → s .row ≤ t .row → r ≡ steepCall s t → r ≡ lineCall s t
+  pub steep-forth : s .row ≤ t .row → lineCall s t ≡ answered (steep s t)
   unfolding lineCall line
-  steep-forth r h f = rw (e, le-ltb _ _ n, le-leb (s .row) (t .row) h) (f ∙ steep-taken s t e h (omega arith))
+  steep-forth h = rw (e, le-ltb (apart (s .row) (t .row)) (apart (s .column) (t .column)) n, le-leb (s .row) (t .row) h)
 
-  steep-answer : (w : Line) → t .row < s .row → w ≡ steepCall t s → w ≡ answered (steep t s)
-  steep-answer w h f = let i = both-in s t e in f ∙ steep-taken t s (in-both t s (i .1) (i .0)) (le-of-lt h) (omega arith)
-
-  pub steep-room : (w : Line) → t .row < s .row → w ≡ steepCall t s → w .count ≤ 10
-  unfolding steep
-  steep-room w h f =
-      let i = both-in s t e in
-      let p = i .0 .row-in in
-      rw (steep-answer w h f, length-table (s .row - t .row + 1) (steepAt t s)) (omega arith)
-
-  pub steep-back : (w r : Line) → t .row < s .row → w ≡ steepCall t s → r ≡ backward w → r ≡ lineCall s t
+  pub steep-back : t .row < s .row → lineCall s t ≡ answered (reverse (steep t s))
   unfolding lineCall line
-  steep-back w r h f g = rw (e, le-ltb _ _ n, lt-leb (s .row) (t .row) h) (g ∙ ap backward (steep-answer w h f) ∙ backward-answered (steep t s))
+  steep-back h = rw (e, le-ltb (apart (s .row) (t .row)) (apart (s .column) (t .column)) n, lt-leb (s .row) (t .row) h)

@@ -2,4 +2,5 @@ pub mod Lists
 pub mod Offset
 pub mod Walks
 pub mod Theorem
+pub mod Places
 pub mod Calls

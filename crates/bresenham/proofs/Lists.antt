@@ -3,12 +3,12 @@
 use mathlib.Core.Path.{_≡_, refl, sym, ap, _∙_}
 use mathlib.Core.Bool.{Bool, true, false}
 use mathlib.Core.List.{List, [], _∷_, _++_, reverse, reverse-cons, append-assoc}
-use Prim.Native.Nat.{ℕ, zero, suc, _+_, _-_, _<_, _≤_}
+use Prim.Native.Nat.{ℕ, zero, suc, _+_, _-_, _<_}
 use native.Mathlib.Nat.{le-of-suc-le-suc, not-suc-le-zero}
 use native.Mathlib.Omega.{arith}
 use lib.Dec.{ltb}
-use lib.ListN.{length, getD, set, replicate, length-append, length-reverse, List·getD-append, length-replicate}
-use lib.Seq.{getD-append-add, set-at, ext-getD, take-at}
+use lib.ListN.{length, getD, set, replicate, length-append, length-reverse, List·getD-append}
+use lib.Seq.{getD-append-add, set-at}
 use borrow.Author.Tests.{ltb-true, ltb-false}
 use Rattle.bresenham.specs.Table.{table}
 
@@ -67,16 +67,3 @@ module _ {A : Type 0} where
   table-set n k f z h =
       let e : length (table k f) ≡ k = length-table k f in
       ap (λ (i : ℕ). set (behind n (table k f) z) i (f k)) (sym e) ∙ behind-set n (table k f) (f k) z (omega arith) ∙ ap (λ (l : List A). behind n l z) (sym (table-suc k f))
-
-  -- a table that counts down a list is its front, reversed
-  pub table-reverse : (l r : List A) (d : A) (n : ℕ) → length l ≡ n → table n (λ k. getD (l ++ r) (n - 1 - k) d) ≡ reverse l
-  table-reverse l r d n e =
-      ext-getD d (table n (λ k. getD (l ++ r) (n - 1 - k) d)) (reverse l) (length-table n (λ k. getD (l ++ r) (n - 1 - k) d) ∙ sym e ∙ sym (length-reverse l))
-      (λ k h.
-      let p : k < n = omega (arith, length-table n (λ k. getD (l ++ r) (n - 1 - k) d)) in
-      let q : k < length l = omega arith in
-      let u : length l - 1 - k ≡ n - 1 - k = omega arith in
-      getD-table n (λ k. getD (l ++ r) (n - 1 - k) d) k d p
-      ∙ List·getD-append l r d (n - 1 - k) (omega arith)
-      ∙ ap (λ (i : ℕ). getD l i d) (sym u)
-      ∙ sym (getD-reverse l k d q))

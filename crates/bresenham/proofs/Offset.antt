@@ -2,7 +2,7 @@
 -- Assumes nothing.
 use mathlib.Core.Path.{_≡_, refl, sym, ap, _∙_}
 use mathlib.Core.Bool.{Bool, true, false}
-use Prim.Native.Nat.{ℕ, zero, suc, _+_, _-_, _*_, _/_, _<_, _≤_, min, max}
+use Prim.Native.Nat.{ℕ, zero, suc, _+_, _-_, _*_, _/_, _<_, _≤_, min}
 use native.Mathlib.Nat.{div-zero, div-eq-of-lt-le, div-mul-le-self, lt-mul-div-succ, mul-comm, mul-left-comm, mul-assoc, mul-add, add-mul, one-mul, mul-one, zero-mul, mul-zero, mul-le-mul-right, lt-of-mul-lt-mul-left, le-of-lt}
 use native.Mathlib.Omega.{arith}
 use lib.Dec.{leb}

@@ -7,10 +7,10 @@
 --     line-spanned     its columns and rows lie between those of its two ends
 --     line-inside      between two cells of the sector it stays in the sector
 -- Assumes nothing.
-use mathlib.Core.Path.{_≡_, refl, sym, _∙_}
+use mathlib.Core.Path.{_≡_, refl}
 use mathlib.Core.Bool.{Bool, true, false, cond}
 use mathlib.Core.List.{List, reverse}
-use Prim.Native.Nat.{ℕ, _+_, _-_, _<_, _≤_, min, max}
+use Prim.Native.Nat.{ℕ, _-_, _<_, _≤_}
 use native.Mathlib.Nat.{le-of-lt}
 use native.Mathlib.Omega.{arith}
 use lib.Dec.{leb, ltb}
@@ -19,7 +19,7 @@ use borrow.Author.Tests.{leb-true, leb-false, ltb-true, ltb-false}
 use Rattle.fields.specs.declared.FieldCell.{FieldCell}
 use Rattle.fields.specs.Cell.{cell, Inside}
 use Rattle.bresenham.specs.Line.{apart, shallow, steep, line}
-use Rattle.bresenham.specs.Nearest.{Between, Neighbours, NearestCell, NearestWalk, columnOf, rowOf, NearestLine, Spanned}
+use Rattle.bresenham.specs.Nearest.{Between, columnOf, rowOf, NearestLine, Spanned}
 use Rattle.bresenham.proofs.Walks.{Walked, walked-back, shallow-walked, steep-walked}
 
 -- one of two, by a test and what it told

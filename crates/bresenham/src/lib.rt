@@ -6,7 +6,7 @@ ghost use Prim.Native.Nat.{_+_, _-_, _≤_, _<_};
 ghost use Rattle.fields.specs.Cell.{cell, inside};
 ghost use Rattle.bresenham.specs.Table.{table};
 ghost use Rattle.bresenham.specs.Line.{apart, toward, answered, refused, lineCall, shallowCall, steepCall};
-ghost use Rattle.bresenham.specs.Inner.{placed, walkAt, backward};
+ghost use Rattle.bresenham.specs.Inner.{placed, placeOf, walkAt, listed};
 ghost use Rattle.bresenham.specs.Nearest.{HoldsNearestLine};
 
 // The cells of a line, and how many they are; the places beyond hold 0. A refused call's number says why.
@@ -76,21 +76,40 @@ fn placed_cell(steep: bool, major: usize, minor: usize) -> FieldCell
     }
 }
 
-// The cells of a walk, which gains one in its major coordinate at each step.
+// Where step k of a walk of `span` steps stands in the list: counted from the last place where it is listed back.
+fn place_of(back: bool, span: usize, k: usize) -> usize
+    requires { ⌜ k ≤ span ⌝ }
+    ensures { λ r. ⌜ (r ≡ placeOf back span k) × (r ≤ span) ⌝ }
+{
+    if back {
+        return span - k;
+    }
+    k
+}
+
+// The cells of a walk, which gains one in its major coordinate at each step; listed from the last where `back` says so.
 // `difference` is that of the Rust plus twice the span, which is never below 0.
-fn walk(steep: bool, major_0: usize, minor_0: usize, major_1: usize, minor_1: usize) -> Line
+fn walk(
+    steep: bool,
+    back: bool,
+    major_0: usize,
+    minor_0: usize,
+    major_1: usize,
+    minor_1: usize,
+) -> Line
     requires { ⌜ (major_0 ≤ major_1) × (major_1 < 10) × (minor_0 < 10) × (minor_1 < 10) × (apart minor_0 minor_1 ≤ major_1 - major_0) ⌝ }
-    ensures { λ r. ⌜ r ≡ answered (table (major_1 - major_0 + 1) (walkAt steep major_0 minor_0 major_1 minor_1)) ⌝ }
+    ensures { λ r. ⌜ r ≡ answered (listed back (table (major_1 - major_0 + 1) (walkAt steep major_0 minor_0 major_1 minor_1))) ⌝ }
 {
     let span = major_1 - major_0;
     let rise = distance(minor_0, minor_1);
-    let mut cells = [FieldCell { column: 0, row: 0 }; 10];
+    let mut line = empty(0);
     let mut difference = 2 * rise + span;
     let mut offset = 0usize;
     let mut k = 0usize;
     while k <= span {
         let minor = moved(minor_0, minor_1, offset);
-        cells[k] = placed_cell(steep, major_0 + k, minor);
+        let place = place_of(back, span, k);
+        line.cells[place] = placed_cell(steep, major_0 + k, minor);
         if difference > 2 * span {
             offset += 1;
             difference = difference + 2 * rise - 2 * span;
@@ -99,11 +118,8 @@ fn walk(steep: bool, major_0: usize, minor_0: usize, major_1: usize, minor_1: us
         }
         k += 1;
     }
-    Line {
-        number: 0,
-        cells,
-        count: span + 1,
-    }
+    line.count = span + 1;
+    line
 }
 
 // The line steps through the columns, of which it has as many as rows, or more.
@@ -127,7 +143,7 @@ pub fn walk_bresenham_shallow(col_0: usize, row_0: usize, col_1: usize, row_1: u
     if col_1 - col_0 < distance(row_0, row_1) {
         return empty(0);
     }
-    walk(false, col_0, row_0, col_1, row_1)
+    walk(false, false, col_0, row_0, col_1, row_1)
 }
 
 // The line steps through the rows, of which it has as many as columns, or more.
@@ -151,27 +167,7 @@ pub fn walk_bresenham_steep(col_0: usize, row_0: usize, col_1: usize, row_1: usi
     if row_1 - row_0 < distance(col_0, col_1) {
         return empty(0);
     }
-    walk(true, row_0, col_0, row_1, col_1)
-}
-
-// The same cells from the last.
-fn reversed(line: Line) -> Line
-    requires { ⌜ line .count ≤ 10 ⌝ }
-    ensures { λ r. ⌜ r ≡ backward line ⌝ }
-{
-    let count = line.count;
-    let from = line.cells;
-    let mut cells = [FieldCell { column: 0, row: 0 }; 10];
-    let mut k = 0usize;
-    while k < count {
-        cells[k] = from[count - 1 - k];
-        k += 1;
-    }
-    Line {
-        number: line.number,
-        cells,
-        count,
-    }
+    walk(true, false, row_0, col_0, row_1, col_1)
 }
 
 // The cells on the line from `source` to `target`, both of them included; 13 where a column or row lies outside 0 to 9.
@@ -188,12 +184,12 @@ pub fn get_cells_between_points(source: FieldCell, target: FieldCell) -> Line
     let target_row = target.row;
     if distance(source_row, target_row) < distance(source_col, target_col) {
         if source_col <= target_col {
-            return walk_bresenham_shallow(source_col, source_row, target_col, target_row);
+            return walk(false, false, source_col, source_row, target_col, target_row);
         }
-        return reversed(walk_bresenham_shallow(target_col, target_row, source_col, source_row));
+        return walk(false, true, target_col, target_row, source_col, source_row);
     }
     if source_row <= target_row {
-        return walk_bresenham_steep(source_col, source_row, target_col, target_row);
+        return walk(true, false, source_row, source_col, target_row, target_col);
     }
-    reversed(walk_bresenham_steep(target_col, target_row, source_col, source_row))
+    walk(true, true, target_row, target_col, source_row, source_col)
 }
