@@ -8,11 +8,11 @@
 use mathlib.Core.Path.{_≡_, refl, sym, ap, _∙_}
 use mathlib.Core.Bool.{Bool, true, false, not, _&&_}
 use mathlib.Core.List.{List, [], _∷_, _++_, append-nil}
-use Prim.Native.Nat.{ℕ, zero, suc, _+_, _-_, _≤_, _<_}
+use Prim.Native.Nat.{ℕ, zero, suc, _+_, _≤_, _<_}
 use native.Mathlib.Nat.{add-zero}
 use native.Mathlib.Numerals.{add-one}
 use native.Mathlib.Omega.{arith}
-use lib.Dec.{ltb, eqb}
+use lib.Dec.{eqb}
 use lib.ListN.{length, getD, set, take}
 use lib.Seq.{slice, slice-cons, slice-empty, take-suc, length-take-le}
 use borrow.Author.Tests.{eq-eqb, ne-eqb, lt-ltb, le-ltb}
@@ -23,7 +23,7 @@ use Rattle.integration_field.specs.Listed.{padded}
 use Rattle.integration_field.specs.Wave.{offeredAround, offeredBy, consIf, changedFrom}
 use Rattle.integration_field.specs.Answer.{allCells}
 use Rattle.integration_field.proofs.Lists.{padded-length, padded-push, padded-at}
-use Rattle.integration_build.specs.Wavefront.{Ready, frontOf}
+use Rattle.integration_build.specs.Wavefront.{Ready}
 
 -- ---- the offers of a wavefront
 

@@ -5,18 +5,17 @@
 --     built-is         a hundred waves give the definition's answer
 -- Assumes nothing.
 use mathlib.Core.Path.{_≡_, refl, sym, ap, subst, _∙_}
-use mathlib.Core.Bool.{Bool, true, false}
+use mathlib.Core.Bool.{true, false}
 use mathlib.Core.List.{List, [], _∷_}
-use Prim.Native.Nat.{ℕ, zero, suc, _+_, _-_, _≤_, _<_}
+use Prim.Native.Nat.{ℕ, suc, _+_}
 use native.Mathlib.Numerals.{add-one}
 use native.Mathlib.Omega.{arith}
 use lib.ListN.{length, take}
 use Rattle.integration_field.specs.declared.IntegrationField.{IntegrationField}
-use Rattle.integration_field.specs.declared.BuildAnswer.{BuildAnswer}
 use Rattle.integration_field.specs.Listed.{padded, listOf, withCorners}
 use Rattle.integration_field.specs.Wave.{offeredBy, changedFrom, Wave, next}
 use Rattle.integration_field.specs.Rest.{Rests}
-use Rattle.integration_field.specs.Build.{Built, isEmpty, settle}
+use Rattle.integration_field.specs.Build.{isEmpty, settle}
 use Rattle.integration_field.specs.Answer.{answerOf, Accepted}
 use Rattle.integration_field.proofs.Lists.{padded-list, corners-length}
 use Rattle.integration_field.proofs.Offers.{offers-made}

@@ -1,14 +1,14 @@
 -- Fields built by computing: the definition settles them without being told how many waves there are.
 -- Assumes nothing.
 use mathlib.Core.Path.{_≡_, refl}
-use mathlib.Core.Bool.{Bool, true, false, cond}
+use mathlib.Core.Bool.{cond}
 use mathlib.Core.List.{List, [], _∷_, _++_}
 use Prim.Native.Nat.{ℕ, zero, suc, _+_, _-_, _%_}
-use lib.ListN.{getD, replicate}
+use lib.ListN.{replicate}
 use lib.Dec.{eqb}
 use Rattle.integration_field.specs.Wave.{relaxed, offeredAround, offeredBy, changedFrom, next}
 use Rattle.integration_field.specs.Rest.{total}
-use Rattle.integration_field.specs.Build.{Built, isEmpty, settle, build}
+use Rattle.integration_field.specs.Build.{isEmpty, settle, build}
 use Rattle.fields.specs.Cell.{stepped}
 
 -- n numbers, by their index from x on

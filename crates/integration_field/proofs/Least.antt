@@ -13,14 +13,14 @@ use native.Mathlib.Omega.{arith}
 use native.Mathlib.Decide.{decLt}
 use lib.ListN.{length, getD, List·getD-eq-default}
 use lib.Seq.{ext-getD}
-use Rattle.waves.specs.Walks.{Walk, start, move, Below}
+use Rattle.waves.specs.Walks.{start, move, Below}
 use Rattle.waves.specs.Waves.{Changed, Waves, Ends}
 use Rattle.waves.proofs.Least.{walk-into, fallen-walk}
-use Rattle.waves.proofs.End.{waves-end, few, least, counted}
+use Rattle.waves.proofs.End.{few, least, counted}
 use Rattle.integration_field.specs.Word.{low, isOpen, isLos, isImpassable}
 use Rattle.integration_field.specs.Wave.{changedFrom, Wave, next, waveAt}
 use Rattle.integration_field.specs.Rest.{Rests}
-use Rattle.integration_field.specs.Build.{Built, isEmpty, build}
+use Rattle.integration_field.specs.Build.{isEmpty, build}
 use Rattle.integration_field.specs.Walks.{Beside, grid, MayEnter, Permitted}
 use Rattle.integration_field.specs.Promise.{Walked, LeastWalks, Changes, Counted}
 use Rattle.integration_field.proofs.Neighbours.{neighbour-beside, beside-neighbour}
@@ -174,13 +174,13 @@ module _ (costs cells corners : List ℕ) where
 
     -- ---- the walks of the theory are the permitted ones
 
+    entered : (x s : ℕ) → MayEnter costs cells corners x s → Below (grid costs cells corners) Open x s
+    entered x s m = (rw (m .no-wall, m .not-in-sight), m .below)
+
     permitted : (x s : ℕ) → Below (grid costs cells corners) Open x s → MayEnter costs cells corners x s
     permitted x s p =
         let f = both-false (isImpassable (getD cells x 0)) (isLos (getD cells x 0)) (p .0) in
         record { no-wall = f .0; not-in-sight = f .1; below = p .1 }
-
-    entered : (x s : ℕ) → MayEnter costs cells corners x s → Below (grid costs cells corners) Open x s
-    entered x s m = (rw (m .no-wall, m .not-in-sight), m .below)
 
     attained : (k x : ℕ) → (getD (at k) x 0 ≡ getD cells x 0) ⊎ Walked costs cells corners x (getD (at k) x 0)
     attained k x = go (was k x)

@@ -5,4 +5,5 @@ pub mod Offers
 pub mod Settled
 pub mod Least
 pub mod Answers
+pub mod Decided
 pub mod Examples

@@ -12,8 +12,9 @@ use mathlib.Core.Path.{_≡_, refl, sym, ap, _∙_}
 use mathlib.Core.List.{List, [], _∷_, _++_}
 use Prim.Native.Nat.{ℕ, zero, suc, _+_, _-_, _<_, _≤_}
 use native.Mathlib.Omega.{arith}
-use lib.ListN.{length, getD, set, take, replicate, length-append, length-replicate, List·getD-append}
-use lib.Seq.{set-append-seam, append-snoc, take-append-seam, getD-append-add, length-take-le, getD-take}
+use lib.ListN.{length, getD, set, take, replicate, List·getD-append}
+use lib.Seq.{take-append-seam, getD-append-add, length-take-le, getD-take}
+use Rattle.utilities.proofs.Padded.{padded-length as to-length, padded-push as to-push}
 use Rattle.integration_field.specs.declared.IntegrationField.{IntegrationField}
 use Rattle.integration_field.specs.Listed.{padded, listOf, withCorners}
 
@@ -24,7 +25,7 @@ zeros-at (suc n) (suc i) = zeros-at n i
 
 module _ (l : List ℕ) where
   pub padded-length : length l ≤ 100 → length (padded l) ≡ 100
-  padded-length h = omega (arith, length-append l (replicate (100 - length l) 0), length-replicate {A = ℕ} (100 - length l) 0)
+  padded-length = to-length 100 0 l
 
   pub padded-list : take (length l) (padded l) ≡ l
   padded-list = take-append-seam l (replicate (100 - length l) 0)
@@ -40,14 +41,7 @@ module _ (l : List ℕ) where
       ∙ zeros-at (100 - length l) (i - length l)
 
   pub padded-push : (x : ℕ) → length l < 100 → set (padded l) (length l) x ≡ padded (l ++ x ∷ [])
-  padded-push x h =
-      let e : 100 - length l ≡ suc (99 - length l) = omega arith in
-      let n : length (l ++ x ∷ []) ≡ length l + 1 = length-append l (x ∷ []) in
-      let g : 100 - length (l ++ x ∷ []) ≡ 99 - length l = omega arith in
-      ap (λ (k : ℕ). set (l ++ replicate k 0) (length l) x) e
-      ∙ set-append-seam l 0 (replicate (99 - length l) 0) x
-      ∙ sym (append-snoc l x (replicate (99 - length l) 0))
-      ∙ ap (λ (k : ℕ). (l ++ x ∷ []) ++ replicate k 0) (sym g)
+  padded-push = to-push 100 0 l
 
   pub corners-listed : (cells : List ℕ) → listOf (withCorners cells l) ≡ l
   corners-listed cells = padded-list

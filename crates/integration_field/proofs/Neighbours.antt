@@ -1,17 +1,17 @@
 -- The four steps from a cell arrive at the cells beside it, and at no other.
 -- Assumes nothing.
 use mathlib.Core.Path.{_≡_, refl, sym, subst}
-use mathlib.Core.Logic.{_⊎_, inl, inr, ⊎-elim}
-use mathlib.Core.List.{List, [], _∷_, List·Memᴰ, List·Memᴰ·head, List·Memᴰ·tail, List·Memᴰ·cases-cons, List·Memᴰ·not-nil}
-use Prim.Native.Nat.{ℕ, _+_, _-_, _*_, _/_, _%_, _<_, _≤_}
+use mathlib.Core.Logic.{inl, inr, ⊎-elim}
+use mathlib.Core.List.{List, _∷_, List·Memᴰ, List·Memᴰ·head, List·Memᴰ·tail, List·Memᴰ·cases-cons, List·Memᴰ·not-nil}
+use Prim.Native.Nat.{ℕ, _<_}
 use native.Mathlib.Omega.{arith}
 use Rattle.utilities.specs.declared.CompassDir.{CompassDir}
 use Rattle.utilities.specs.declared.CompassDir.the-variants.{North, East, South, West}
-use Rattle.utilities.specs.Compass.{differences, orthogonal}
+use Rattle.utilities.specs.Compass.{orthogonal}
 use Rattle.fields.specs.declared.FieldCell.{FieldCell}
 use Rattle.fields.specs.declared.Stepped.the-variants.{Cell}
 use Rattle.fields.specs.Cell.{indexOf, cellAt, stepped}
-use Rattle.fields.proofs.Steps.{Arrives, stepped-cell, steps-to, index-below, index-of-cell, cell-inside}
+use Rattle.fields.proofs.Steps.{Arrives, stepped-cell, steps-to, index-of-cell, cell-inside}
 use Rattle.integration_field.specs.Walks.{Beside, in-row, in-column}
 
 -- a step from c, in one of these directions, arrives at the cell with index x

@@ -8,7 +8,7 @@ use mathlib.Core.Path.{_≡_, refl, sym, ap, _∙_}
 use mathlib.Core.Bool.{Bool, true, false, not, cond, _&&_, true≢false}
 use mathlib.Core.Logic.{⊎-elim}
 use mathlib.Core.List.{List, [], _∷_, List·Memᴰ, List·Memᴰ·head, List·Memᴰ·tail, List·Memᴰ·cases-cons, List·Memᴰ·not-nil}
-use Prim.Native.Nat.{ℕ, zero, suc, _+_, _/_, _%_, _^_, _≤_, _<_}
+use Prim.Native.Nat.{ℕ, zero, suc, _+_, _^_, _≤_, _<_}
 use native.Mathlib.Omega.{arith}
 use native.Mathlib.Decide.{decLt, ℕ-discrete}
 use lib.Dec.{ltb, eqb}
@@ -21,8 +21,8 @@ use Rattle.fields.specs.declared.FieldCell.{FieldCell}
 use Rattle.fields.specs.declared.Stepped.{Stepped}
 use Rattle.fields.specs.declared.Stepped.the-variants.{Cell, Outside}
 use Rattle.fields.specs.Cell.{indexOf, cellAt, stepped}
-use Rattle.integration_field.specs.Word.{low, isOpen, isLos, isImpassable}
-use Rattle.integration_field.specs.Wave.{isWritten, relaxed, offered, offeredAround, offeredBy, consIf, changedFrom}
+use Rattle.integration_field.specs.Word.{low, isOpen}
+use Rattle.integration_field.specs.Wave.{relaxed, offered, offeredAround, offeredBy, consIf, changedFrom}
 use Rattle.integration_field.proofs.Flags.{small-flag}
 use Rattle.integration_field.proofs.Neighbours.{Neighbour, later}
 
@@ -30,7 +30,7 @@ use Rattle.integration_field.proofs.Neighbours.{Neighbour, later}
 
 -- a word without flags is open
 pub small-open : (w : ℕ) → w < 2 ^ 16 → isOpen w ≡ true
-small-open w h = rw (small-flag w 25 (omega arith), small-flag w 16 h)
+small-open w h = simp (small-flag w 16 h, small-flag w 17 (omega arith), small-flag w 25 (omega arith))
 
 -- a word w after offers, of which P says which were made
 pub data Held (P : ℕ → Type 0) (w : ℕ) : ℕ → Type 0 where

@@ -5,7 +5,7 @@
 -- Assumes nothing.
 use mathlib.Core.Bool.{Bool, true, false}
 use mathlib.Core.List.{List, [], _∷_}
-use Prim.Native.Nat.{ℕ, zero, suc, _≤_}
+use Prim.Native.Nat.{ℕ, zero, suc}
 use native.Mathlib.Nat.{le-refl}
 use Rattle.integration_field.specs.declared.IntegrationField.{IntegrationField}
 use Rattle.integration_field.specs.Listed.{listOf, withCorners}

@@ -1,13 +1,14 @@
 -- Lists in arrays of 100 places (01, under the table: places of a list beyond its count hold 0).
 -- Assumes nothing.
-use mathlib.Core.List.{List, [], _++_}
-use Prim.Native.Nat.{ℕ, _-_}
+use mathlib.Core.List.{List}
+use Prim.Native.Nat.{ℕ}
 use lib.ListN.{length, take, replicate}
+use Rattle.utilities.specs.Padded.{padded as paddedTo}
 use Rattle.integration_field.specs.declared.IntegrationField.{IntegrationField}
 
 -- the list, and zeros behind it to 100 places
 abbrev pub padded : List ℕ → List ℕ
-padded l = l ++ replicate (100 - length l) 0
+padded l = paddedTo 100 0 l
 
 -- the listed corners of a field
 abbrev pub listOf : IntegrationField → List ℕ

@@ -1,13 +1,12 @@
 -- Waves come to rest: each wave that changes a cell lowers the total of the values, so that one changes none. The definition of the
 -- built field leans on this, and on nothing else, to be a total function; how soon waves come to rest is `proofs/Least.antt`.
 -- Assumes nothing.
-use mathlib.Core.Path.{_≡_, refl, sym, ap, _∙_}
-use mathlib.Core.Bool.{Bool, true, false, not, cond, _&&_}
+use mathlib.Core.Path.{_≡_, refl, ap, _∙_}
+use mathlib.Core.Bool.{Bool, true, false, cond, _&&_}
 use mathlib.Core.Logic.{_⊎_, inl, inr}
 use mathlib.Core.List.{List, [], _∷_}
 use Prim.Native.Nat.{ℕ, zero, suc, _+_, _≤_, _<_}
 use native.Mathlib.Omega.{arith}
-use lib.Dec.{ltb, eqb}
 use lib.ListN.{getD, set}
 use borrow.Author.Tests.{ltb-true, eq-eqb}
 use Rattle.utilities.specs.declared.CompassDir.{CompassDir}

@@ -1,7 +1,7 @@
 -- The walks of a field (01, "Integration: build"), told by rows and columns, flags and sums, and by no function that makes waves.
 -- Assumes nothing.
 use mathlib.Core.Path.{_≡_}
-use mathlib.Core.Bool.{true, false}
+use mathlib.Core.Bool.{false}
 use mathlib.Core.Logic.{_⊎_}
 use mathlib.Core.List.{List, List·Memᴰ}
 use Prim.Native.Nat.{ℕ, _+_, _/_, _%_, _<_}

@@ -6,11 +6,11 @@
 --     once-more      a list without repeats, and one more entry that it does not have
 --     at-set         an entry after a place was set
 -- Assumes nothing.
-use mathlib.Core.Path.{_≡_, refl, sym, _∙_, ap, subst}
+use mathlib.Core.Path.{_≡_, sym, _∙_, ap, subst}
 use mathlib.Core.Bool.{Bool, true, false}
 use mathlib.Core.List.{List, [], _∷_, _++_}
 use mathlib.Core.Logic.{_⊎_, inl, inr, ⊎-elim}
-use Prim.Native.Nat.{ℕ, zero, suc, _+_, _-_, _<_, _≤_}
+use Prim.Native.Nat.{ℕ, zero, suc, _+_, _<_, _≤_}
 use native.Mathlib.Omega.{arith}
 use native.Mathlib.Decide.{ℕ-discrete, decLt}
 use lib.ListN.{length, getD, set, length-set, length-append, List·getD-append}
@@ -59,7 +59,8 @@ module _ (f : ℕ → Bool) where
       omega (arith, count-length xs)
   count-room (x ∷ xs) (suc n) h e = omega (arith, bit-small (f x), count-room xs n (omega arith) e)
 
-  pub once-room : f 0 ≡ false → (l cells : List ℕ) → Each (λ n. (n < length cells) × (f (getD cells n 0) ≡ true)) l → Once l → length l ≤ count f cells
+  pub once-room : f 0 ≡ false → (l cells : List ℕ) → Each (λ n. (n < length cells) × (f (getD cells n 0) ≡ true)) l → Once l
+      → length l ≤ count f cells
   once-room z [] cells e o = omega arith
   once-room z (x ∷ xs) cells e o =
       let rest : Each (λ n. (n < length (set cells x 0)) × (f (getD (set cells x 0) n 0) ≡ true)) xs = λ i h.
@@ -93,8 +94,14 @@ module _ (l : List ℕ) (n : ℕ) where
   pub once-more : Once l → Each (λ m. m ≡ n → ⊥) l → Once (l ++ n ∷ [])
   once-more o e i j h k q =
       let before : i < length l = omega (arith, more-length) in
-      elim (decLt j (length l)) [ yes p ↦ o i j h p (sym (more-before i before) ∙ q ∙ more-before j p) | no p ↦ e i before (sym (more-before i before) ∙ q ∙ more-last j (omega (arith, more-length))) ]
+      elim (decLt j (length l)) [
+        | yes p ↦ o i j h p (sym (more-before i before) ∙ q ∙ more-before j p)
+        | no p ↦ e i before (sym (more-before i before) ∙ q ∙ more-last j (omega (arith, more-length)))
+      ]
 
 pub at-set : (Q : ℕ → Type 0) (l : List ℕ) (n v m : ℕ) → n < length l → (m ≡ n → Q v) → ((m ≡ n → ⊥) → Q (getD l m 0)) → Q (getD (set l n v) m 0)
 at-set Q l n v m h same other =
-    elim (ℕ-discrete m n) [ yes p ↦ subst Q (sym (ap (λ (k : ℕ). getD (set l n v) k 0) p ∙ getD-set-same l n v 0 h)) (same p) | no p ↦ subst Q (sym (getD-set-other l n m v 0 p)) (other p) ]
+    elim (ℕ-discrete m n) [
+      | yes p ↦ subst Q (sym (ap (λ (k : ℕ). getD (set l n v) k 0) p ∙ getD-set-same l n v 0 h)) (same p)
+      | no p ↦ subst Q (sym (getD-set-other l n m v 0 p)) (other p)
+    ]

@@ -10,21 +10,7 @@ use Rattle.integration_field.specs.Diagonal.{betweenWalls}
 use Rattle.bresenham.specs.Table.{table}
 use Rattle.bresenham.specs.Line.{toward, nearest, shallow, steep, line}
 use Rattle.line_end.specs.LineEnd.{gradient, intercept, floor, rowAt, firstEnding, slantedEnd, endBy, lineEnd}
-use Rattle.started_field.specs.Sight.{
-  Sight,
-  walls,
-  withGoal,
-  marked,
-  lineMarked,
-  seen,
-  extended,
-  sideTried,
-  wallMet,
-  neighbourLooked,
-  lookedAround,
-  waveLooked,
-  sightAfter,
-}
+use Rattle.started_field.specs.Sight.{walls, withGoal, marked, lineMarked, seen, extended, sideTried, wallMet, neighbourLooked, lookedAround, waveLooked, sightAfter}
 use Rattle.started_field.specs.CornerLine.{cornerLine}
 use Rattle.started_field.specs.Started.{sightFrom}
 

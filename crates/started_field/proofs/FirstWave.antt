@@ -4,47 +4,30 @@
 --     first-meets     and it has met three cells, the goal and two of its neighbours
 -- Assumes nothing.
 use mathlib.Core.Path.{_≡_, refl, sym, _∙_, ap, subst}
-use mathlib.Core.Bool.{Bool, true, false, cond, not, _&&_, _||_}
-use mathlib.Core.List.{List, [], _∷_, _++_}
-use mathlib.Core.Logic.{_⊎_, inl, inr, ⊎-elim}
-use Prim.Native.Nat.{ℕ, zero, suc, _+_, _*_, _<_, _≤_, _/_, _%_}
+use mathlib.Core.Bool.{Bool, true, false, cond, _||_}
+use mathlib.Core.List.{List, [], _∷_}
+use mathlib.Core.Logic.{inl, inr, ⊎-elim}
+use Prim.Native.Nat.{ℕ, zero, suc, _+_, _<_, _≤_, _/_, _%_}
 use native.Mathlib.Omega.{arith}
 use native.Mathlib.Decide.{decLt}
 use borrow.Author.Tests.{eq-eqb}
-use lib.ListN.{length, getD, set}
-use lib.Dec.{eqb}
+use lib.ListN.{length, getD}
 use Rattle.utilities.specs.declared.CompassDir.{CompassDir}
 use Rattle.utilities.specs.declared.CompassDir.the-variants.{North, East, South, West}
 use Rattle.utilities.specs.Compass.{orthogonal, opposite}
 use Rattle.fields.specs.declared.FieldCell.{FieldCell}
-use Rattle.fields.specs.declared.Stepped.{Stepped}
-use Rattle.fields.specs.declared.Stepped.the-variants.{Cell, Outside}
+use Rattle.fields.specs.declared.Stepped.the-variants.{Cell}
 use Rattle.fields.specs.Cell.{cell, Inside, cellAt, indexOf, stepped}
-use Rattle.fields.proofs.Steps.{stepped-cell, steps-to, index-below, index-of-cell, cell-inside, cell-of-index}
+use Rattle.fields.proofs.Steps.{Arrives, stepped-cell, steps-to, index-below, index-of-cell, cell-inside, cell-of-index}
 use Rattle.integration_field.specs.Word.{isLos, isGoal, isBlocked, isImpassable}
-use Rattle.integration_field.specs.Diagonal.{wallAt, diagonal, betweenWalls}
-use Rattle.started_field.specs.Sight.{
-  Sight,
-  marked,
-  stopped,
-  lineMarked,
-  seen,
-  unlessWall,
-  firstSide,
-  extended,
-  cornerOf,
-  sideTried,
-  wallMet,
-  neighbourLooked,
-  looked,
-  lookedAround,
-}
+use Rattle.integration_field.specs.Diagonal.{wallAt, betweenWalls}
+use Rattle.started_field.specs.Sight.{Sight, marked, stopped, lineMarked, seen, firstSide, extended, sideTried, wallMet, neighbourLooked, looked, lookedAround}
 use Rattle.started_field.specs.Lines.{Lines}
 use Rattle.started_field.proofs.Count.{Each, Once, count, once-room, at-set}
-use Rattle.started_field.proofs.Words.{Flags, corner-flags, seen-flags}
+use Rattle.started_field.proofs.Words.{corner-flags}
 use Rattle.started_field.proofs.Kept.{isSide, listed, Found, Keeps, kept-marked, kept-line, kept-side, kept-wall, kept-looked, kept-around}
-use Rattle.started_field.proofs.Sides.{Sideways, by-side, back, square, odd, side-opposite, side-sideways, sideways-back, sideways-away}
-use Rattle.started_field.proofs.Wave.{isMet, met-los, met-goal, met-blocked, met-wall, true-false, Sound, met, Wave, wave-keeps}
+use Rattle.started_field.proofs.Sides.{by-side, back, square, odd, side-opposite, side-sideways, sideways-back, sideways-away}
+use Rattle.started_field.proofs.Wave.{isMet, met-los, met-goal, met-blocked, met-wall, met, Wave, wave-keeps}
 
 -- a cell has a neighbour in its row, and one in its column
 record Neighbour (c : FieldCell) : Type 0 where
@@ -53,26 +36,77 @@ record Neighbour (c : FieldCell) : Type 0 where
   is-side : isSide way ≡ true
   step : stepped c way ≡ Cell at
 
-in-row : (c : FieldCell) → Inside c → (n : Neighbour c) × (n .at .row ≡ c .row) × (n .at .column ≡ c .column → ⊥)
-in-row c i = elim (decLt (c .column) 9) [ yes h ↦ east h | no h ↦ west (λ q. h q) ]
-  where
-    east : c .column < 9 → (n : Neighbour c) × (n .at .row ≡ c .row) × (n .at .column ≡ c .column → ⊥)
-    east h = (record { way = East; at = cell (c .column + 1) (c .row); is-side = refl; step = steps-to c East (cell (c .column + 1) (c .row)) (record { pointing = refl; column-from = omega arith; row-from = omega arith; column-at = omega arith; row-at = omega arith; within = record { column-in = omega arith; row-in = i .row-in } }) }, refl, omega arith)
+abbrev neighbour : (c : FieldCell) (d : CompassDir) (n : FieldCell) → isSide d ≡ true → Arrives c d n → Neighbour c
+neighbour c d n o a = record { way = d; at = n; is-side = o; step = steps-to c d n a }
 
-    west : (c .column < 9 → ⊥) → (n : Neighbour c) × (n .at .row ≡ c .row) × (n .at .column ≡ c .column → ⊥)
-    west h = (record { way = West; at = cell 8 (c .row); is-side = refl; step = steps-to c West (cell 8 (c .row)) (record { pointing = refl; column-from = omega arith; row-from = omega arith; column-at = omega arith; row-at = omega arith; within = record { column-in = omega arith; row-in = i .row-in } }) }, refl, omega arith)
+module _ (c : FieldCell) (i : Inside c) where
+  abbrev InRow : Type 0
+  InRow = (n : Neighbour c) × (n .at .row ≡ c .row) × (n .at .column ≡ c .column → ⊥)
 
-in-column : (c : FieldCell) → Inside c → (n : Neighbour c) × (n .at .column ≡ c .column) × (n .at .row ≡ c .row → ⊥)
-in-column c i = elim (decLt (c .row) 9) [ yes h ↦ south h | no h ↦ north (λ q. h q) ]
-  where
-    south : c .row < 9 → (n : Neighbour c) × (n .at .column ≡ c .column) × (n .at .row ≡ c .row → ⊥)
-    south h = (record { way = South; at = cell (c .column) (c .row + 1); is-side = refl; step = steps-to c South (cell (c .column) (c .row + 1)) (record { pointing = refl; column-from = omega arith; row-from = omega arith; column-at = omega arith; row-at = omega arith; within = record { column-in = i .column-in; row-in = omega arith } }) }, refl, omega arith)
+  abbrev InColumn : Type 0
+  InColumn = (n : Neighbour c) × (n .at .column ≡ c .column) × (n .at .row ≡ c .row → ⊥)
 
-    north : (c .row < 9 → ⊥) → (n : Neighbour c) × (n .at .column ≡ c .column) × (n .at .row ≡ c .row → ⊥)
-    north h = (record { way = North; at = cell (c .column) 8; is-side = refl; step = steps-to c North (cell (c .column) 8) (record { pointing = refl; column-from = omega arith; row-from = omega arith; column-at = omega arith; row-at = omega arith; within = record { column-in = i .column-in; row-in = omega arith } }) }, refl, omega arith)
+  in-row : InRow
+  in-row = elim (decLt (c .column) 9) [ yes h ↦ east h | no h ↦ west h ]
+    where
+      east : c .column < 9 → InRow
+      east h =
+          let to = cell (c .column + 1) (c .row) in
+          let a : Arrives c East to = record {
+            pointing = refl;
+            column-from = omega arith;
+            row-from = omega arith;
+            column-at = omega arith;
+            row-at = omega arith;
+            within = omega arith;
+          } in
+          (neighbour c East to refl a, refl, omega arith)
+
+      west : (c .column < 9 → ⊥) → InRow
+      west h =
+          let to = cell 8 (c .row) in
+          let a : Arrives c West to = record {
+            pointing = refl;
+            column-from = omega arith;
+            row-from = omega arith;
+            column-at = omega arith;
+            row-at = omega arith;
+            within = omega arith;
+          } in
+          (neighbour c West to refl a, refl, omega arith)
+
+  in-column : InColumn
+  in-column = elim (decLt (c .row) 9) [ yes h ↦ south h | no h ↦ north h ]
+    where
+      south : c .row < 9 → InColumn
+      south h =
+          let to = cell (c .column) (c .row + 1) in
+          let a : Arrives c South to = record {
+            pointing = refl;
+            column-from = omega arith;
+            row-from = omega arith;
+            column-at = omega arith;
+            row-at = omega arith;
+            within = omega arith;
+          } in
+          (neighbour c South to refl a, refl, omega arith)
+
+      north : (c .row < 9 → ⊥) → InColumn
+      north h =
+          let to = cell (c .column) 8 in
+          let a : Arrives c North to = record {
+            pointing = refl;
+            column-from = omega arith;
+            row-from = omega arith;
+            column-at = omega arith;
+            row-at = omega arith;
+            within = omega arith;
+          } in
+          (neighbour c North to refl a, refl, omega arith)
 
 -- three different places that pass a test are no more than the count
-three : (f : ℕ → Bool) (cells : List ℕ) (a b c : ℕ) → f 0 ≡ false → a < length cells → b < length cells → c < length cells → f (getD cells a 0) ≡ true → f (getD cells b 0) ≡ true → f (getD cells c 0) ≡ true
+three : (f : ℕ → Bool) (cells : List ℕ) (a b c : ℕ) → f 0 ≡ false → a < length cells → b < length cells → c < length cells
+    → f (getD cells a 0) ≡ true → f (getD cells b 0) ≡ true → f (getD cells c 0) ≡ true
     → (a ≡ b → ⊥) → (a ≡ c → ⊥) → (b ≡ c → ⊥) → 3 ≤ count f cells
 three f cells a b c z ha hb hc ta tb tc ab ac bc = once-room f z (a ∷ b ∷ c ∷ []) cells all once
   where
@@ -124,10 +158,12 @@ module _ (goal : ℕ) (goal-in : goal < 100) (walls : ℕ → Bool) where
     pub found : Found walls c way wall-cell side free-cell (cellAt goal)
 
   -- the corner beside a wall, by cells
-  pub corner-step : (from : ℕ) (d : CompassDir) (x : FieldCell) (side : CompassDir) (a b : FieldCell) → Found walls from d x side a b → stepped x side ≡ Cell b
+  pub corner-step : (from : ℕ) (d : CompassDir) (x : FieldCell) (side : CompassDir) (a b : FieldCell) → Found walls from d x side a b
+      → stepped x side ≡ Cell b
   corner-step from d x side a b f = ap (λ (y : FieldCell). stepped y side) (sym (cell-of-index x (stepped-cell (cellAt from) d x (f .ahead) .within))) ∙ f .cornered
 
-  pub goal-found : (from : ℕ) (d : CompassDir) (x : FieldCell) (side : CompassDir) (a b : FieldCell) → Found walls from d x side a b → indexOf b ≡ goal → Found walls from d x side a (cellAt goal)
+  pub goal-found : (from : ℕ) (d : CompassDir) (x : FieldCell) (side : CompassDir) (a b : FieldCell) → Found walls from d x side a b
+      → indexOf b ≡ goal → Found walls from d x side a (cellAt goal)
   goal-found from d x side a b f e =
       let i = stepped-cell x side b (corner-step from d x side a b f) .within in
       subst (λ (y : FieldCell). Found walls from d x side a y) (sym (cell-of-index b i) ∙ ap cellAt e) f
@@ -153,10 +189,12 @@ module _ (goal : ℕ) (goal-in : goal < 100) (walls : ℕ → Bool) where
     abbrev pub IsGoal : ℕ → Type 0
     IsGoal n = n ≡ goal
 
-    away : (from : ℕ) (d : CompassDir) (x : FieldCell) (side : CompassDir) (a b : FieldCell) → IsGoal from → isSide d ≡ true → Found walls from d x side a b → indexOf b ≡ goal → ⊥
+    away : (from : ℕ) (d : CompassDir) (x : FieldCell) (side : CompassDir) (a b : FieldCell) → IsGoal from → isSide d ≡ true
+        → Found walls from d x side a b → indexOf b ≡ goal → ⊥
     away from d x side a b g o f e = hides-apart from (record { way = d; wall-cell = x; side = side; free-cell = a; is-side = o; found = goal-found from d x side a b f e }) g
 
-    next : (Kept : ℕ → Type 0) (from : ℕ) (d : CompassDir) (n : FieldCell) → IsGoal from → isSide d ≡ true → stepped (cellAt from) d ≡ Cell n → walls (indexOf n) ≡ false → (Kept (indexOf n) → ⊥) → Odd (indexOf n)
+    next : (Kept : ℕ → Type 0) (from : ℕ) (d : CompassDir) (n : FieldCell) → IsGoal from → isSide d ≡ true → stepped (cellAt from) d ≡ Cell n
+        → walls (indexOf n) ≡ false → (Kept (indexOf n) → ⊥) → Odd (indexOf n)
     next Kept from d n g o e w k =
         let p : (goal % 10 + goal / 10 + n .column + n .row) % 2 ≡ 1 = subst (λ (m : ℕ). (m % 10 + m / 10 + n .column + n .row) % 2 ≡ 1) g (odd d (cellAt from) n o e) in
         let i = stepped-cell (cellAt from) d n e .within in

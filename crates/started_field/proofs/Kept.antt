@@ -1,10 +1,10 @@
 -- What marking a cell and seeing a cell keep, a whole wave of sight keeps: one induction for every fact about sight.
 -- Assumes nothing.
-use mathlib.Core.Path.{_≡_, refl, sym, _∙_, ap, subst}
+use mathlib.Core.Path.{_≡_, refl, sym, _∙_}
 use mathlib.Core.Bool.{Bool, true, false, cond, _||_}
 use mathlib.Core.List.{List, [], _∷_, _++_}
-use mathlib.Core.Logic.{_⊎_, inl, inr, ⊎-elim}
-use Prim.Native.Nat.{ℕ, zero, suc, _+_, _<_, _≤_}
+use mathlib.Core.Logic.{_⊎_, inl, inr}
+use Prim.Native.Nat.{ℕ, suc, _+_, _≤_}
 use native.Mathlib.Omega.{arith}
 use lib.ListN.{length, getD, set}
 use Rattle.utilities.specs.declared.CompassDir.{CompassDir}
@@ -15,7 +15,7 @@ use Rattle.fields.specs.declared.Stepped.{Stepped}
 use Rattle.fields.specs.declared.Stepped.the-variants.{Cell, Outside}
 use Rattle.fields.specs.Cell.{cellAt, indexOf, stepped}
 use Rattle.integration_field.specs.Word.{isLos, isGoal, isBlocked, isImpassable}
-use Rattle.integration_field.specs.Diagonal.{wallAt, betweenWalls}
+use Rattle.integration_field.specs.Diagonal.{wallAt}
 use Rattle.started_field.specs.Sight.{
   Sight,
   marked,
@@ -65,10 +65,12 @@ pub record Found (walls : ℕ → Bool) (from : ℕ) (d : CompassDir) (x : Field
 -- The facts `P` of sight are kept in a wave: over cells `From`, where the cells of lines are `Free`, and the walls stay `walls`.
 pub record Keeps (cornerLine : ℕ → List ℕ) (wave : ℕ) (walls : ℕ → Bool) (From Free : ℕ → Type 0) (P : Sight → Type 0) : Type 0 where
   pub same-walls : (s : Sight) → P s → (n : ℕ) → wallAt (s .cells) n ≡ walls n
-  pub marks : (value n : ℕ) (s : Sight) → P s → Free n → value ≤ wave + 10 → wallAt (s .cells) n ≡ false → isBlocked (getD (s .cells) n 0) ≡ false → P (listed value n s)
+  pub marks : (value n : ℕ) (s : Sight) → P s → Free n → value ≤ wave + 10 → wallAt (s .cells) n ≡ false → isBlocked (getD (s .cells) n 0) ≡ false
+      → P (listed value n s)
   pub sees : (from : ℕ) (d : CompassDir) (n : FieldCell) (s : Sight) → P s → From from → isSide d ≡ true → stepped (cellAt from) d ≡ Cell n
       → Flags (getD (s .cells) (indexOf n) 0) false false false false → P (seen wave (indexOf n) s)
-  pub draws : (from : ℕ) (d : CompassDir) (x : FieldCell) (side : CompassDir) (a b : FieldCell) → From from → isSide d ≡ true → Found walls from d x side a b
+  pub draws : (from : ℕ) (d : CompassDir) (x : FieldCell) (side : CompassDir) (a b : FieldCell) → From from → isSide d ≡ true
+      → Found walls from d x side a b
       → Each Free (cornerLine (indexOf b)) × (length (cornerLine (indexOf b)) ≤ 10)
 
 or-false : (a b : Bool) → (a || b) ≡ false → (a ≡ false) × (b ≡ false)
@@ -91,22 +93,26 @@ module _ (cornerLine : ℕ → List ℕ) (wave : ℕ) (walls : ℕ → Bool) (Fr
       go (stopped (s .cells) previous n) refl
       (λ m. kept-line ns (suc i) n (marked (wave + 1 + i) n s) m (λ j l. f (suc j) (omega arith)) (omega arith))
     where
-      go : (b : Bool) → stopped (s .cells) previous n ≡ b → (P (marked (wave + 1 + i) n s) → P (lineMarked wave (suc i) n ns (marked (wave + 1 + i) n s)))
+      go : (b : Bool) → stopped (s .cells) previous n ≡ b
+          → (P (marked (wave + 1 + i) n s) → P (lineMarked wave (suc i) n ns (marked (wave + 1 + i) n s)))
           → P (cond b s (lineMarked wave (suc i) n ns (marked (wave + 1 + i) n s)))
       go true e rest = p
       go false e rest = rest (kept-marked (wave + 1 + i) n s p (f 0 (omega arith)) (omega arith) (or-false _ _ e .0))
 
-  pub kept-extended : (corner : ℕ) (s : Sight) → P s → Each Free (cornerLine corner) → length (cornerLine corner) ≤ 10 → P (extended cornerLine wave corner s)
+  pub kept-extended : (corner : ℕ) (s : Sight) → P s → Each Free (cornerLine corner) → length (cornerLine corner) ≤ 10
+      → P (extended cornerLine wave corner s)
   unfolding extended
   kept-extended corner s p f h = kept-line (cornerLine corner) 0 corner s p f (omega arith)
 
   -- the wave cell looks at a wall, in one of the four directions
   module _ (from : ℕ) (d : CompassDir) (x : FieldCell) (inWave : From from) (side-way : isSide d ≡ true) (ahead : stepped (cellAt from) d ≡ Cell x) (wall : walls (indexOf x) ≡ true) where
-    pub kept-side : (side : CompassDir) (s : Sight) → (side ≡ firstSide d) ⊎ (side ≡ opposite (firstSide d)) → P s → P (sideTried cornerLine wave from (indexOf x) side s)
+    pub kept-side : (side : CompassDir) (s : Sight) → (side ≡ firstSide d) ⊎ (side ≡ opposite (firstSide d)) → P s
+        → P (sideTried cornerLine wave from (indexOf x) side s)
     unfolding sideTried
     kept-side side s w p = go (stepped (cellAt from) side) (stepped (cellAt (indexOf x)) side) refl refl
       where
-        corner : (a b : FieldCell) → stepped (cellAt from) side ≡ Cell a → stepped (cellAt (indexOf x)) side ≡ Cell b → (t u : Bool) → wallAt (s .cells) (indexOf a) ≡ t → wallAt (s .cells) (indexOf b) ≡ u
+        corner : (a b : FieldCell) → stepped (cellAt from) side ≡ Cell a → stepped (cellAt (indexOf x)) side ≡ Cell b → (t u : Bool)
+            → wallAt (s .cells) (indexOf a) ≡ t → wallAt (s .cells) (indexOf b) ≡ u
             → P (cornerOf cornerLine wave (cond t Outside (Cell a)) (cond u Outside (Cell b)) s)
         corner a b ea eb true u et eu = p
         corner a b ea eb false true et eu = p
@@ -126,7 +132,8 @@ module _ (cornerLine : ℕ → List ℕ) (wave : ℕ) (walls : ℕ → Bool) (Fr
         half true a = p
         half false a = p
 
-        go : (a b : Stepped) → stepped (cellAt from) side ≡ a → stepped (cellAt (indexOf x)) side ≡ b → P (cornerOf cornerLine wave (unlessWall (s .cells) a) (unlessWall (s .cells) b) s)
+        go : (a b : Stepped) → stepped (cellAt from) side ≡ a → stepped (cellAt (indexOf x)) side ≡ b
+            → P (cornerOf cornerLine wave (unlessWall (s .cells) a) (unlessWall (s .cells) b) s)
         go (Cell a) (Cell b) ea eb = corner a b ea eb (wallAt (s .cells) (indexOf a)) (wallAt (s .cells) (indexOf b)) refl refl
         go (Cell a) Outside ea eb = half (wallAt (s .cells) (indexOf a)) a
         go Outside b ea eb = p
@@ -136,11 +143,15 @@ module _ (cornerLine : ℕ → List ℕ) (wave : ℕ) (walls : ℕ → Bool) (Fr
     kept-wall s p = kept-side (opposite (firstSide d)) (sideTried cornerLine wave from (indexOf x) (firstSide d) s) (inr refl) (kept-side (firstSide d) s (inl refl) p)
 
   module _ (from : ℕ) (inWave : From from) where
-    pub kept-neighbour : (d : CompassDir) (n : FieldCell) (s : Sight) → isSide d ≡ true → stepped (cellAt from) d ≡ Cell n → P s → P (neighbourLooked cornerLine wave from d (indexOf n) s)
+    pub kept-neighbour : (d : CompassDir) (n : FieldCell) (s : Sight) → isSide d ≡ true → stepped (cellAt from) d ≡ Cell n → P s
+        → P (neighbourLooked cornerLine wave from d (indexOf n) s)
     unfolding neighbourLooked
-    kept-neighbour d n s o e p = go (isBlocked (getD (s .cells) (indexOf n) 0)) refl (isGoal (getD (s .cells) (indexOf n) 0)) refl (isImpassable (getD (s .cells) (indexOf n) 0)) refl (isLos (getD (s .cells) (indexOf n) 0)) refl
+    kept-neighbour d n s o e p = go (isBlocked x) refl (isGoal x) refl (isImpassable x) refl (isLos x) refl
       where
-        go : (b : Bool) → isBlocked (getD (s .cells) (indexOf n) 0) ≡ b → (g : Bool) → isGoal (getD (s .cells) (indexOf n) 0) ≡ g → (w : Bool) → isImpassable (getD (s .cells) (indexOf n) 0) ≡ w → (l : Bool) → isLos (getD (s .cells) (indexOf n) 0) ≡ l
+        x : ℕ
+        x = getD (s .cells) (indexOf n) 0
+
+        go : (b : Bool) → isBlocked x ≡ b → (g : Bool) → isGoal x ≡ g → (w : Bool) → isImpassable x ≡ w → (l : Bool) → isLos x ≡ l
             → P (cond (b || g) s (cond w (wallMet cornerLine wave from (indexOf n) d s) (cond l s (seen wave (indexOf n) s))))
         go true eb g eg w ew l el = p
         go false eb true eg w ew l el = p

@@ -1,18 +1,16 @@
 -- The lines of corners are such as sight needs: inside the sector, at most 10 cells, and never over the goal.
 -- Assumes nothing.
-use mathlib.Core.Path.{_≡_, refl, sym, _∙_, ap, subst}
-use mathlib.Core.List.{List, map}
-use Prim.Native.Nat.{ℕ, _<_, _≤_}
+use mathlib.Core.Path.{_≡_, sym, _∙_, ap}
+use mathlib.Core.List.{List}
+use Prim.Native.Nat.{ℕ, _<_}
 use native.Mathlib.Omega.{arith}
 use lib.ListN.{length, getD, length-map, List·getD-map}
 use Rattle.fields.specs.declared.FieldCell.{FieldCell}
 use Rattle.fields.specs.Cell.{cell, Inside, cellAt, indexOf}
 use Rattle.fields.proofs.Steps.{cell-inside, cell-of-index, index-of-cell, index-below}
 use Rattle.bresenham.specs.Line.{line}
-use Rattle.bresenham.specs.Nearest.{Spanned}
 use Rattle.bresenham.proofs.Theorem.{line-first, line-some, line-room, line-spanned, line-inside}
 use Rattle.line_end.specs.LineEnd.{lineEnd}
-use Rattle.line_end.specs.Away.{Between}
 use Rattle.line_end.proofs.Laws.{end-inside, misses-goal}
 use Rattle.started_field.specs.CornerLine.{cornerLine}
 use Rattle.started_field.specs.Lines.{Lines}

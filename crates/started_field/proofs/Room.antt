@@ -3,10 +3,10 @@
 --     room-queued, room-queue      at most 100 queued cells, and fewer while a cell is neither LOS nor BLOCKED
 --     room-marked .. room-wave     each step of sight keeps room
 -- Assumes nothing.
-use mathlib.Core.Path.{_≡_, refl, sym, _∙_, ap, subst}
+use mathlib.Core.Path.{_≡_, refl, sym, _∙_, ap}
 use mathlib.Core.Bool.{Bool, true, false, cond, _||_}
-use mathlib.Core.List.{List, [], _∷_, _++_}
-use Prim.Native.Nat.{ℕ, zero, suc, _+_, _<_, _≤_}
+use mathlib.Core.List.{List, []}
+use Prim.Native.Nat.{ℕ, _+_, _<_, _≤_}
 use native.Mathlib.Omega.{arith}
 use lib.ListN.{length, getD, set, length-set}
 use Rattle.utilities.specs.declared.CompassDir.{CompassDir}
@@ -36,8 +36,8 @@ use Rattle.started_field.specs.Sight.{
 }
 use Rattle.started_field.specs.Lines.{Lines}
 use Rattle.started_field.specs.Room.{Room}
-use Rattle.started_field.proofs.Count.{Each, Once, count, count-length, count-room, once-room, each-more, once-more, at-set}
-use Rattle.started_field.proofs.Words.{Flags, corner-flags, seen-flags}
+use Rattle.started_field.proofs.Count.{Each, count, count-length, count-room, once-room, each-more, once-more, at-set}
+use Rattle.started_field.proofs.Words.{corner-flags, seen-flags}
 use Rattle.started_field.proofs.Kept.{listed, Keeps, kept-line, kept-extended, kept-around, kept-wave}
 
 -- LOS or BLOCKED
@@ -103,7 +103,8 @@ module _ (s : Sight) (r : Room s) where
         queued-once = r .queued-once;
       }
 
-  pub room-seen : (wave n : ℕ) → n < 100 → wave < 0x10000 → isLos (getD (s .cells) n 0) ≡ false → isBlocked (getD (s .cells) n 0) ≡ false → Room (seen wave n s)
+  pub room-seen : (wave n : ℕ) → n < 100 → wave < 0x10000 → isLos (getD (s .cells) n 0) ≡ false → isBlocked (getD (s .cells) n 0) ≡ false
+      → Room (seen wave n s)
   unfolding seen
   room-seen wave n h v l b =
       let w = wave + 0x10000 in
@@ -141,7 +142,8 @@ room-begins s r = record {
 }
 
 -- walls stay, where a word that is no wall is written over a word that is none
-pub walls-stay : (walls : ℕ → Bool) (cells : List ℕ) (n v : ℕ) → n < length cells → ((m : ℕ) → wallAt cells m ≡ walls m) → wallAt cells n ≡ false → isImpassable v ≡ false → (m : ℕ) → wallAt (set cells n v) m ≡ walls m
+pub walls-stay : (walls : ℕ → Bool) (cells : List ℕ) (n v : ℕ) → n < length cells → ((m : ℕ) → wallAt cells m ≡ walls m) → wallAt cells n ≡ false
+    → isImpassable v ≡ false → (m : ℕ) → wallAt (set cells n v) m ≡ walls m
 walls-stay walls cells n v h same w f m =
     at-set (λ x. isImpassable x ≡ walls m) cells n v m h (λ q. f ∙ sym w ∙ same n ∙ ap walls (sym q)) (λ q. same m)
 
@@ -191,7 +193,8 @@ module _ (goal : ℕ) (cornerLine : ℕ → List ℕ) (lines : Lines goal corner
   unfolding sideTried
   room-side s r from wall side = go (stepped (cellAt from) side) (stepped (cellAt wall) side) refl
     where
-      corner : (a b : FieldCell) → stepped (cellAt wall) side ≡ Cell b → (t u : Bool) → Room (cornerOf cornerLine wave (cond t Outside (Cell a)) (cond u Outside (Cell b)) s)
+      corner : (a b : FieldCell) → stepped (cellAt wall) side ≡ Cell b → (t u : Bool)
+          → Room (cornerOf cornerLine wave (cond t Outside (Cell a)) (cond u Outside (Cell b)) s)
       corner a b e true u = r
       corner a b e false true = r
       corner a b e false false = room-extended s r (indexOf b) (index-below b (stepped-cell (cellAt wall) side b e .within))
@@ -213,7 +216,8 @@ module _ (goal : ℕ) (cornerLine : ℕ → List ℕ) (lines : Lines goal corner
   unfolding neighbourLooked
   room-neighbour s r from d n h = go (isBlocked (getD (s .cells) n 0)) refl (isGoal (getD (s .cells) n 0)) (isImpassable (getD (s .cells) n 0)) (isLos (getD (s .cells) n 0)) refl
     where
-      go : (b : Bool) → isBlocked (getD (s .cells) n 0) ≡ b → (g w l : Bool) → isLos (getD (s .cells) n 0) ≡ l → Room (cond (b || g) s (cond w (wallMet cornerLine wave from n d s) (cond l s (seen wave n s))))
+      go : (b : Bool) → isBlocked (getD (s .cells) n 0) ≡ b → (g w l : Bool) → isLos (getD (s .cells) n 0) ≡ l
+          → Room (cond (b || g) s (cond w (wallMet cornerLine wave from n d s) (cond l s (seen wave n s))))
       go true eb g w l el = r
       go false eb true w l el = r
       go false eb false true l el = room-wall s r from n d

@@ -5,10 +5,10 @@
 --     odd                         a step changes the parity of column plus row
 --     sideways-away               a step and a step sideways do not come back
 -- Assumes nothing.
-use mathlib.Core.Path.{_≡_, refl, sym, _∙_, ap, subst}
-use mathlib.Core.Bool.{Bool, true, false}
+use mathlib.Core.Path.{_≡_, refl, sym, subst}
+use mathlib.Core.Bool.{true, false}
 use mathlib.Core.Logic.{_⊎_, inl, inr, ⊎-elim}
-use Prim.Native.Nat.{ℕ, _+_, _-_, _<_, _≤_, _%_}
+use Prim.Native.Nat.{ℕ, _+_, _%_}
 use native.Mathlib.Omega.{arith}
 use Rattle.utilities.specs.declared.CompassDir.{CompassDir}
 use Rattle.utilities.specs.declared.CompassDir.the-variants.{North, East, South, West, NorthEast, SouthEast, SouthWest, NorthWest, Zero}
@@ -64,7 +64,8 @@ back d c n o i e =
     let t = turned d o in
     steps-to n (opposite d) c (record { pointing = t .points-back; column-from = omega arith; row-from = omega arith; column-at = omega arith; row-at = omega arith; within = i })
 
-pub square : (d side : CompassDir) (c x a g : FieldCell) → stepped c d ≡ Cell x → stepped x side ≡ Cell g → stepped c side ≡ Cell a → stepped a d ≡ Cell g
+pub square : (d side : CompassDir) (c x a g : FieldCell) → stepped c d ≡ Cell x → stepped x side ≡ Cell g → stepped c side ≡ Cell a
+    → stepped a d ≡ Cell g
 square d side c x a g ex eg ea =
     let p = stepped-cell c d x ex in
     let q = stepped-cell x side g eg in

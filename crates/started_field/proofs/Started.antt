@@ -1,28 +1,38 @@
 -- The theorems at the started field of costs and a step.
 --     started-sizes      theorem (a): 100 places, and any falling number of at least 100
---     started-goal       theorems (b) and (c) for a goal
---     started-window     theorem (c) for a window
---     started-field      both, for every step that is accepted
+--     any-number         .. gives the same sight
+--     started-field      theorems (b) and (c), for every step that is accepted
+--     answer-told        the same of what `init` answers
 -- Assumes nothing.
-use mathlib.Core.Path.{_≡_, refl, sym, _∙_, ap, subst}
+use mathlib.Core.Path.{_≡_, refl, sym, _∙_, ap}
 use mathlib.Core.Bool.{Bool, true, false, cond, not}
 use mathlib.Core.List.{List}
 use Prim.Native.Nat.{ℕ, _<_, _≤_}
 use native.Mathlib.Omega.{arith}
 use lib.Dec.{eqb}
-use lib.ListN.{length, getD}
-use borrow.Author.Tests.{eqb-true, eqb-false, not-false}
+use lib.ListN.{length}
+use borrow.Author.Tests.{eqb-true, eqb-false}
 use Rattle.route.specs.Step.{goalOf, isWindow, windowCells, stepNumber}
 use Rattle.route.proofs.Accepted.{accepted-goal, accepted-window}
 use Rattle.route.proofs.Windows.{window-at, window-few, window-increases}
-use Rattle.integration_field.specs.declared.IntegrationField.{IntegrationField}
-use Rattle.integration_field.specs.Listed.{listOf, withCorners}
+use Rattle.integration_field.specs.Listed.{withCorners}
 use Rattle.integration_field.proofs.Lists.{padded-length, padded-beyond, corners-listed}
-use Rattle.started_field.specs.Sight.{walls, Sight, sightAfter}
+use Rattle.started_field.specs.Sight.{walls, sightAfter}
 use Rattle.started_field.specs.CornerLine.{cornerLine}
 use Rattle.started_field.specs.Sizes.{Sizes}
 use Rattle.started_field.specs.StartedCell.{GoalStarted, WindowStarted}
-use Rattle.started_field.specs.Started.{sightFrom, startedFrom, startedAt, started, initNumber, StartedField}
+use Rattle.started_field.specs.Started.{
+  sightFrom,
+  startedFrom,
+  startedAt,
+  started,
+  initNumber,
+  initRefused,
+  initAccepted,
+  initAnswer,
+  StartedField,
+}
+use Rattle.started_field.specs.declared.InitAnswer.{InitAnswer}
 use Rattle.started_field.proofs.Waves.{sizes, goal-started}
 use Rattle.started_field.proofs.Window.{window-started}
 use Rattle.started_field.proofs.Lines.{corner-lines}
@@ -78,3 +88,12 @@ pub accepted-field : (costs step : List ℕ) → initNumber costs step ≡ 0 →
 accepted-field costs step e =
     let a = accepted costs step e in
     started-field costs (a .0) step (a .1)
+
+-- the same of an answer of `init`: where its number is 0, its field is told
+pub answer-told : (costs step : List ℕ) (r : InitAnswer) → r ≡ initAnswer costs step → r .number ≡ 0 → StartedField costs step (r .field)
+unfolding initAnswer
+answer-told costs step r e n = go (eqb (initNumber costs step) 0) refl e
+  where
+    go : (b : Bool) → eqb (initNumber costs step) 0 ≡ b → r ≡ cond b (initAccepted (started costs step)) (initRefused (initNumber costs step)) → StartedField costs step (r .field)
+    go true q f = rw f (accepted-field costs step (eqb-true (initNumber costs step) 0 q))
+    go false q f = absurd (eqb-false (initNumber costs step) 0 q (sym (ap (λ (a : InitAnswer). a .number) f) ∙ n))

@@ -1,12 +1,11 @@
 -- What holds of sight throughout a wave: its cells, its list, and how many cells it has met.
 -- Assumes nothing.
 use mathlib.Core.Path.{_≡_, refl, sym, _∙_, ap, subst}
-use mathlib.Core.Bool.{Bool, true, false, cond, _||_}
+use mathlib.Core.Bool.{Bool, true, false, _||_}
 use mathlib.Core.List.{List, [], _∷_, _++_}
-use Prim.Native.Nat.{ℕ, zero, suc, _+_, _<_, _≤_}
+use Prim.Native.Nat.{ℕ, suc, _+_, _<_, _≤_}
 use native.Mathlib.Omega.{arith}
-use native.Mathlib.Decide.{ℕ-discrete}
-use lib.ListN.{length, getD, set, length-set}
+use lib.ListN.{length, getD, set}
 use Rattle.utilities.specs.declared.CompassDir.{CompassDir}
 use Rattle.fields.specs.declared.FieldCell.{FieldCell}
 use Rattle.fields.specs.declared.Stepped.the-variants.{Cell}
@@ -18,8 +17,8 @@ use Rattle.started_field.specs.Sight.{Sight, seen}
 use Rattle.started_field.specs.Lines.{Lines}
 use Rattle.started_field.specs.Room.{Room}
 use Rattle.started_field.specs.StartedCell.{Among, SightCell}
-use Rattle.started_field.specs.StartedCell.SightCell.{in-sight, corner, unseen}
-use Rattle.started_field.proofs.Count.{Each, bit, count, count-set, count-length, count-room, each-more, at-set, more-length, more-before, more-last}
+use Rattle.started_field.specs.StartedCell.SightCell.{in-sight, corner}
+use Rattle.started_field.proofs.Count.{Each, bit, count, count-set, count-room, each-more, at-set, more-length, more-before, more-last}
 use Rattle.started_field.proofs.Words.{Flags, corner-flags, seen-flags}
 use Rattle.started_field.proofs.Kept.{isSide, listed, Found, Keeps}
 use Rattle.started_field.proofs.Room.{room-listed, room-seen, walls-stay}
@@ -80,7 +79,8 @@ module _ (goal : ℕ) (walls : ℕ → Bool) where
     other-after : (i : ℕ) → i < 100 → walls i ≡ false → (i ≡ goal → ⊥) → SightCell (getD (set (s .cells) n v) i 0)
     other-after i k t q = at-set SightCell (s .cells) n v i fits (λ e. c) (λ e. p .at-other i k t q)
 
-  pub sound-listed : (s : Sight) → Sound s → (value n : ℕ) → n < 100 → (n ≡ goal → ⊥) → value ≤ 110 → wallAt (s .cells) n ≡ false → isBlocked (getD (s .cells) n 0) ≡ false → Sound (listed value n s)
+  pub sound-listed : (s : Sight) → Sound s → (value n : ℕ) → n < 100 → (n ≡ goal → ⊥) → value ≤ 110 → wallAt (s .cells) n ≡ false
+      → isBlocked (getD (s .cells) n 0) ≡ false → Sound (listed value n s)
   sound-listed s p value n h apart v w b =
       let f = corner-flags value (omega arith) in
       let c : SightCell (value + 0x4040000) = corner value v refl in
@@ -95,7 +95,8 @@ module _ (goal : ℕ) (walls : ℕ → Bool) where
             (λ q e. among-more i n (s .corners) (p .all-listed i k e));
       }
 
-  pub sound-seen : (s : Sight) → Sound s → (wave n : ℕ) → n < 100 → 1 ≤ wave → wave ≤ 99 → Flags (getD (s .cells) n 0) false false false false → Sound (seen wave n s)
+  pub sound-seen : (s : Sight) → Sound s → (wave n : ℕ) → n < 100 → 1 ≤ wave → wave ≤ 99 → Flags (getD (s .cells) n 0) false false false false
+      → Sound (seen wave n s)
   unfolding seen
   sound-seen s p wave n h least most was =
       let f = seen-flags wave (omega arith) in
@@ -133,7 +134,8 @@ module _ (goal : ℕ) (walls : ℕ → Bool) where
     abbrev pub Free : ℕ → Type 0
     Free n = (n < 100) × (n ≡ goal → ⊥)
 
-    marks : (value n : ℕ) (s : Sight) → Wave least Next Kept Met s → Free n → value ≤ wave + 10 → wallAt (s .cells) n ≡ false → isBlocked (getD (s .cells) n 0) ≡ false → Wave least Next Kept Met (listed value n s)
+    marks : (value n : ℕ) (s : Sight) → Wave least Next Kept Met s → Free n → value ≤ wave + 10 → wallAt (s .cells) n ≡ false
+        → isBlocked (getD (s .cells) n 0) ≡ false → Wave least Next Kept Met (listed value n s)
     marks value n s p f v w b =
         let h : n < 100 = f .0 in
         let x = value + 0x4040000 in
@@ -152,7 +154,8 @@ module _ (goal : ℕ) (walls : ℕ → Bool) where
           stays-met = λ c k e. at-set (λ y. isMet y ≡ true) (s .cells) n x c fit (λ q. now) (λ q. p .stays-met c k e);
         }
 
-    sees : (from : ℕ) (d : CompassDir) (n : FieldCell) (s : Sight) → Wave least Next Kept Met s → From from → isSide d ≡ true → stepped (cellAt from) d ≡ Cell n
+    sees : (from : ℕ) (d : CompassDir) (n : FieldCell) (s : Sight) → Wave least Next Kept Met s → From from → isSide d ≡ true
+        → stepped (cellAt from) d ≡ Cell n
         → Flags (getD (s .cells) (indexOf n) 0) false false false false → Wave least Next Kept Met (seen wave (indexOf n) s)
     unfolding seen
     sees from d n s p inWave o e f =

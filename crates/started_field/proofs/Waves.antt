@@ -5,35 +5,34 @@
 --     goal-started    theorems (b) and (c)
 -- Assumes nothing.
 use mathlib.Core.Path.{_≡_, refl, sym, _∙_, ap, subst}
-use mathlib.Core.Bool.{Bool, true, false, cond, _||_}
-use mathlib.Core.List.{List, [], _∷_, _++_, map}
+use mathlib.Core.Bool.{Bool, true, false, cond}
+use mathlib.Core.List.{List, [], _∷_}
 use Prim.Native.Nat.{ℕ, zero, suc, _+_, _-_, _<_, _≤_}
 use native.Mathlib.Omega.{arith}
 use native.Mathlib.Decide.{ℕ-discrete}
 use borrow.Author.Tests.{eqb-true, eqb-false}
 use lib.Dec.{eqb}
-use lib.ListN.{length, getD, set, length-set, length-map}
+use lib.ListN.{length, getD, length-set, length-map}
 use lib.Seq.{getD-set-same}
 use Rattle.utilities.specs.declared.CompassDir.{CompassDir}
-use Rattle.utilities.specs.Compass.{orthogonal}
 use Rattle.fields.specs.declared.FieldCell.{FieldCell}
 use Rattle.fields.specs.declared.Stepped.the-variants.{Cell}
 use Rattle.fields.specs.Cell.{cellAt, indexOf, stepped}
-use Rattle.integration_field.specs.Word.{isLos, isGoal, isBlocked, isImpassable}
+use Rattle.integration_field.specs.Word.{isGoal, isBlocked, isImpassable}
 use Rattle.integration_field.specs.Diagonal.{wallAt}
-use Rattle.started_field.specs.Sight.{wallOr, walls, withGoal, Sight, lookedAround, waveLooked, sightAfter}
+use Rattle.started_field.specs.Sight.{wallOr, walls, withGoal, Sight, waveLooked, sightAfter}
 use Rattle.started_field.specs.Lines.{Lines}
 use Rattle.started_field.specs.Room.{Room}
 use Rattle.started_field.specs.Sizes.{Sizes}
-use Rattle.started_field.specs.StartedCell.{Among, SightCell, GoalStays, GoalStarted}
+use Rattle.started_field.specs.StartedCell.{SightCell, GoalStays, GoalStarted}
 use Rattle.started_field.specs.StartedCell.SightCell.{in-sight, corner, unseen}
 use Rattle.started_field.proofs.Count.{Each, Once, count, count-length, once-room, at-set}
 use Rattle.started_field.proofs.Words.{word-at, corner-flags, seen-flags}
-use Rattle.started_field.proofs.Kept.{isSide, Found, Keeps, kept-around, kept-wave}
+use Rattle.started_field.proofs.Kept.{isSide, Found, kept-around, kept-wave}
 use Rattle.started_field.proofs.Room.{room-begins, room-corners, room-queued}
 use Rattle.started_field.proofs.Sides.{false-true}
 use Rattle.started_field.proofs.Wave.{isMet, true-false, Sound, met, Wave, wave-keeps}
-use Rattle.started_field.proofs.FirstWave.{Never, Hides, goal-found, Odd, hides-even, IsGoal, First, first-keeps, first-meets, first-blocks}
+use Rattle.started_field.proofs.FirstWave.{Never, Hides, goal-found, hides-even, IsGoal, First, first-keeps, first-meets, first-blocks}
 
 -- what a wave begins with
 abbrev pub begun : Sight → Sight
@@ -45,13 +44,15 @@ sound-begins goal walls s p =
 
 -- an empty queue changes nothing more
 module _ (cornerLine : ℕ → List ℕ) (cells : List ℕ) (goal : ℕ) where
-  pub one-more : (k : ℕ) → sightAfter cornerLine cells goal k .queue ≡ [] → sightAfter cornerLine cells goal (suc k) ≡ sightAfter cornerLine cells goal k
+  pub one-more : (k : ℕ) → sightAfter cornerLine cells goal k .queue ≡ []
+      → sightAfter cornerLine cells goal (suc k) ≡ sightAfter cornerLine cells goal k
   unfolding sightAfter waveLooked
   one-more k e =
       let s = sightAfter cornerLine cells goal k in
       ap (λ (q : List ℕ). waveLooked cornerLine (suc k) q (begun s)) e ∙ ap (λ (q : List ℕ). record { cells = s .cells; corners = s .corners; queue = q }) (sym e)
 
-  pub ended : (k n : ℕ) → k ≤ n → sightAfter cornerLine cells goal k .queue ≡ [] → sightAfter cornerLine cells goal n ≡ sightAfter cornerLine cells goal k
+  pub ended : (k n : ℕ) → k ≤ n → sightAfter cornerLine cells goal k .queue ≡ []
+      → sightAfter cornerLine cells goal n ≡ sightAfter cornerLine cells goal k
   ended k n h e = go (n - k) n (omega arith)
     where
       go : (j m : ℕ) → m ≡ j + k → sightAfter cornerLine cells goal m ≡ sightAfter cornerLine cells goal k
@@ -189,10 +190,12 @@ module _ (goal : ℕ) (goal-in : goal < 100) (costs : List ℕ) (hundred : lengt
           stays = λ c h q. first-blocks goal goal-in wallsOf cornerLine lines c h (q .0) (q .1) start start-first;
         }
 
-    away : (from : ℕ) (d : CompassDir) (x : FieldCell) (side : CompassDir) (a b : FieldCell) → Apart from → isSide d ≡ true → Found wallsOf from d x side a b → indexOf b ≡ goal → ⊥
+    away : (from : ℕ) (d : CompassDir) (x : FieldCell) (side : CompassDir) (a b : FieldCell) → Apart from → isSide d ≡ true
+        → Found wallsOf from d x side a b → indexOf b ≡ goal → ⊥
     away from d x side a b f o g e = f (record { way = d; wall-cell = x; side = side; free-cell = a; is-side = o; found = goal-found goal goal-in wallsOf from d x side a b g e })
 
-    next : (from : ℕ) (d : CompassDir) (n : FieldCell) → Apart from → isSide d ≡ true → stepped (cellAt from) d ≡ Cell n → wallsOf (indexOf n) ≡ false → (Blocked (indexOf n) → ⊥) → Apart (indexOf n)
+    next : (from : ℕ) (d : CompassDir) (n : FieldCell) → Apart from → isSide d ≡ true → stepped (cellAt from) d ≡ Cell n
+        → wallsOf (indexOf n) ≡ false → (Blocked (indexOf n) → ⊥) → Apart (indexOf n)
     next from d n f o e w b h = b (h, w)
 
     left-wave : (k : ℕ) (s : Sight) → Left k s → Left (suc k) (waveLooked cornerLine (suc k) (s .queue) (begun s))

@@ -1,7 +1,7 @@
 -- How a field is started (01, "Integration: init"). Lists here have any length, and there is a wave k for every k:
 -- that 100 places and 100 waves always do is a theorem (Sizes).
 -- Assumes nothing.
-use mathlib.Core.Bool.{Bool, true, false, cond, _&&_, _||_}
+use mathlib.Core.Bool.{Bool, cond, _||_}
 use mathlib.Core.List.{List, [], _∷_, _++_, map}
 use Prim.Native.Nat.{ℕ, zero, suc, _+_}
 use lib.Dec.{eqb}

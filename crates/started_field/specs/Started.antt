@@ -1,9 +1,9 @@
 -- The started field of costs and a step, and what `init` answers (01, "Integration: init"; the table of "A leg").
 -- Assumes nothing.
 use mathlib.Core.Path.{_≡_}
-use mathlib.Core.Bool.{Bool, true, false, cond, not}
+use mathlib.Core.Bool.{true, false, cond, not}
 use mathlib.Core.List.{List}
-use Prim.Native.Nat.{ℕ, _<_, _≤_}
+use Prim.Native.Nat.{ℕ, _≤_}
 use lib.Dec.{eqb}
 use lib.ListN.{length, getD}
 use Rattle.route.specs.Step.{goalOf, isWindow, windowCells, stepNumber}
@@ -18,13 +18,15 @@ use Rattle.started_field.specs.StartedCell.{GoalStarted, WindowStarted}
 unfoldable pub sightFrom : List ℕ → ℕ → Sight
 sightFrom costs goal = sightAfter (cornerLine goal) (walls costs) goal 100
 
+-- the field started with a goal: the cells that sight leaves, and the corners that it lists
 unfoldable pub startedFrom : List ℕ → ℕ → IntegrationField
 startedFrom costs goal = withCorners (sightFrom costs goal .cells) (sightFrom costs goal .corners)
 
--- window cells are listed as corners in order
+-- the field started with a window: its cells are listed as corners in order
 unfoldable pub startedAt : List ℕ → List ℕ → IntegrationField
 startedAt costs window = withCorners (withPortals window (walls costs)) window
 
+-- the started field of costs and a step
 unfoldable pub started : List ℕ → List ℕ → IntegrationField
 started costs step = cond (isWindow step) (startedAt costs (windowCells step)) (startedFrom costs (goalOf step))
 
@@ -32,6 +34,7 @@ started costs step = cond (isWindow step) (startedAt costs (windowCells step)) (
 unfoldable pub initNumber : List ℕ → List ℕ → ℕ
 initNumber costs step = cond (not (eqb (length costs) 100)) 1 (stepNumber step)
 
+-- A refusal answers its number with every other part zero; an accepted call's number is 0.
 abbrev pub initRefused : ℕ → InitAnswer
 initRefused n = record { number = n; field = zeroField }
 

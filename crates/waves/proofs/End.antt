@@ -3,22 +3,21 @@
 --     few             the count of waves is below the number of cells
 --     rests           running on changes nothing
 --     least           no walk comes to less than what the last wave leaves
---     least-any       nor one that enters at any sum, where each cell that it may enter is a corner or held most before
 --     counted         wave i + 1 changes a cell if and only if i is below the count
 -- Assumes nothing.
-use mathlib.Core.Path.{_≡_, refl}
-use mathlib.Core.Bool.{Bool, true, false}
-use mathlib.Core.Logic.{_⊎_, inl, inr, _↔_}
+use mathlib.Core.Path.{_≡_}
+use mathlib.Core.Bool.{false}
+use mathlib.Core.Logic.{_↔_}
 use Prim.Native.Nat.{ℕ, zero, suc, _+_, _-_, _≤_, _<_}
-use native.Mathlib.Nat.{lt-of-not-le, zero-add, suc-add, add-zero}
+use native.Mathlib.Nat.{zero-add, suc-add}
 use native.Mathlib.Omega.{arith}
 use native.Mathlib.Decide.{decLt}
 use lib.Dec.{leb}
 use borrow.Author.Tests.{le-leb, lt-leb}
-use Rattle.waves.specs.Walks.{Grid, Walk, start, move, Below}
-use Rattle.waves.specs.Waves.{Changed, offer, Waves, Ends}
-use Rattle.waves.proofs.Count.{bit, count, count-le, count-more, leb-grows}
-use Rattle.waves.proofs.Least.{below-before, walk-above, Reached, relaxed}
+use Rattle.waves.specs.Walks.{Grid, Walk, Below}
+use Rattle.waves.specs.Waves.{Changed, Waves, Ends}
+use Rattle.waves.proofs.Count.{count, count-le, count-more, leb-grows}
+use Rattle.waves.proofs.Least.{walk-above}
 
 module _ (g : Grid) (Open : ℕ → Type 0) (value : ℕ → ℕ → ℕ) (w : Waves g Open value) where
   -- ---- a bound
@@ -75,35 +74,3 @@ module _ (g : Grid) (Open : ℕ → Type 0) (value : ℕ → ℕ → ℕ) (w : W
         go : (x : ℕ) × Changed g Open value (suc i) x → Dec (i < n) → i < n
         go c (yes h) = h
         go c (no h) = let e : (i - n) + n ≡ i = omega arith in absurd (still-on (i - n) (c .0) (rw e (c .1)))
-
-    -- at rest every reached cell has made its offers
-    settled : (y x : ℕ) → Reached g Open value w n y → g .Beside y x → Open x → value n x ≤ offer g Open value n y x
-    settled y x r b o = go (relaxed g Open value w (suc n) y x (on r) b o)
-      where
-        same : (z : ℕ) → value (suc n) z ≡ value n z
-        same z = let h : value (suc n) z ≡ value n z = omega (arith, w .falls n z, ends .still z) in h
-
-        on : Reached g Open value w n y → Reached g Open value w (suc n) y
-        on (inl c) = inl c
-        on (inr l) = inr (omega (arith, same y))
-
-        go : Changed g Open value (suc n) y ⊎ (value (suc n) x ≤ offer g Open value (suc n) y x) → value n x ≤ offer g Open value n y x
-        go (inl c) = absurd (ends .still y c)
-        go (inr l) = omega (arith, same x, same y)
-
-    -- Walks that enter a cell at any sum, and again: `Enter` says which cells. Each of those is a corner, or held before at least what any
-    -- of them did.
-    module _ (Enter : ℕ → Type 0) (may : (x : ℕ) → Enter x → Open x)
-        (most : (y : ℕ) → Enter y → g .Corner y ⊎ ((x : ℕ) → Enter x → g .before x ≤ g .before y)) where
-      from : (j y t : ℕ) → Walk g (λ x s. Enter x) j y t → g .Corner y ⊎ ((x : ℕ) → Enter x → g .before x ≤ g .before y)
-      from j y t (start c e) = inl c
-      from j y t (move p b o e) = most y o
-
-      pub least-any : (j x s : ℕ) → Walk g (λ x s. Enter x) j x s → value n x ≤ s
-      least-any j x s (start c e) = omega (arith, below-before g Open value w n x)
-      least-any j x s (move {k = i} {y = y} {t = t} p b o e) = go (least-any i y t p) (from i y t p) (decLt (value n y) (g .before y))
-        where
-          go : value n y ≤ t → g .Corner y ⊎ ((z : ℕ) → Enter z → g .before z ≤ g .before y) → Dec (value n y < g .before y) → value n x ≤ s
-          go v (inl c) d = omega (arith, settled y x (inl c) b (may x o))
-          go v (inr m) (yes l) = omega (arith, settled y x (inr l) b (may x o))
-          go v (inr m) (no l) = omega (arith, below-before g Open value w n x, m x o)

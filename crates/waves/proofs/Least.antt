@@ -6,7 +6,7 @@
 -- Assumes nothing.
 use mathlib.Core.Path.{_≡_}
 use mathlib.Core.Logic.{_⊎_, inl, inr}
-use Prim.Native.Nat.{ℕ, zero, suc, _+_, _≤_, _<_}
+use Prim.Native.Nat.{ℕ, zero, suc, _≤_, _<_}
 use native.Mathlib.Nat.{lt-of-not-le}
 use native.Mathlib.Omega.{arith}
 use native.Mathlib.Decide.{decLe}
@@ -18,7 +18,7 @@ walk-into g A B f (start c e) = start c e
 walk-into g A B f (move {x = x} {s = s} p b a e) = move (walk-into g A B f p) b (f x s a) e
 
 module _ (g : Grid) (Open : ℕ → Type 0) (value : ℕ → ℕ → ℕ) (w : Waves g Open value) where
-  pub below-before : (k x : ℕ) → value k x ≤ g .before x
+  below-before : (k x : ℕ) → value k x ≤ g .before x
   below-before zero x = omega (arith, w .begins x)
   below-before (suc k) x = omega (arith, w .falls k x, below-before k x)
 
@@ -42,11 +42,11 @@ module _ (g : Grid) (Open : ℕ → Type 0) (value : ℕ → ℕ → ℕ) (w : W
   -- ---- no walk is below
 
   -- a cell that the waves have come to
-  abbrev pub Reached : ℕ → ℕ → Type 0
+  abbrev Reached : ℕ → ℕ → Type 0
   Reached k y = g .Corner y ⊎ (value k y < g .before y)
 
   -- a reached cell that the last wave did not change has made its offers
-  pub relaxed : (k y x : ℕ) → Reached k y → g .Beside y x → Open x → Changed g Open value k y ⊎ (value k x ≤ offer g Open value k y x)
+  relaxed : (k y x : ℕ) → Reached k y → g .Beside y x → Open x → Changed g Open value k y ⊎ (value k x ≤ offer g Open value k y x)
   relaxed zero y x (inl c) b o = inl c
   relaxed zero y x (inr l) b o = absurd (omega (arith, w .begins y))
   relaxed (suc k) y x r b o = go (decLe (value k y) (value (suc k) y)) (λ q. relaxed k y x q b o)
