@@ -1,0 +1,7 @@
+pub mod Held
+pub mod Marks
+pub mod Looks
+pub mod Waves
+pub mod Lines
+pub mod Starts
+pub mod Answers

@@ -1,0 +1,106 @@
+-- A look at one neighbour, case by case, and the waves that are made of looks.
+--     look-blocked .. look-new    what a look does, by what the neighbour is
+--     seen-held                   a cell that comes into sight, in arrays
+--     wall-held                   a wall met, in arrays
+--     wave-step, wave-end         a wave, from the cell at place i on
+--     open-cell                   a cell that is no wall is the cell stepped to
+-- Assumes nothing.
+use mathlib.Core.Path.{_≡_, refl, sym, ap, _∙_}
+use mathlib.Core.Bool.{Bool, true, false, cond}
+use mathlib.Core.List.{List, [], _∷_, _++_}
+use Prim.Native.Nat.{ℕ, _+_, _<_, _≤_}
+use native.Mathlib.Numerals.{add-one}
+use native.Mathlib.Omega.{arith}
+use lib.ListN.{length, getD, set, take, length-append, length-set}
+use lib.Seq.{slice, slice-cons, slice-empty, take-suc-set}
+use Rattle.utilities.specs.declared.CompassDir.{CompassDir}
+use Rattle.utilities.specs.Compass.{orthogonal}
+use Rattle.fields.specs.declared.FieldCell.{FieldCell}
+use Rattle.fields.specs.declared.Stepped.{Stepped}
+use Rattle.fields.specs.declared.Stepped.the-variants.{Cell, Outside}
+use Rattle.fields.specs.Cell.{indexOf}
+use Rattle.integration_field.specs.Word.{isLos, isGoal, isBlocked, isImpassable}
+use Rattle.integration_field.specs.Diagonal.{wallAt}
+use Rattle.started_field.specs.Sight.{Sight, unlessWall, seen, wallMet, neighbourLooked, lookedAround, waveLooked}
+use Rattle.started_field.proofs.Room.{room-queue, room-seen, room-begins}
+use Rattle.integration_init.specs.Held.{sightOf, Ready, ReadyAll, HoldsAll, Leaves, Applied}
+
+module _ (line : ℕ → List ℕ) (wave from : ℕ) (d : CompassDir) (n : ℕ) (s : Sight) where
+  abbrev word : ℕ
+  word = getD (s .cells) n 0
+
+  pub look-blocked : isBlocked word ≡ true → neighbourLooked line wave from d n s ≡ s
+  unfolding neighbourLooked
+  look-blocked b = rw b
+
+  module _ (b : isBlocked word ≡ false) where
+    pub look-goal : isGoal word ≡ true → neighbourLooked line wave from d n s ≡ s
+    unfolding neighbourLooked
+    look-goal g = rw (b, g)
+
+    module _ (g : isGoal word ≡ false) where
+      pub look-wall : isImpassable word ≡ true → neighbourLooked line wave from d n s ≡ wallMet line wave from n d s
+      unfolding neighbourLooked
+      look-wall w = rw (b, g, w)
+
+      module _ (w : isImpassable word ≡ false) where
+        pub look-los : isLos word ≡ true → neighbourLooked line wave from d n s ≡ s
+        unfolding neighbourLooked
+        look-los l = rw (b, g, w, l)
+
+        pub look-new : isLos word ≡ false → neighbourLooked line wave from d n s ≡ seen wave n s
+        unfolding neighbourLooked
+        look-new l = rw (b, g, w, l)
+
+module _ (cells corners : List ℕ) (count : ℕ) (queue : List ℕ) (queued : ℕ) (ready : ReadyAll cells corners count queue queued) where
+  abbrev now : Sight
+  now = sightOf cells corners count (take queued queue)
+
+  pub all-begins : Ready cells corners count
+  all-begins = record {
+    room = room-begins now (ready .room);
+    held = record { cells-held = refl; corners-held = ready .held .corners-held; count-held = ready .held .count-held };
+  }
+
+  pub wall-held : (step : Sight → Sight) (cells' corners' : List ℕ) (count' : ℕ) → Applied step cells corners count cells' corners' count'
+      → HoldsAll (step now) cells' corners' count' queue queued
+  wall-held step cells' corners' count' a =
+      let l = a (take queued queue) in
+      record { room = l .room (ready .room); held = l .held; full = ready .full; queue-held = sym (l .queued); queued-held = ready .queued-held ∙ ap length (sym (l .queued)) }
+
+  module _ (n : ℕ) (inside : n < 100) (l : isLos (getD cells n 0) ≡ false) (b : isBlocked (getD cells n 0) ≡ false) where
+    pub seen-room : queued < 100
+    seen-room = omega (arith, ready .queued-held, room-queue now (ready .room) n inside l b)
+
+    pub seen-held : (wave : ℕ) → wave ≤ 100 → HoldsAll (seen wave n now) (set cells n (wave + 0x10000)) corners count (set queue queued n) (queued + 1)
+    unfolding seen
+    seen-held wave small =
+        let room = seen-room in
+        let long : length (take queued queue ++ n ∷ []) ≡ length (take queued queue) + 1 = length-append (take queued queue) (n ∷ []) in
+        record {
+          room = room-seen now (ready .room) wave n inside (omega arith) l b;
+          held = record { cells-held = refl; corners-held = ready .held .corners-held; count-held = ready .held .count-held };
+          full = length-set queue queued n ∙ ready .full;
+          queue-held = rw add-one (take-suc-set queue queued n (omega (arith, ready .full)));
+          queued-held = omega (arith, ready .queued-held);
+        }
+
+module _ (line : ℕ → List ℕ) (wave : ℕ) (cells : List ℕ) (count : ℕ) where
+  pub wave-step : (i : ℕ) (s : Sight) → i < count → count ≤ length cells
+      → waveLooked line wave (slice i count cells) s ≡ waveLooked line wave (slice (i + 1) count cells) (lookedAround line wave (getD cells i 0) orthogonal s)
+  unfolding waveLooked
+  wave-step i s h k =
+      ap (λ (l : List ℕ). waveLooked line wave l s) (slice-cons i count cells 0 h k)
+      ∙ ap (λ (m : ℕ). waveLooked line wave (slice m count cells) (lookedAround line wave (getD cells i 0) orthogonal s)) (sym (add-one i))
+
+  pub wave-end : (s : Sight) → waveLooked line wave (slice count count cells) s ≡ s
+  unfolding waveLooked
+  wave-end s = ap (λ (l : List ℕ). waveLooked line wave l s) (slice-empty count cells)
+
+no-wall : (t : Bool) (m n : FieldCell) → cond t Outside (Cell m) ≡ Cell n → Cell m ≡ Cell n
+no-wall true m n e = let z : _≡_ {A = ℕ} 0 1 = cc in absurd (omega arith)
+no-wall false m n e = e
+
+pub open-cell : (cells : List ℕ) (s : Stepped) (n : FieldCell) → unlessWall cells s ≡ Cell n → s ≡ Cell n
+open-cell cells (Cell m) n e = no-wall (wallAt cells (indexOf m)) m n e
+open-cell cells Outside n e = e

@@ -1,0 +1,101 @@
+-- What sight starts with.
+--     wall-step, wall-end            walls, cell by cell
+--     portal-step .. portal-started  a window's cells, marked and listed one after another
+--     window-held, window-list       an accepted step's window, in an array
+--     goal-ready .. goal-wavefront   the goal and the first wave
+-- Assumes nothing.
+use mathlib.Core.Path.{_≡_, refl, sym, ap, ap₂, subst, _∙_}
+use mathlib.Core.List.{List, [], _∷_, _++_}
+use Prim.Native.Nat.{ℕ, zero, suc, _+_, _<_, _≤_}
+use native.Mathlib.Numerals.{add-one}
+use native.Mathlib.Omega.{arith}
+use lib.ListN.{length, getD, set, take, replicate, length-map, List·getD-map, List·getD-append}
+use lib.Seq.{slice, slice-cons, slice-empty, take-suc, take-suc-set, take-all, length-take-le, take-append-seam}
+use Rattle.utilities.proofs.Padded.{padded-length}
+use Rattle.route.specs.declared.WindowCells.{WindowCells}
+use Rattle.route.specs.Window.{listed}
+use Rattle.route.specs.Step.{windowCells}
+use Rattle.route.proofs.Accepted as accepted
+use Rattle.route.proofs.Windows.{window-few, window-at}
+use Rattle.integration_field.specs.Listed.{padded}
+use Rattle.integration_field.proofs.Lists.{padded-push}
+use Rattle.started_field.specs.Sight.{wallOr, walls, withPortals, withGoal, sightAfter}
+use Rattle.started_field.specs.Started.{startedAt}
+use Rattle.started_field.specs.CornerLine.{cornerLine}
+use Rattle.started_field.proofs.Lines.{corner-lines}
+use Rattle.started_field.proofs.Waves.{sight-room}
+use Rattle.integration_init.specs.Held.{sightOf, Ready, Wavefront, Window}
+
+module _ (costs cells : List ℕ) (hundred : length costs ≡ 100) (full : length cells ≡ 100) where
+  walls-length : length (walls costs) ≡ 100
+  unfolding walls
+  walls-length = length-map costs wallOr ∙ hundred
+
+  pub wall-step : (i x : ℕ) → i < 100 → x ≡ wallOr (getD costs i 0) → take i cells ≡ take i (walls costs) → take (i + 1) (set cells i x) ≡ take (i + 1) (walls costs)
+  unfolding walls
+  wall-step i x h e t =
+      rw add-one
+      (take-suc-set cells i x (omega arith)
+      ∙ ap₂ (λ (l : List ℕ) (y : ℕ). l ++ y ∷ []) t (e ∙ sym (List·getD-map wallOr costs i 0))
+      ∙ sym (take-suc (walls costs) i 65535 (omega (arith, walls-length))))
+
+  pub wall-end : take 100 cells ≡ take 100 (walls costs) → cells ≡ walls costs
+  wall-end t = sym (take-all 100 cells (omega arith)) ∙ t ∙ take-all 100 (walls costs) (omega (arith, walls-length))
+
+module _ (window : List ℕ) (count : ℕ) (w : Window window count) where
+  pub portal-step : (i : ℕ) (cells : List ℕ) → i < count → withPortals (slice i count window) cells ≡ withPortals (slice (i + 1) count window) (set cells (getD window i 0) 0x80000)
+  unfolding withPortals
+  portal-step i cells h =
+      ap (λ (l : List ℕ). withPortals l cells) (slice-cons i count window 0 h (omega (arith, w .full, w .count-in)))
+      ∙ ap (λ (k : ℕ). withPortals (slice k count window) (set cells (getD window i 0) 0x80000)) (sym (add-one i))
+
+  pub portal-end : (cells : List ℕ) → withPortals (slice count count window) cells ≡ cells
+  unfolding withPortals
+  portal-end cells = ap (λ (l : List ℕ). withPortals l cells) (slice-empty count window)
+
+  pub portal-listed : (i : ℕ) (corners : List ℕ) → i < count → corners ≡ padded (take i window) → set corners i (getD window i 0) ≡ padded (take (i + 1) window)
+  portal-listed i corners h e =
+      let long : length (take i window) ≡ i = length-take-le i window (omega (arith, w .full, w .count-in)) in
+      ap₂ (λ (l : List ℕ) (k : ℕ). set l k (getD window i 0)) e (sym long)
+      ∙ padded-push (take i window) (getD window i 0) (omega (arith, w .count-in))
+      ∙ ap padded (sym (take-suc window i 0 (omega (arith, w .full, w .count-in))) ∙ ap (λ (k : ℕ). take k window) (sym (add-one i)))
+
+  pub portal-started : (costs cells corners : List ℕ) → cells ≡ withPortals (take count window) (walls costs) → corners ≡ padded (take count window)
+      → record { field = cells; «los_corners» = corners; count = count } ≡ startedAt costs (take count window)
+  unfolding startedAt
+  portal-started costs cells corners e f =
+      let l = take count window in
+      let long : length l ≡ count = length-take-le count window (omega (arith, w .full, w .count-in)) in
+      ap₂ (λ (x y : List ℕ). record { field = x; «los_corners» = y; count = count }) e f
+      ∙ ap (λ (n : ℕ). record { field = withPortals l (walls costs); «los_corners» = padded l; count = n }) (sym long)
+
+module _ (step : List ℕ) (w : accepted.Window step) (cells : WindowCells) (e : cells ≡ listed (windowCells step)) where
+  pub window-held : Window (cells .cells) (cells .count)
+  window-held = rw e (record {
+    full = padded-length 10 0 (windowCells step) (window-few step w);
+    count-in = window-few step w;
+    cells-in = λ i h. subst (λ (n : ℕ). n < 100) (sym (List·getD-append (windowCells step) _ 0 i h)) (window-at step w i h .below);
+  })
+
+  pub window-list : take (cells .count) (cells .cells) ≡ windowCells step
+  window-list = rw e (take-append-seam (windowCells step) _)
+
+module _ (costs : List ℕ) (hundred : length costs ≡ 100) (goal : ℕ) (inside : goal < 100) where
+  pub goal-ready : (cells : List ℕ) → cells ≡ set (walls costs) goal 0x20000 → Ready cells (replicate 100 0) 0
+  unfolding sightAfter withGoal
+  goal-ready cells e = rw e (record {
+    room = sight-room goal inside costs hundred (cornerLine goal) (corner-lines goal) 0;
+    held = record { cells-held = refl; corners-held = refl; count-held = refl };
+  })
+
+  pub goal-sight : (cells : List ℕ) → cells ≡ set (walls costs) goal 0x20000
+      → sightOf cells (replicate 100 0) 0 (take 1 (set (replicate 100 0) 0 goal)) ≡ sightAfter (cornerLine goal) (walls costs) goal 0
+  unfolding sightAfter withGoal
+  goal-sight cells e = ap (λ (l : List ℕ). record { cells = l; corners = []; queue = goal ∷ [] }) e
+
+  pub goal-wavefront : Wavefront (set (replicate 100 0) 0 goal) 1
+  goal-wavefront = record { full = refl; size-in = omega arith; cells-in = first }
+    where
+      first : (i : ℕ) → i < 1 → getD (set (replicate 100 0) 0 goal) i 0 < 100
+      first zero h = inside
+      first (suc i) h = absurd (omega arith)

@@ -1,0 +1,83 @@
+-- `integration_init::look_wave` meets its contract: the invariant: what is left of the wave from place i on does what the whole wave does.
+-- Assumes nothing.
+use mathlib.Core.Path.{_≡_, refl, sym, ap, _∙_}
+use mathlib.Core.List.{List, []}
+use Prim.Native.Nat.{ℕ, _+_, _-_, _<_, _≤_}
+use native.Mathlib.Omega.{arith}
+use borrow.Author.Needs.{needs}
+use denote.Ref.{now}
+use lib.ListN.{length, getD, take}
+use lib.Seq.{slice}
+use Rattle.started_field.specs.Sight.{Sight, waveLooked}
+use Rattle.started_field.specs.CornerLine.{cornerLine}
+use Rattle.integration_init.specs.Held.{sightOf, ReadyAll}
+use Rattle.integration_init.proofs.Held.{held-all, all-ready, all-same}
+use Rattle.integration_init.proofs.Looks.{wave-step, wave-end}
+use Rattle.integration_init.proofs.look_wave.Statement.{statement}
+use Rattle.integration_init.proofs.look_wave.Tie as tie
+
+abbrev Inv-loop : tie.InvT-loop
+Inv-loop cells₀ corners₀ count wavefront size next₀ goal wavefront-cost counts₀ i₀ cells corners next counts i =
+    (i ≤ size)
+    × (ReadyAll cells corners (counts .corners) next (counts .queued)
+    × (waveLooked (cornerLine goal) wavefront-cost (take size wavefront) (sightOf cells₀ corners₀ count [])
+    ≡ waveLooked (cornerLine goal) wavefront-cost (slice i size wavefront) (sightOf cells corners (counts .corners) (take (counts .queued) next))))
+
+abbrev μ-loop : tie.MeasureT-loop
+μ-loop cells₀ corners₀ count wavefront size next₀ goal wavefront-cost counts₀ i₀ cells corners next counts i = size - i
+
+loop-holds : tie.Need-loop-holds Inv-loop μ-loop
+loop-holds c = let a = c .args in
+    (search needs, (record { room = c .pre .0 .room; held = c .pre .0 .held; full = c .pre .1 .1 .0; queue-held = refl; queued-held = refl }, refl))
+
+mul-from : tie.Need-mul-from Inv-loop μ-loop
+mul-from c = search needs
+
+element-copy-out-from : tie.Need-element-copy-out-from Inv-loop μ-loop
+element-copy-out-from c = search needs
+
+look-around-requires : tie.Need-look-around-requires Inv-loop μ-loop
+look-around-requires c κs = (c .before .before .before .before .before .loop .inv .1 .0, record { wave-in = c .before .before .before .before .before .before .pre .1 .1 .1 .0; goal-in = c .before .before .before .before .before .before .pre .1 .1 .1 .1; from-in = c .before .before .before .before .before .before .pre .1 .0 .cells-in (c .before .before .before .before .before .loop .i) (c .before .before .before .before .loop-test .taken) })
+
+add-i : tie.Need-add-i Inv-loop μ-loop
+add-i c = search needs
+
+loop-less : tie.Need-loop-less Inv-loop μ-loop
+loop-less c = search needs
+
+loop-again : tie.Need-loop-again Inv-loop μ-loop
+loop-again c = let a = c .before .before .before .before .before .before .before .args in let l = c .before .before .before .before .before .before .loop in
+    let long : a .size ≤ length (now (a .wavefront)) = omega (arith, c .before .before .before .before .before .before .before .pre .1 .0 .full, c .before .before .before .before .before .before .before .pre .1 .0 .size-in) in
+    let s : Sight = sightOf (l .cells) (l .corners) (l .counts .corners) (take (l .counts .queued) (l .next)) in (
+      search needs,
+      (
+        all-ready _ _ _ _ _ _ (c .look-around .ensures),
+        l .inv .1 .1
+            ∙ wave-step (cornerLine (a .goal)) (a .wavefront-cost) (now (a .wavefront)) (a .size) (l .i) s (c .before .before .before .before .before .loop-test .taken) long
+            ∙ ap (waveLooked (cornerLine (a .goal)) (a .wavefront-cost) (slice (l .i + 1) (a .size) (now (a .wavefront)))) (sym (held-all _ _ _ _ _ _ (c .look-around .ensures))),
+      ),
+    )
+
+returns : tie.Need-returns Inv-loop μ-loop
+returns c = let a = c .before .before .args in let l = c .before .loop in
+    let s : Sight = sightOf (l .cells) (l .corners) (l .counts .corners) (take (l .counts .queued) (l .next)) in
+    let e : l .i ≡ a .size = omega arith in
+    all-same s _ _ _ _ _ (l .inv .1 .0) _
+    (l .inv .1 .1
+    ∙ ap (λ (k : ℕ). waveLooked (cornerLine (a .goal)) (a .wavefront-cost) (slice k (a .size) (now (a .wavefront))) s) e
+    ∙ wave-end (cornerLine (a .goal)) (a .wavefront-cost) (now (a .wavefront)) (a .size) s)
+
+pub look-wave-spec : {M : Type 1} → statement M
+look-wave-spec =
+    tie.close
+    (tie.spec
+    Inv-loop
+    μ-loop
+    loop-holds
+    mul-from
+    element-copy-out-from
+    look-around-requires
+    add-i
+    loop-less
+    loop-again
+    returns)

@@ -1,0 +1,69 @@
+-- `integration_init::open_side` meets its contract: the side cell is where a step arrives.
+-- Assumes nothing.
+use mathlib.Core.Path.{_≡_, refl, sym, ap, _∙_}
+use mathlib.Core.Bool.{true, false, cond}
+use Prim.Native.Nat.{ℕ, _<_}
+use native.Mathlib.Omega.{arith}
+use borrow.Author.Needs.{needs}
+use denote.Ref.{now}
+use Rattle.fields.specs.declared.FieldCell.{FieldCell}
+use Rattle.fields.specs.declared.Stepped.{Stepped}
+use Rattle.fields.specs.declared.Stepped.the-variants.{Cell, Outside}
+use Rattle.fields.specs.Cell.{stepped, cellAt, indexOf}
+use Rattle.fields.proofs.Steps.{stepped-cell, index-inside, index-below}
+use Rattle.integration_field.specs.Diagonal.{wallAt}
+use Rattle.started_field.specs.Sight.{unlessWall}
+use Rattle.integration_init.proofs.open_side.Statement.{statement}
+use Rattle.integration_init.proofs.open_side.Tie as tie
+
+from-index-requires : tie.Need-from-index-requires
+from-index-requires c κs = search needs
+
+get-in-compass-direction-requires : tie.Need-get-in-compass-direction-requires
+get-in-compass-direction-requires c κs = search needs
+
+enum-known-n : tie.Need-enum-known-n
+enum-known-n c = search needs
+
+enum-told : tie.Need-enum-told
+enum-told c = search needs
+
+returns : tie.Need-returns
+returns c = let a = c .before .before .before .before .args in
+    ap (unlessWall (now (a .cells)))
+    (sym (c .enum-told .given .1) ∙ c .before .before .get-in-compass-direction .ensures ∙ ap (λ (x : FieldCell). stepped x (a .side)) (c .before .before .before .from-index .ensures))
+
+arrives : (c : tie.After-known-told) → stepped (cellAt (c .before .before .before .before .before .args .from)) (c .before .before .before .before .before .args .side) ≡ Cell (c .before .n .given .0 .0)
+arrives c = ap (λ (x : FieldCell). stepped x (c .before .before .before .before .before .args .side)) (sym (c .before .before .before .before .from-index .ensures)) ∙ sym (c .before .before .before .get-in-compass-direction .ensures) ∙ c .before .n .given .1
+
+as-1d-index-requires : tie.Need-as-1d-index-requires
+as-1d-index-requires c κs = search needs
+
+index : (c : tie.After-as-1d-index) → c .as-1d-index .result ≡ indexOf (c .before .before .n .given .0 .0)
+index c = c .as-1d-index .ensures ∙ index-inside 100 (c .before .before .n .given .0 .0) (stepped-cell _ _ _ (arrives (c .before)) .within)
+
+is-wall-at-requires : tie.Need-is-wall-at-requires
+is-wall-at-requires c κs = omega (arith, index c, index-below (c .before .before .n .given .0 .0) (stepped-cell _ _ _ (arrives (c .before)) .within))
+
+wall : (c : tie.After-is-wall-at) → c .is-wall-at .result ≡ wallAt (now (c .before .before .before .before .before .before .before .args .cells)) (indexOf (c .before .before .before .n .given .0 .0))
+wall c = c .is-wall-at .ensures ∙ ap (wallAt (now (c .before .before .before .before .before .before .before .args .cells))) (index (c .before))
+
+returns-2 : tie.Need-returns-2
+returns-2 c = sym (ap (unlessWall (now (c .before .before .before .before .before .before .before .before .args .cells))) (arrives (c .before .before .before)) ∙ rw (sym (wall (c .before)) ∙ c .if1 .taken))
+
+returns-3 : tie.Need-returns-3
+returns-3 c = sym (ap (unlessWall (now (c .before .before .before .before .before .before .before .before .args .cells))) (arrives (c .before .before .before)) ∙ rw (sym (wall (c .before)) ∙ c .if1 .left))
+
+pub open-side-spec : {M : Type 1} → statement M
+open-side-spec =
+    tie.close
+    (tie.spec
+    from-index-requires
+    get-in-compass-direction-requires
+    enum-known-n
+    enum-told
+    returns
+    as-1d-index-requires
+    is-wall-at-requires
+    returns-2
+    returns-3)

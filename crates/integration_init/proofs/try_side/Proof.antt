@@ -1,0 +1,89 @@
+-- `integration_init::try_side` meets its contract: both side cells are taken apart, and the corner is the cell beside the wall.
+-- Assumes nothing.
+use mathlib.Core.Path.{_≡_, refl, sym, ap, _∙_}
+use Prim.Native.Nat.{ℕ, _<_}
+use native.Mathlib.Omega.{arith}
+use borrow.Author.Needs.{needs}
+use denote.Ref.{now}
+use Rattle.fields.specs.declared.Stepped.{Stepped}
+use Rattle.fields.specs.declared.Stepped.the-variants.{Cell, Outside}
+use Rattle.fields.specs.Cell.{Inside, stepped, cellAt, indexOf}
+use Rattle.fields.proofs.Steps.{stepped-cell, index-inside, index-below}
+use Rattle.started_field.specs.Sight.{unlessWall, extended, sideTried}
+use Rattle.started_field.specs.CornerLine.{cornerLine}
+use Rattle.integration_init.specs.Held.{Ready}
+use Rattle.integration_init.proofs.Held.{applied-none, applied-same}
+use Rattle.integration_init.proofs.Looks.{open-cell}
+use Rattle.integration_init.proofs.try_side.Statement.{statement}
+use Rattle.integration_init.proofs.try_side.Tie as tie
+
+open-side-requires : tie.Need-open-side-requires
+open-side-requires c κs = search needs
+
+enum-told : tie.Need-enum-told
+enum-told c = search needs
+
+enum-told-2 : tie.Need-enum-told-2
+enum-told-2 c = search needs
+
+returns : tie.Need-returns
+unfolding sideTried
+returns c = let a = c .before .before .before .before .args in
+    let e : unlessWall (now (a .cells)) (stepped (cellAt (a .from)) (a .side)) ≡ Outside = sym (c .before .before .open-side .ensures) ∙ c .enum-told2 .given .1 in
+    applied-none (now (a .cells)) (now (a .corners)) (a .count) (c .before .before .before .before .pre .0) (sideTried (cornerLine (a .goal)) (a .wavefront-cost) (a .from) (a .wall) (a .side)) (λ queue. rw e)
+
+open-side-requires-2 : tie.Need-open-side-requires-2
+open-side-requires-2 c κs = search needs
+
+enum-known-corner : tie.Need-enum-known-corner
+enum-known-corner c = search needs
+
+enum-told-3 : tie.Need-enum-told-3
+enum-told-3 c = search needs
+
+returns-2 : tie.Need-returns-2
+unfolding sideTried
+returns-2 c = let a = c .before .before .before .before .before .before .before .before .args in
+    let e : unlessWall (now (a .cells)) (stepped (cellAt (a .from)) (a .side)) ≡ Cell (c .before .before .before .before .enum-told .given .0 .0) = sym (c .before .before .before .before .before .before .open-side .ensures) ∙ c .before .before .before .before .enum-told .given .1 in
+    let f : unlessWall (now (a .cells)) (stepped (cellAt (a .wall)) (a .side)) ≡ Outside = sym (c .before .before .open-side2 .ensures) ∙ c .enum-told3 .given .1 in
+    applied-none (now (a .cells)) (now (a .corners)) (a .count) (c .before .before .before .before .before .before .before .before .pre .0) (sideTried (cornerLine (a .goal)) (a .wavefront-cost) (a .from) (a .wall) (a .side)) (λ queue. rw (e, f))
+
+found : (c : tie.After-known-told) → unlessWall (now (c .before .before .before .before .before .before .before .before .before .args .cells)) (stepped (cellAt (c .before .before .before .before .before .before .before .before .before .args .wall)) (c .before .before .before .before .before .before .before .before .before .args .side)) ≡ Cell (c .before .corner .given .0 .0)
+found c = sym (c .before .before .before .open-side2 .ensures) ∙ c .before .corner .given .1
+
+inside : (c : tie.After-known-told) → Inside (c .before .corner .given .0 .0)
+inside c = stepped-cell _ _ _ (open-cell (now (c .before .before .before .before .before .before .before .before .before .args .cells)) (stepped (cellAt (c .before .before .before .before .before .before .before .before .before .args .wall)) (c .before .before .before .before .before .before .before .before .before .args .side)) _ (found c)) .within
+
+as-1d-index-requires : tie.Need-as-1d-index-requires
+as-1d-index-requires c κs = search needs
+
+index : (c : tie.After-as-1d-index) → c .as-1d-index .result ≡ indexOf (c .before .before .corner .given .0 .0)
+index c = c .as-1d-index .ensures ∙ index-inside 100 (c .before .before .corner .given .0 .0) (inside (c .before))
+
+extend-los-corner-requires : tie.Need-extend-los-corner-requires
+extend-los-corner-requires c κs =
+    (c .before .before .before .before .before .before .before .before .before .before .before .before .pre .0, record { wave-in = c .before .before .before .before .before .before .before .before .before .before .before .before .pre .1 .0 .wave-in; goal-in = c .before .before .before .before .before .before .before .before .before .before .before .before .pre .1 .0 .goal-in; from-in = omega (arith, index (c .before .before), index-below (c .before .before .before .before .corner .given .0 .0) (inside (c .before .before .before))) })
+
+returns-3 : tie.Need-returns-3
+unfolding sideTried
+returns-3 c = let a = c .before .before .before .before .before .before .before .before .before .before .before .before .before .args in
+    let e : unlessWall (now (a .cells)) (stepped (cellAt (a .from)) (a .side)) ≡ Cell (c .before .before .before .before .before .before .before .before .before .enum-told .given .0 .0) = sym (c .before .before .before .before .before .before .before .before .before .before .before .open-side .ensures) ∙ c .before .before .before .before .before .before .before .before .before .enum-told .given .1 in
+    applied-same (now (a .cells)) (now (a .corners)) (a .count) (c .before .before .before .before .before .before .before .before .before .before .before .before .before .pre .0) (extended (cornerLine (a .goal)) (a .wavefront-cost) (c .before .before .before .as-1d-index .result)) _ _ _ (c .extend-los-corner .ensures)
+    (sideTried (cornerLine (a .goal)) (a .wavefront-cost) (a .from) (a .wall) (a .side))
+    (λ queue. rw (e, found (c .before .before .before .before), index (c .before .before .before)))
+
+pub try-side-spec : {M : Type 1} → statement M
+try-side-spec =
+    tie.close
+    (tie.spec
+    open-side-requires
+    enum-told
+    enum-told-2
+    returns
+    open-side-requires-2
+    enum-known-corner
+    enum-told-3
+    returns-2
+    as-1d-index-requires
+    extend-los-corner-requires
+    returns-3)

@@ -1,0 +1,77 @@
+-- Sight in lent arrays: 100 cells, and lists of 100 places with a count.
+-- Assumes nothing.
+use mathlib.Core.Path.{_≡_}
+use mathlib.Core.List.{List, []}
+use Prim.Native.Nat.{ℕ, _<_, _≤_}
+use lib.ListN.{length, getD, take}
+use Rattle.fields.specs.declared.FieldCell.{FieldCell}
+use Rattle.fields.specs.Cell.{Inside, cell}
+use Rattle.integration_field.specs.declared.IntegrationField.{IntegrationField}
+use Rattle.integration_field.specs.Listed.{padded, withCorners}
+use Rattle.started_field.specs.Sight.{Sight}
+use Rattle.started_field.specs.Room.{Room}
+
+-- the sight of these cells, of the corners before their count, and of a queue
+abbrev pub sightOf : List ℕ → List ℕ → ℕ → List ℕ → Sight
+sightOf cells corners count queue = record { cells = cells; corners = take count corners; queue = queue }
+
+-- these arrays hold a sight's cells and its corners; places beyond the count hold 0
+pub record Holds (s : Sight) (cells corners : List ℕ) (count : ℕ) : Type 0 where
+  pub cells-held : cells ≡ s .cells
+  pub corners-held : corners ≡ padded (s .corners)
+  pub count-held : count ≡ length (s .corners)
+
+-- what a function that marks cells is given: its lists are held, and there is room
+pub record Ready (cells corners : List ℕ) (count : ℕ) : Type 0 where
+  pub room : Room (sightOf cells corners count [])
+  pub held : Holds (sightOf cells corners count []) cells corners count
+
+-- what it leaves, where it goes from sight s to sight t: t is held, with the same queue, and there is room again
+pub record Leaves (s t : Sight) (cells corners : List ℕ) (count : ℕ) : Type 0 where
+  pub room : Room s → Room t
+  pub queued : t .queue ≡ s .queue
+  pub held : Holds t cells corners count
+
+-- the arrays at entry go to those at exit as a definition says, whatever is queued
+abbrev pub Applied : (Sight → Sight) → List ℕ → List ℕ → ℕ → List ℕ → List ℕ → ℕ → Type 0
+Applied step cells corners count cells' corners' count' =
+    (queue : List ℕ) → Leaves (sightOf cells corners count queue) (step (sightOf cells corners count queue)) cells' corners' count'
+
+-- these arrays hold a sight with its queue, and there is room in both lists
+pub record HoldsAll (s : Sight) (cells corners : List ℕ) (count : ℕ) (queue : List ℕ) (queued : ℕ) : Type 0 where
+  pub room : Room s
+  pub held : Holds s cells corners count
+  pub full : length queue ≡ 100
+  pub queue-held : take queued queue ≡ s .queue
+  pub queued-held : queued ≡ length (s .queue)
+
+abbrev pub ReadyAll : List ℕ → List ℕ → ℕ → List ℕ → ℕ → Type 0
+ReadyAll cells corners count queue queued = HoldsAll (sightOf cells corners count (take queued queue)) cells corners count queue queued
+
+-- a wave's cost, the goal, and a cell of the wave
+pub record InWave (wave goal from : ℕ) : Type 0 where
+  pub wave-in : wave ≤ 100
+  pub goal-in : goal < 100
+  pub from-in : from < 100
+
+-- the cells of a wave, in an array of 100 places
+pub record Wavefront (wavefront : List ℕ) (size : ℕ) : Type 0 where
+  pub full : length wavefront ≡ 100
+  pub size-in : size ≤ 100
+  pub cells-in : (i : ℕ) → i < size → getD wavefront i 0 < 100
+
+-- the field of a sight
+abbrev pub startedOf : Sight → IntegrationField
+startedOf s = withCorners (s .cells) (s .corners)
+
+-- the cells of a line, in an array of 10 places
+pub record Drawn (cells : List FieldCell) (count : ℕ) : Type 0 where
+  pub full : length cells ≡ 10
+  pub count-in : count ≤ 10
+  pub cells-in : (i : ℕ) → i < count → Inside (getD cells i (cell 0 0))
+
+-- the cells of a window, in an array of 10 places
+pub record Window (cells : List ℕ) (count : ℕ) : Type 0 where
+  pub full : length cells ≡ 10
+  pub count-in : count ≤ 10
+  pub cells-in : (i : ℕ) → i < count → getD cells i 0 < 100

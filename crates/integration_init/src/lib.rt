@@ -1,0 +1,539 @@
+// Starting a field: walls, then window cells or the goal, and from a goal the sight of it.
+use bresenham::Line;
+use fields::FieldCell;
+use fields::Stepped;
+use integration_field::INT_BITS_CORNER;
+use integration_field::INT_BITS_GOAL;
+use integration_field::INT_BITS_IMPASSABLE;
+use integration_field::INT_BITS_LOS;
+use integration_field::INT_BITS_PORTAL;
+use integration_field::INT_BITS_WAVE_BLOCKED;
+use integration_field::IntegrationField;
+use route::RouteStep;
+use route::WindowCells;
+use started_field::InitAnswer;
+use utilities::CompassDir;
+ghost use mathlib.Core.Path.{_≡_};
+ghost use mathlib.Core.List.{List, [], map};
+ghost use Prim.Native.Nat.{ℕ, suc, _+_, _<_, _≤_};
+ghost use lib.ListN.{length, take};
+ghost use Rattle.utilities.specs.Compass.{orthogonal};
+ghost use Rattle.fields.specs.Cell.{cellAt, indexOf, stepped};
+ghost use Rattle.integration_field.specs.Diagonal.{wallAt, betweenWalls};
+ghost use Rattle.integration_field.specs.Listed.{padded};
+ghost use Rattle.route.specs.Step.{stepNumber};
+ghost use Rattle.started_field.specs.Started.{startedAt, startedFrom, started, initRefused, initAnswer, StartedField};
+ghost use Rattle.started_field.specs.CornerLine.{cornerLine};
+ghost use Rattle.started_field.specs.Sight.{wallOr, walls, withPortals, marked, stopped, lineMarked, extended, unlessWall, firstSide, sideTried, wallMet, neighbourLooked, looked, lookedAround, waveLooked, sightAfter};
+ghost use Rattle.integration_init.specs.Held.{sightOf, Ready, Applied, HoldsAll, ReadyAll, InWave, Wavefront, Drawn, Window, startedOf};
+
+// How many corners are listed, and how many cells the wave has queued.
+pub struct Counts {
+    pub corners: usize,
+    pub queued: usize,
+}
+
+// Whether the cell at an index is a wall.
+fn is_wall_at(cells: &[u32; 100], n: usize) -> bool
+    requires { ⌜ n < 100 ⌝ }
+    ensures { λ r. ⌜ r ≡ wallAt (now (cells .entry)) n ⌝ }
+{
+    let value = cells[n];
+    integration_field::is_impassable(value)
+}
+
+// Whether a move is diagonal, with both cells beside it walls.
+fn is_between_walls(cells: &[u32; 100], a: usize, b: usize) -> bool
+    requires { ⌜ (a < 100) × (b < 100) ⌝ }
+    ensures { λ r. ⌜ r ≡ betweenWalls (now (cells .entry)) a b ⌝ }
+{
+    if a / 10 == b / 10 {
+        return false;
+    }
+    if a % 10 == b % 10 {
+        return false;
+    }
+    if is_wall_at(cells, a / 10 * 10 + b % 10) {
+        return is_wall_at(cells, b / 10 * 10 + a % 10);
+    }
+    false
+}
+
+// Whether a line stops before cell n, which it enters from `previous`.
+fn is_stopped(cells: &[u32; 100], previous: usize, n: usize) -> bool
+    requires { ⌜ (previous < 100) × (n < 100) ⌝ }
+    ensures { λ r. ⌜ r ≡ stopped (now (cells .entry)) previous n ⌝ }
+{
+    if is_wall_at(cells, n) {
+        return true;
+    }
+    is_between_walls(cells, previous, n)
+}
+
+// A cell of a line, if not yet blocked, is marked and listed. Answers how many are listed.
+fn mark(
+    cells: &mut [u32; 100],
+    corners: &mut [usize; 100],
+    count: usize,
+    n: usize,
+    value: u32,
+) -> usize
+    requires { ⌜ (Ready (now cells) (now corners) count) × ((n < 100) × (value < 65536)) ⌝ }
+    ensures { λ r. ⌜ Applied (marked value n) (now (cells .entry)) (now (corners .entry)) count (now (cells .exit)) (now (corners .exit)) r ⌝ }
+{
+    let old = cells[n];
+    if integration_field::is_blocked(old) {
+        return count;
+    }
+    corners[count] = n;
+    cells[n] = value + INT_BITS_WAVE_BLOCKED + INT_BITS_CORNER;
+    count + 1
+}
+
+// The cell at one side, where there is one and it is no wall.
+fn open_side(cells: &[u32; 100], from: usize, side: CompassDir) -> Stepped
+    requires { ⌜ from < 100 ⌝ }
+    ensures { λ r. ⌜ r ≡ unlessWall (now (cells .entry)) (stepped (cellAt from) side) ⌝ }
+{
+    let Stepped::Cell(n) = FieldCell::from_index(from).get_in_compass_direction(side) else {
+        return Stepped::Outside;
+    };
+    if is_wall_at(cells, n.as_1d_index()) {
+        return Stepped::Outside;
+    }
+    Stepped::Cell(n)
+}
+
+// The side of a wall that is tried first; the other is opposite.
+fn first_side(dir: CompassDir) -> CompassDir
+    ensures { λ r. ⌜ r ≡ firstSide dir ⌝ }
+{
+    match dir {
+        CompassDir::North => CompassDir::West,
+        CompassDir::East => CompassDir::North,
+        CompassDir::South => CompassDir::West,
+        CompassDir::West => CompassDir::North,
+        CompassDir::NorthEast => CompassDir::Zero,
+        CompassDir::SouthEast => CompassDir::Zero,
+        CompassDir::SouthWest => CompassDir::Zero,
+        CompassDir::NorthWest => CompassDir::Zero,
+        CompassDir::Zero => CompassDir::Zero,
+    }
+}
+
+// The cells of a corner's line are marked up to where it stops; the i-th gets wave cost + 1 + i.
+fn mark_line(
+    cells: &mut [u32; 100],
+    corners: &mut [usize; 100],
+    count: usize,
+    corner: usize,
+    line: Line,
+    wavefront_cost: u32,
+) -> usize
+    requires { ⌜ (Ready (now cells) (now corners) count) × ((Drawn (line .cells) (line .count)) × ((corner < 100) × («wavefront_cost» ≤ 100))) ⌝ }
+    ensures { λ r. ⌜ Applied (lineMarked «wavefront_cost» 0 corner (map indexOf (take (line .count) (line .cells)))) (now (cells .entry)) (now (corners .entry)) count (now (cells .exit)) (now (corners .exit)) r ⌝ }
+{
+    let drawn = line.cells;
+    let length = line.count;
+    let mut listed = count;
+    let mut previous = corner;
+    let mut value = wavefront_cost + 1;
+    let mut i = 0;
+    while i < length {
+        let cell = drawn[i];
+        let n = cell.as_1d_index();
+        if is_stopped(cells, previous, n) {
+            return listed;
+        }
+        listed = mark(cells, corners, listed, n, value);
+        previous = n;
+        value += 1;
+        i += 1;
+    }
+    listed
+}
+
+// A corner draws its line, to where the sector ends away from the goal.
+fn extend_los_corner(
+    cells: &mut [u32; 100],
+    corners: &mut [usize; 100],
+    count: usize,
+    corner: usize,
+    goal: usize,
+    wavefront_cost: u32,
+) -> usize
+    requires { ⌜ (Ready (now cells) (now corners) count) × (InWave «wavefront_cost» goal corner) ⌝ }
+    ensures { λ r. ⌜ Applied (extended (cornerLine goal) «wavefront_cost» corner) (now (cells .entry)) (now (corners .entry)) count (now (cells .exit)) (now (corners .exit)) r ⌝ }
+{
+    let from = FieldCell::from_index(corner);
+    let end = line_end::corner_line_end(from, FieldCell::from_index(goal));
+    let line = bresenham::get_cells_between_points(from, end);
+    mark_line(cells, corners, count, corner, line, wavefront_cost)
+}
+
+// One side of a wall that cell `from` met: a corner, where neither side cell is a wall.
+fn try_side(
+    cells: &mut [u32; 100],
+    corners: &mut [usize; 100],
+    count: usize,
+    from: usize,
+    wall: usize,
+    side: CompassDir,
+    goal: usize,
+    wavefront_cost: u32,
+) -> usize
+    requires { ⌜ (Ready (now cells) (now corners) count) × ((InWave «wavefront_cost» goal from) × (wall < 100)) ⌝ }
+    ensures { λ r. ⌜ Applied (sideTried (cornerLine goal) «wavefront_cost» from wall side) (now (cells .entry)) (now (corners .entry)) count (now (cells .exit)) (now (corners .exit)) r ⌝ }
+{
+    let Stepped::Cell(_) = open_side(cells, from, side) else {
+        return count;
+    };
+    let Stepped::Cell(corner) = open_side(cells, wall, side) else {
+        return count;
+    };
+    let index = corner.as_1d_index();
+    extend_los_corner(cells, corners, count, index, goal, wavefront_cost)
+}
+
+// Both sides of a wall, across the direction in which it was met.
+fn meet_wall(
+    cells: &mut [u32; 100],
+    corners: &mut [usize; 100],
+    count: usize,
+    from: usize,
+    wall: usize,
+    dir: CompassDir,
+    goal: usize,
+    wavefront_cost: u32,
+) -> usize
+    requires { ⌜ (Ready (now cells) (now corners) count) × ((InWave «wavefront_cost» goal from) × (wall < 100)) ⌝ }
+    ensures { λ r. ⌜ Applied (wallMet (cornerLine goal) «wavefront_cost» from wall dir) (now (cells .entry)) (now (corners .entry)) count (now (cells .exit)) (now (corners .exit)) r ⌝ }
+{
+    let side = first_side(dir);
+    let listed = try_side(
+        cells,
+        corners,
+        count,
+        from,
+        wall,
+        side,
+        goal,
+        wavefront_cost,
+    );
+    try_side(
+        cells,
+        corners,
+        listed,
+        from,
+        wall,
+        side.inverse(),
+        goal,
+        wavefront_cost,
+    )
+}
+
+// One neighbour of cell `from`: nothing, a wall met, or a cell that comes into sight and is queued.
+fn look_at(
+    cells: &mut [u32; 100],
+    corners: &mut [usize; 100],
+    queue: &mut [usize; 100],
+    counts: Counts,
+    from: usize,
+    dir: CompassDir,
+    n: usize,
+    goal: usize,
+    wavefront_cost: u32,
+) -> Counts
+    requires { ⌜ (ReadyAll (now cells) (now corners) (counts .corners) (now queue) (counts .queued)) × ((InWave «wavefront_cost» goal from) × (n < 100)) ⌝ }
+    ensures { λ r. ⌜ HoldsAll (neighbourLooked (cornerLine goal) «wavefront_cost» from dir n (sightOf (now (cells .entry)) (now (corners .entry)) (counts .corners) (take (counts .queued) (now (queue .entry))))) (now (cells .exit)) (now (corners .exit)) (r .corners) (now (queue .exit)) (r .queued) ⌝ }
+{
+    let listed = counts.corners;
+    let queued = counts.queued;
+    let cost = cells[n];
+    if integration_field::is_blocked(cost) {
+        return counts;
+    }
+    if integration_field::is_goal(cost) {
+        return counts;
+    }
+    if integration_field::is_impassable(cost) {
+        let corners = meet_wall(cells, corners, listed, from, n, dir, goal, wavefront_cost);
+        return Counts { corners, queued };
+    }
+    if integration_field::is_los(cost) {
+        return counts;
+    }
+    cells[n] = wavefront_cost + INT_BITS_LOS;
+    queue[queued] = n;
+    Counts {
+        corners: listed,
+        queued: queued + 1,
+    }
+}
+
+// The neighbour of cell `from` in one direction, where there is one.
+fn look(
+    cells: &mut [u32; 100],
+    corners: &mut [usize; 100],
+    queue: &mut [usize; 100],
+    counts: Counts,
+    from: usize,
+    dir: CompassDir,
+    goal: usize,
+    wavefront_cost: u32,
+) -> Counts
+    requires { ⌜ (ReadyAll (now cells) (now corners) (counts .corners) (now queue) (counts .queued)) × (InWave «wavefront_cost» goal from) ⌝ }
+    ensures { λ r. ⌜ HoldsAll (looked (cornerLine goal) «wavefront_cost» from dir (stepped (cellAt from) dir) (sightOf (now (cells .entry)) (now (corners .entry)) (counts .corners) (take (counts .queued) (now (queue .entry))))) (now (cells .exit)) (now (corners .exit)) (r .corners) (now (queue .exit)) (r .queued) ⌝ }
+{
+    let Stepped::Cell(neighbour) = FieldCell::from_index(from).get_in_compass_direction(dir) else {
+        return counts;
+    };
+    let n = neighbour.as_1d_index();
+    look_at(
+        cells,
+        corners,
+        queue,
+        counts,
+        from,
+        dir,
+        n,
+        goal,
+        wavefront_cost,
+    )
+}
+
+// The neighbours of cell `from`, in the order N, E, S, W.
+fn look_around(
+    cells: &mut [u32; 100],
+    corners: &mut [usize; 100],
+    queue: &mut [usize; 100],
+    counts: Counts,
+    from: usize,
+    goal: usize,
+    wavefront_cost: u32,
+) -> Counts
+    requires { ⌜ (ReadyAll (now cells) (now corners) (counts .corners) (now queue) (counts .queued)) × (InWave «wavefront_cost» goal from) ⌝ }
+    ensures { λ r. ⌜ HoldsAll (lookedAround (cornerLine goal) «wavefront_cost» from orthogonal (sightOf (now (cells .entry)) (now (corners .entry)) (counts .corners) (take (counts .queued) (now (queue .entry))))) (now (cells .exit)) (now (corners .exit)) (r .corners) (now (queue .exit)) (r .queued) ⌝ }
+{
+    let north = look(
+        cells,
+        corners,
+        queue,
+        counts,
+        from,
+        CompassDir::North,
+        goal,
+        wavefront_cost,
+    );
+    let east = look(
+        cells,
+        corners,
+        queue,
+        north,
+        from,
+        CompassDir::East,
+        goal,
+        wavefront_cost,
+    );
+    let south = look(
+        cells,
+        corners,
+        queue,
+        east,
+        from,
+        CompassDir::South,
+        goal,
+        wavefront_cost,
+    );
+    look(
+        cells,
+        corners,
+        queue,
+        south,
+        from,
+        CompassDir::West,
+        goal,
+        wavefront_cost,
+    )
+}
+
+// One wave: the neighbours of each of its cells, which queue the next.
+fn look_wave(
+    cells: &mut [u32; 100],
+    corners: &mut [usize; 100],
+    count: usize,
+    wavefront: &[usize; 100],
+    size: usize,
+    next: &mut [usize; 100],
+    goal: usize,
+    wavefront_cost: u32,
+) -> Counts
+    requires { ⌜ (Ready (now cells) (now corners) count) × ((Wavefront (now wavefront) size) × ((length (now next) ≡ 100) × ((«wavefront_cost» ≤ 100) × (goal < 100)))) ⌝ }
+    ensures { λ r. ⌜ HoldsAll (waveLooked (cornerLine goal) «wavefront_cost» (take size (now (wavefront .entry))) (sightOf (now (cells .entry)) (now (corners .entry)) count [])) (now (cells .exit)) (now (corners .exit)) (r .corners) (now (next .exit)) (r .queued) ⌝ }
+{
+    let mut counts = Counts {
+        corners: count,
+        queued: 0,
+    };
+    let mut i = 0;
+    while i < size {
+        let from = wavefront[i];
+        counts = look_around(cells, corners, next, counts, from, goal, wavefront_cost);
+        i += 1;
+    }
+    counts
+}
+
+// Sight, one wave a call: from each wave on, as long as there is a wave and the falling number is not 0.
+fn propagate_los(
+    field: IntegrationField,
+    wavefront: &[usize; 100],
+    size: usize,
+    goal: usize,
+    wavefront_cost: u32,
+    falling: usize,
+) -> IntegrationField
+    requires { ⌜ (Ready (field .field) (field .«los_corners») (field .count)) × ((Wavefront (now wavefront) size) × ((goal < 100) × («wavefront_cost» + falling ≤ 101))) ⌝ }
+    ensures { λ r. ⌜ ((cells : List ℕ) (k : ℕ) → «wavefront_cost» ≡ suc k → sightOf (field .field) (field .«los_corners») (field .count) (take size (now (wavefront .entry))) ≡ sightAfter (cornerLine goal) cells goal k → r ≡ startedOf (sightAfter (cornerLine goal) cells goal (k + falling))) ⌝ }
+{
+    if falling == 0 {
+        return field;
+    }
+    if size == 0 {
+        return field;
+    }
+    let mut cells = field.field;
+    let mut corners = field.los_corners;
+    let count = field.count;
+    let mut next: [usize; 100] = [0; 100];
+    let counts = look_wave(
+        &mut cells,
+        &mut corners,
+        count,
+        wavefront,
+        size,
+        &mut next,
+        goal,
+        wavefront_cost,
+    );
+    let after = IntegrationField {
+        field: cells,
+        los_corners: corners,
+        count: counts.corners,
+    };
+    let queued = counts.queued;
+    propagate_los(after, &next, queued, goal, wavefront_cost + 1, falling - 1)
+}
+
+// A cell before any goal or sight.
+fn wall_or(cost: u8) -> u32
+    ensures { λ r. ⌜ r ≡ wallOr cost ⌝ }
+{
+    if cost == 255 {
+        return 65535 + INT_BITS_IMPASSABLE;
+    }
+    65535
+}
+
+// Every cell before any goal or sight: the walls are marked.
+fn mark_walls(costs: &[u8], cells: &mut [u32; 100])
+    requires { ⌜ (length (now costs) ≡ 100) × (length (now cells) ≡ 100) ⌝ }
+    ensures { λ _. ⌜ now (cells .exit) ≡ walls (now (costs .entry)) ⌝ }
+{
+    let mut i = 0;
+    while i < 100 {
+        cells[i] = wall_or(costs[i]);
+        i += 1;
+    }
+}
+
+// The cells of a window are marked as portals, and listed as corners in order.
+fn mark_portals(cells: &mut [u32; 100], corners: &mut [usize; 100], window: WindowCells)
+    requires { ⌜ (Window (window .cells) (window .count)) × (now corners ≡ padded []) ⌝ }
+    ensures { λ _. ⌜ (now (cells .exit) ≡ withPortals (take (window .count) (window .cells)) (now (cells .entry))) × (now (corners .exit) ≡ padded (take (window .count) (window .cells))) ⌝ }
+{
+    let listed = window.cells;
+    let count = window.count;
+    let mut i = 0;
+    while i < count {
+        let n = listed[i];
+        cells[n] = INT_BITS_PORTAL;
+        corners[i] = n;
+        i += 1;
+    }
+}
+
+// The field that starts at a window.
+fn start_at(costs: &[u8], window: WindowCells) -> IntegrationField
+    requires { ⌜ (length (now costs) ≡ 100) × (Window (window .cells) (window .count)) ⌝ }
+    ensures { λ r. ⌜ r ≡ startedAt (now (costs .entry)) (take (window .count) (window .cells)) ⌝ }
+{
+    let mut cells: [u32; 100] = [65535; 100];
+    mark_walls(costs, &mut cells);
+    let mut corners: [usize; 100] = [0; 100];
+    mark_portals(&mut cells, &mut corners, window);
+    IntegrationField {
+        field: cells,
+        los_corners: corners,
+        count: window.count,
+    }
+}
+
+// The field that starts from a goal, with the sight of it.
+fn start_from(costs: &[u8], goal: usize) -> IntegrationField
+    requires { ⌜ (length (now costs) ≡ 100) × (goal < 100) ⌝ }
+    ensures { λ r. ⌜ r ≡ startedFrom (now (costs .entry)) goal ⌝ }
+{
+    let mut cells: [u32; 100] = [65535; 100];
+    mark_walls(costs, &mut cells);
+    cells[goal] = INT_BITS_GOAL;
+    let field = IntegrationField {
+        field: cells,
+        los_corners: [0; 100],
+        count: 0,
+    };
+    let mut wavefront: [usize; 100] = [0; 100];
+    wavefront[0] = goal;
+    propagate_los(field, &wavefront, 1, goal, 1, 100)
+}
+
+// The field that an accepted step starts.
+fn start(costs: &[u8], step: &[u8]) -> IntegrationField
+    requires { ⌜ (length (now costs) ≡ 100) × (stepNumber (now step) ≡ 0) ⌝ }
+    ensures { λ r. ⌜ r ≡ started (now (costs .entry)) (now (step .entry)) ⌝ }
+{
+    let route_step = RouteStep::new(step);
+    let has_portal = route_step.has_portal;
+    if has_portal {
+        let portal = route_step.portal;
+        return start_at(costs, portal.get_all_window_cells());
+    }
+    let goal = route_step.goal;
+    start_from(costs, goal)
+}
+
+// A refused answer: its number, and every other part zero.
+fn refused(number: u8) -> InitAnswer
+    ensures { λ r. ⌜ r ≡ initRefused number ⌝ }
+{
+    InitAnswer {
+        number,
+        field: IntegrationField::zeros(),
+    }
+}
+
+// Starts a field on 100 cost bytes for a step of 8 bytes, or answers why not: 1, 3, or 4 to 8.
+pub fn init(costs: &[u8], step: &[u8]) -> InitAnswer
+    ensures answer { λ r. ⌜ r ≡ initAnswer (now (costs .entry)) (now (step .entry)) ⌝ }
+    ensures started { λ r. ⌜ (r .number ≡ 0 → StartedField (now (costs .entry)) (now (step .entry)) (r .field)) ⌝ }
+{
+    if costs.len() != 100 {
+        return refused(1);
+    }
+    let number = route::step_number(step);
+    if number != 0 {
+        return refused(number);
+    }
+    let field = start(costs, step);
+    InitAnswer { number, field }
+}
