@@ -1,0 +1,158 @@
+-- The neighbours that a look does not pass over.
+--     Sees          a neighbour that is no wall, and no diagonal move to it lies between two walls
+--     sees-beside   a cell beside, that is no wall
+--     alike         such a neighbour is reached if and only if the cell is
+--     uncut         a move to it does not cut between two walls
+-- Assumes nothing.
+use mathlib.Core.Path.{_≡_, refl, sym, ap, _∙_}
+use mathlib.Core.Bool.{Bool, true, false, true≢false, not, _&&_}
+use mathlib.Core.Logic.{_⊎_, inl, inr}
+use mathlib.Core.List.{List, [], _∷_, List·Memᴰ, Memᴰ·append-left}
+use Prim.Native.Nat.{ℕ, _+_, _-_, _*_, _/_, _%_, _≤_, _<_}
+use native.Mathlib.Omega.{arith}
+use lib.Dec.{eqb}
+use lib.ListN.{getD}
+use borrow.Author.Tests.{eq-eqb, ne-eqb}
+use Rattle.utilities.specs.declared.CompassDir.{CompassDir}
+use Rattle.utilities.specs.declared.CompassDir.the-variants.{North, East, South, West, NorthEast, SouthEast, SouthWest, NorthWest, Zero}
+use Rattle.utilities.specs.Compass.{points, orthogonal, all}
+use Rattle.fields.specs.declared.FieldCell.{FieldCell}
+use Rattle.fields.specs.declared.Stepped.the-variants.{Cell}
+use Rattle.fields.specs.Cell.{cell, indexOf, cellAt, stepped}
+use Rattle.fields.proofs.Steps.{Arrives, stepped-cell, cell-of-index}
+use Rattle.integration_field.specs.Diagonal.{wallAt, diagonal, betweenWalls}
+use Rattle.integration_field.specs.Walks.{Beside, in-row, in-column}
+use Rattle.integration_field.proofs.Neighbours.{Neighbour, beside-neighbour}
+use Rattle.arrows.proofs.Fall.{Sector, value, NoWall, spreads, beside-back, beside-to}
+
+-- two numbers are one apart
+abbrev OneApart : ℕ → ℕ → Type 0
+OneApart a b = (b ≡ a + 1) ⊎ (a ≡ b + 1)
+
+-- n is a cell beside i, or one row and one column away
+pub data Near (i n : ℕ) : Type 0 where
+  beside : Beside i n → Near i n
+  corner : i < 100 → n < 100 → OneApart (i % 10) (n % 10) → OneApart (i / 10) (n / 10) → Near i n
+
+near : (i : ℕ) → i < 100 → (d : CompassDir) (c : FieldCell) → Arrives (cellAt i) d c → Near i (indexOf c)
+near i h North c a = let w = a .within in beside (in-column h (omega arith) (omega arith) (inr (omega arith)))
+near i h East c a = let w = a .within in beside (in-row h (omega arith) (omega arith) (inl (omega arith)))
+near i h South c a = let w = a .within in beside (in-column h (omega arith) (omega arith) (inl (omega arith)))
+near i h West c a = let w = a .within in beside (in-row h (omega arith) (omega arith) (inr (omega arith)))
+near i h NorthEast c a = let w = a .within in corner h (omega arith) (inl (omega arith)) (inr (omega arith))
+near i h SouthEast c a = let w = a .within in corner h (omega arith) (inl (omega arith)) (inl (omega arith))
+near i h SouthWest c a = let w = a .within in corner h (omega arith) (inr (omega arith)) (inl (omega arith))
+near i h NorthWest c a = let w = a .within in corner h (omega arith) (inr (omega arith)) (inr (omega arith))
+near i h Zero c a = absurd (true≢false (sym (a .pointing)))
+
+pub near-in : {i n : ℕ} → Near i n → n < 100
+near-in (beside b) = beside-to b
+near-in (corner h l c r) = l
+
+-- from i the step in direction d arrives at n, and the look does not pass n over
+pub record Sees (cells : List ℕ) (i : ℕ) (d : CompassDir) (n : ℕ) : Type 0 where
+  pub steps : stepped (cellAt i) d ≡ Cell (cellAt n)
+  pub to : Near i n
+  pub no-wall : wallAt cells n ≡ false
+  pub open-way : betweenWalls cells i n ≡ false
+
+one-apart : {a b : ℕ} → OneApart a b → a ≡ b → ⊥
+one-apart (inl e) q = omega arith
+one-apart (inr e) q = omega arith
+
+-- ---- the cells beside a diagonal move
+
+-- the cell in the row of i and the column of n
+abbrev aside : ℕ → ℕ → ℕ
+aside i n = i / 10 * 10 + n % 10
+
+beside-row : (i n : ℕ) → i < 100 → OneApart (i % 10) (n % 10) → Beside i (aside i n)
+beside-row i n h c = in-row h (omega arith) (omega arith) (let e : aside i n % 10 ≡ n % 10 = omega arith in rw e c)
+
+beside-column : (i n : ℕ) → i < 100 → n < 100 → OneApart (i / 10) (n / 10) → Beside (aside i n) n
+beside-column i n h l r = in-column (omega arith) l (omega arith) (let e : aside i n / 10 ≡ i / 10 = omega arith in rw e r)
+
+turned : {a b : ℕ} → OneApart a b → OneApart b a
+turned (inl e) = inr e
+turned (inr e) = inl e
+
+and-false : (a b : Bool) → (a && b) ≡ false → (a ≡ false) ⊎ (b ≡ false)
+and-false true b e = inr e
+and-false false b e = inl refl
+
+differ : (a b : ℕ) → (a ≡ b → ⊥) → not (eqb a b) ≡ true
+differ a b h = rw (ne-eqb a b h)
+
+module _ (cells : List ℕ) (i n : ℕ) where
+  -- a way from i to n past no wall
+  data Way : Type 0 where
+    direct : Beside i n → Way
+    around : (m : ℕ) → Beside i m → Beside m n → wallAt cells m ≡ false → Way
+
+  open-sides : OneApart (i % 10) (n % 10) → OneApart (i / 10) (n / 10) → betweenWalls cells i n ≡ false
+      → (wallAt cells (aside i n) ≡ false) ⊎ (wallAt cells (aside n i) ≡ false)
+  unfolding betweenWalls
+  open-sides c r e =
+      and-false (wallAt cells (aside i n)) (wallAt cells (aside n i))
+      (rw (differ (i / 10) (n / 10) (one-apart r), differ (i % 10) (n % 10) (one-apart c)) at e)
+
+  way : Near i n → betweenWalls cells i n ≡ false → Way
+  way (beside b) e = direct b
+  way (corner h l c r) e = go (open-sides c r e)
+    where
+      go : (wallAt cells (aside i n) ≡ false) ⊎ (wallAt cells (aside n i) ≡ false) → Way
+      go (inl w) = around (aside i n) (beside-row i n h c) (beside-column i n h l r) w
+      go (inr w) = around (aside n i) (beside-back (beside-column n i l h (turned r))) (beside-back (beside-row n i l (turned c))) w
+
+module _ {costs window cells corners built : List ℕ} (s : Sector costs window cells corners built) (i : ℕ) where
+  -- a neighbour that the look does not pass over is reached where the cell is, and the cell where it is
+  pub reached-there : (d : CompassDir) (n : ℕ) → Sees built i d n → value s i < 65535 → value s n < 65535
+  reached-there d n e v = go (way built i n (e .to) (e .open-way))
+    where
+      go : Way built i n → value s n < 65535
+      go (direct b) = spreads s i n b v (e .no-wall)
+      go (around m a b w) = spreads s m n b (spreads s i m a v w) (e .no-wall)
+
+  pub reached-back : (d : CompassDir) (n : ℕ) → Sees built i d n → NoWall s i → value s n < 65535 → value s i < 65535
+  reached-back d n e o v = go (way built i n (e .to) (e .open-way))
+    where
+      go : Way built i n → value s i < 65535
+      go (direct b) = spreads s n i (beside-back b) v o
+      go (around m a b w) = spreads s m i (beside-back a) (spreads s n m (beside-back b) v w) o
+
+-- ---- what is seen
+
+module _ (cells : List ℕ) (i : ℕ) (h : i < 100) where
+  pub sees : (d : CompassDir) (c : FieldCell) → stepped (cellAt i) d ≡ Cell c → wallAt cells (indexOf c) ≡ false → betweenWalls cells i (indexOf c) ≡ false
+      → Sees cells i d (indexOf c)
+  sees d c e w b =
+      let a = stepped-cell (cellAt i) d c e in
+      record { steps = rw (cell-of-index c (a .within)) e; to = near i h d c a; no-wall = w; open-way = b }
+
+  in-all : (d : CompassDir) → List·Memᴰ d orthogonal → List·Memᴰ d all
+  in-all d m = Memᴰ·append-left (NorthEast ∷ SouthEast ∷ SouthWest ∷ NorthWest ∷ []) m
+
+  -- a cell beside i that is no wall is seen in some direction
+  pub sees-beside : (n : ℕ) → Beside i n → wallAt cells n ≡ false → (d : CompassDir) × List·Memᴰ d all × Sees cells i d n
+  unfolding betweenWalls
+  sees-beside n b w = go b (beside-neighbour i n b)
+    where
+      no-diagonal : Beside i n → diagonal i n ≡ false
+      no-diagonal (in-row p q r o) = rw (eq-eqb (i / 10) (n / 10) (sym r))
+      no-diagonal (in-column p q r o) = rw (eq-eqb (i % 10) (n % 10) (sym r)) (and-none (not (eqb (i / 10) (n / 10))))
+        where
+          and-none : (t : Bool) → (t && false) ≡ false
+          and-none true = refl
+          and-none false = refl
+
+      go : Beside i n → Neighbour (cellAt i) orthogonal n → (d : CompassDir) × List·Memᴰ d all × Sees cells i d n
+      go b m = (
+        m .way,
+        in-all (m .way) (m .listed),
+        record {
+          steps = rw (m .index, cell-of-index (m .cell) (stepped-cell (cellAt i) (m .way) (m .cell) (m .step) .within)) (m .step);
+          to = beside b;
+          no-wall = w;
+          open-way = rw (no-diagonal b);
+        },
+      )

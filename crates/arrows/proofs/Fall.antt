@@ -1,0 +1,232 @@
+-- The built costs of a window sector: they fall from every reached cell to the window, and spread to every cell beside a reached one.
+--     kind        what a cell's built word is: a window cell's, a wall's, or a cost alone
+--     falls       a reached cell that is no window cell has a reached cell of lower cost beside it
+--     bounded     a reached cell costs at most 254 for each cell of lower cost
+--     spreads     beside a reached cell every cell but a wall is reached
+-- Assumes nothing.
+use mathlib.Core.Path.{_≡_, refl, sym, ap, _∙_}
+use mathlib.Core.Bool.{Bool, true, false, true≢false, _||_}
+use mathlib.Core.Logic.{_⊎_, inl, inr}
+use mathlib.Core.List.{List, [], _∷_}
+use Prim.Native.Nat.{ℕ, zero, suc, _+_, _*_, _^_, _≤_, _<_}
+use native.Mathlib.Omega.{arith}
+use lib.Dec.{leb, eqb}
+use lib.ListN.{length, getD}
+use borrow.Author.Tests.{le-leb, lt-leb, eqb-true, eq-eqb}
+use Rattle.waves.specs.Walks.{Walk, start, move}
+use Rattle.waves.proofs.Count.{bit, count, count-le, count-more, leb-grows}
+use Rattle.integration_field.specs.Word.{low, isLos, isImpassable}
+use Rattle.integration_field.specs.Walks.{Beside, in-row, in-column, MayEnter, Permitted}
+use Rattle.integration_field.specs.Promise.{Walked, LeastWalks}
+use Rattle.started_field.specs.StartedCell.{Among, WindowStarted}
+use Rattle.least_walks.proofs.Ground.{among-mem, mem-among}
+use Rattle.flow_byte.specs.New.{isIn}
+
+-- ---- a list has an entry
+
+or-right : (a b : Bool) → b ≡ true → (a || b) ≡ true
+or-right true b e = refl
+or-right false b e = e
+
+pub is-in : (x : ℕ) (l : List ℕ) → Among x l → isIn x l ≡ true
+is-in x [] (i, h, e) = absurd (omega arith)
+is-in x (y ∷ l) (zero, h, e) = rw (eq-eqb y x e)
+is-in x (y ∷ l) (suc i, h, e) = or-right (eqb y x) (isIn x l) (is-in x l (i, omega arith, e))
+
+pub in-among : (x : ℕ) (l : List ℕ) → isIn x l ≡ true → Among x l
+in-among x [] e = absurd (true≢false (sym e))
+in-among x (y ∷ l) e = go (eqb y x) refl e (λ t. in-among x l t)
+  where
+    go : (b : Bool) → eqb y x ≡ b → (b || isIn x l) ≡ true → (isIn x l ≡ true → Among x l) → Among x (y ∷ l)
+    go true q t f = (0, omega arith, eqb-true y x q)
+    go false q t f = let r = f t in (suc (r .0), omega (arith, r .1), r .2)
+
+-- ---- cells beside each other
+
+pub beside-back : {y x : ℕ} → Beside y x → Beside x y
+beside-back (in-row h l r (inl e)) = in-row l h (sym r) (inr e)
+beside-back (in-row h l r (inr e)) = in-row l h (sym r) (inl e)
+beside-back (in-column h l c (inl e)) = in-column l h (sym c) (inr e)
+beside-back (in-column h l c (inr e)) = in-column l h (sym c) (inl e)
+
+pub beside-to : {y x : ℕ} → Beside y x → x < 100
+beside-to (in-row h l r e) = l
+beside-to (in-column h l c e) = l
+
+pub beside-from : {y x : ℕ} → Beside y x → y < 100
+beside-from (in-row h l r e) = h
+beside-from (in-column h l c e) = h
+
+-- ---- a window sector, started and built
+
+pub record Sector (costs window cells corners built : List ℕ) : Type 0 where
+  pub started : WindowStarted costs window cells corners
+  pub least : LeastWalks costs cells corners built
+  -- no cost 0
+  pub cost-from : (x : ℕ) → x < 100 → 1 ≤ getD costs x 0
+  pub cost-to : (x : ℕ) → x < 100 → getD costs x 0 ≤ 255
+
+module _ {costs window cells corners built : List ℕ} (s : Sector costs window cells corners built) where
+  abbrev pub value : ℕ → ℕ
+  value x = low (getD built x 0)
+
+  -- a cell that is neither wall nor window cell
+  pub record Plain (x : ℕ) : Type 0 where
+    pub inside : x < 100
+    pub no-window : Among x window → ⊥
+    pub no-wall : getD costs x 0 ≡ 255 → ⊥
+
+  -- what a built word is
+  pub data Kind (x w : ℕ) : Type 0 where
+    a-window : Among x window → w ≡ 0x80000 → Kind x w
+    a-wall : getD costs x 0 ≡ 255 → (Among x window → ⊥) → w ≡ 0x200FFFF → Kind x w
+    a-plain : Plain x → w < 2 ^ 16 → Kind x w
+
+  window-word : (x : ℕ) → Among x window → getD built x 0 ≡ 0x80000
+  window-word x a = go (s .least .attained x)
+    where
+      was : getD cells x 0 ≡ 0x80000
+      was = s .started .portal-cell x a
+
+      go : (getD built x 0 ≡ getD cells x 0) ⊎ Walked costs cells corners x (getD built x 0) → getD built x 0 ≡ 0x80000
+      go (inl e) = e ∙ was
+      go (inr w) = absurd (omega (arith, w .lower, ap low was))
+
+  pub wall-word : (x : ℕ) → x < 100 → getD costs x 0 ≡ 255 → (Among x window → ⊥) → getD built x 0 ≡ 0x200FFFF
+  wall-word x h c a = let was = s .started .wall-cell x h c a in s .least .walls-stay x (ap isImpassable was) ∙ was
+
+  plain-word : (x : ℕ) → Plain x → getD cells x 0 ≡ 65535
+  plain-word x p = s .started .other-cell x (p .inside) (p .no-wall) (p .no-window)
+
+  pub kind : (x : ℕ) → x < 100 → Kind x (getD built x 0)
+  kind x h = go (isIn x window) refl (eqb (getD costs x 0) 255) refl
+    where
+      plain : Plain x → Kind x (getD built x 0)
+      plain p = a-plain p (small (s .least .attained x))
+        where
+          small : (getD built x 0 ≡ getD cells x 0) ⊎ Walked costs cells corners x (getD built x 0) → getD built x 0 < 2 ^ 16
+          small (inl e) = omega (arith, e, plain-word x p)
+          small (inr w) = omega (arith, w .lower)
+
+      go : (a : Bool) → isIn x window ≡ a → (b : Bool) → eqb (getD costs x 0) 255 ≡ b → Kind x (getD built x 0)
+      go true p b q = a-window (in-among x window p) (window-word x (in-among x window p))
+      go false p true q =
+          let a : Among x window → ⊥ = λ i. true≢false (sym (is-in x window i) ∙ p) in
+          let c = eqb-true (getD costs x 0) 255 q in
+          a-wall c a (wall-word x h c a)
+      go false p false q =
+          plain (record { inside = h; no-window = λ i. true≢false (sym (is-in x window i) ∙ p); no-wall = λ e. true≢false (sym (eq-eqb (getD costs x 0) 255 e) ∙ q) })
+
+  -- ---- walks into reached cells
+
+  pub Arrived : ℕ → Type 0
+  Arrived x = (k : ℕ) × Permitted costs cells corners k x (value x)
+
+  walk-into : (x : ℕ) → x < 100 → value x < 65535 → Arrived x
+  unfolding Arrived
+  walk-into x h r = go (kind x h) (s .least .attained x)
+    where
+      go : Kind x (getD built x 0) → (getD built x 0 ≡ getD cells x 0) ⊎ Walked costs cells corners x (getD built x 0) → (k : ℕ) × Permitted costs cells corners k x (value x)
+      go (a-window a e) w = (zero, start {x = x} {s = value x} (rw (s .started .list) (among-mem x window a)) (omega (arith, ap low e, ap low (s .started .portal-cell x a))))
+      go (a-wall c a e) w = absurd (omega (arith, ap low e))
+      go (a-plain p l) (inl e) = absurd (omega (arith, ap low e, ap low (plain-word x p)))
+      go (a-plain p l) (inr w) = let e : value x ≡ getD built x 0 = omega arith in (w .moves, rw e (w .walk))
+
+  -- one move more
+  enters : (y x : ℕ) → Arrived y → Beside y x → Plain x → value y + getD costs x 0 < 65535 → value x ≤ value y + getD costs x 0
+  unfolding Arrived
+  enters y x w b p l =
+      let e = plain-word x p in
+      s .least .none-below (suc (w .0)) x (value y + getD costs x 0) (move (w .1) b (record {
+        no-wall = ap isImpassable e;
+        not-in-sight = ap isLos e;
+        below = omega (arith, ap low e);
+      }) refl)
+
+  -- ---- falling
+
+  -- a cell of lower cost beside x
+  pub record Lower (x : ℕ) : Type 0 where
+    pub cell : ℕ
+    pub beside : Beside cell x
+    pub lower : value cell < value x
+    pub exact : value x ≤ value cell + getD costs x 0
+
+  pub falls : (x : ℕ) → Plain x → value x < 65535 → Lower x
+  unfolding Arrived
+  falls x p r = go (walk-into x (p .inside) r)
+    where
+      back : {k : ℕ} → (t : ℕ) → t ≡ value x → Permitted costs cells corners k x t → Lower x
+      back t q (start c e) = absurd (p .no-window (mem-among x window (rw (s .started .list) at c)))
+      back t q (move {k = j} {y = y} {t = u} w b m e) =
+          let least = s .least .none-below j y u w in
+          let c = s .cost-from x (p .inside) in
+          let l : value y < value x = omega arith in
+          record {
+            cell = y;
+            beside = b;
+            lower = l;
+            exact = enters y x (walk-into y (beside-from b) (omega arith)) b p (omega arith);
+          }
+
+      go : Arrived x → Lower x
+      go w = back (value x) refl (w .1)
+
+  -- ---- how many cells cost less
+
+  pub rank : ℕ → ℕ
+  rank x = count 100 (λ z. leb (suc (value z)) (value x))
+
+  pub rank-less : (x y : ℕ) → y < 100 → value y < value x → rank y < rank x
+  unfolding rank
+  rank-less x y h l =
+      count-more 100 (λ z. leb (suc (value z)) (value y)) (λ z. leb (suc (value z)) (value x))
+      (λ z. leb-grows (suc (value z)) (suc (value z)) (value y) (value x) (omega arith) (omega arith)) y h
+      (rw (lt-leb (suc (value y)) (value y) (omega arith), le-leb (suc (value y)) (value x) l) (omega arith))
+
+  pub rank-few : (x : ℕ) → x < 100 → rank x ≤ 99
+  unfolding rank
+  rank-few x h =
+      let l = count-more 100 (λ z. leb (suc (value z)) (value x)) (λ z. true) (λ z. most (leb (suc (value z)) (value x))) x h
+      (rw (lt-leb (suc (value x)) (value x) (omega arith)) (omega arith)) in
+      omega (arith, count-le 100 (λ z. true))
+    where
+      most : (b : Bool) → bit b ≤ 1
+      most true = omega arith
+      most false = omega arith
+
+  -- ---- spreading
+
+  bounded : (r x : ℕ) → x < 100 → rank x ≤ r → value x < 65535 → value x ≤ 254 * r
+  bounded zero x h l v = go (kind x h)
+    where
+      go : Kind x (getD built x 0) → value x ≤ 254 * 0
+      go (a-window a e) = omega (arith, ap low e)
+      go (a-wall c a e) = absurd (omega (arith, ap low e))
+      go (a-plain p q) = let f = falls x p v in absurd (omega (arith, rank-less x (f .cell) (beside-from (f .beside)) (f .lower)))
+  bounded (suc r) x h l v = go (kind x h) (λ y. bounded r y)
+    where
+      go : Kind x (getD built x 0) → ((y : ℕ) → y < 100 → rank y ≤ r → value y < 65535 → value y ≤ 254 * r) → value x ≤ 254 * suc r
+      go (a-window a e) ih = omega (arith, ap low e)
+      go (a-wall c a e) ih = absurd (omega (arith, ap low e))
+      go (a-plain p q) ih =
+          let f = falls x p v in
+          let b = ih (f .cell) (beside-from (f .beside)) (omega (arith, rank-less x (f .cell) (beside-from (f .beside)) (f .lower))) (omega (arith, f .lower)) in
+          let c : getD costs x 0 ≤ 254 = omega (arith, s .cost-to x h, p .no-wall) in
+          omega (arith, f .exact)
+
+  -- a cell that is no wall
+  abbrev pub NoWall : ℕ → Type 0
+  NoWall x = isImpassable (getD built x 0) ≡ false
+
+  pub spreads : (y x : ℕ) → Beside y x → value y < 65535 → NoWall x → value x < 65535
+  spreads y x b v n = go (kind x (beside-to b))
+    where
+      go : Kind x (getD built x 0) → value x < 65535
+      go (a-window a e) = omega (arith, ap low e)
+      go (a-wall c a e) = absurd (true≢false (sym (ap isImpassable e) ∙ n))
+      go (a-plain p q) =
+          let y-in = beside-from b in
+          let c : getD costs x 0 ≤ 254 = omega (arith, s .cost-to x (p .inside), p .no-wall) in
+          let m : value y ≤ 254 * 99 = bounded 99 y y-in (rank-few y y-in) v in
+          omega (arith, enters y x (walk-into y y-in v) b p (omega arith))

@@ -1,0 +1,281 @@
+-- Followed arrows end in the window.
+--     arrows-lead      from every reached cell, after at most 99 moves, each to a lower cell and none between two walls; and all of 0xE0
+--                      stands exactly on walls and unreached cells
+--     build-arrows     the same as it is promised of `FlowField::build`
+--     leads-once       following is determined: two ways to follow the arrows from a cell make as many moves
+-- Assumes nothing.
+use mathlib.Core.Path.{_≡_, refl, sym, ap, _∙_}
+use mathlib.Core.Bool.{Bool, true, false, true≢false, cond, not, _&&_, _||_}
+use mathlib.Core.Logic.{_⊎_, inl, inr, _↔_}
+use mathlib.Core.List.{List, List·Memᴰ}
+use Prim.Native.Nat.{ℕ, zero, suc, _+_, _*_, _/_, _%_, _^_, _≤_, _<_}
+use native.Mathlib.Omega.{arith}
+use native.Mathlib.Decide.{decLt}
+use lib.Dec.{eqb}
+use lib.Bits.{bitOr}
+use lib.ListN.{length, getD}
+use borrow.Author.Tests.{ne-eqb}
+use Rattle.utilities.specs.declared.CompassDir.{CompassDir}
+use Rattle.utilities.specs.declared.CompassDir.the-variants.{Zero}
+use Rattle.utilities.specs.Compass.{all}
+use Rattle.fields.specs.declared.Stepped.the-variants.{Cell}
+use Rattle.fields.specs.Cell.{cell, indexOf, cellAt, stepped}
+use Rattle.fields.proofs.Steps.{stepped-cell, index-of-cell}
+use Rattle.route.specs.Step.{isWindow, windowCells, stepNumber, boundaryByte}
+use Rattle.route.proofs.Accepted.{accepted-window}
+use Rattle.integration_field.specs.Word.{low, isLos, isGoal, isPortal}
+use Rattle.integration_field.specs.Word as word
+use Rattle.integration_field.specs.Diagonal.{wallAt, betweenWalls}
+use Rattle.integration_field.specs.Listed.{listOf}
+use Rattle.integration_field.proofs.Flags.{small-flag}
+use Rattle.integration_field.proofs.Least.{least-walks}
+use Rattle.started_field.specs.StartedCell.{Among, WindowStarted}
+use Rattle.started_field.specs.Started.{started, StartedField}
+use Rattle.started_field.proofs.Started.{started-field}
+use Rattle.least_walks.specs.Walks.{WindowCell, Wall}
+use Rattle.least_walks.proofs.Ground.{among-mem, mem-among}
+use Rattle.flow_byte.specs.declared.Look.{Look}
+use Rattle.flow_byte.specs.declared.Look.the-variants.{Looking, Taken, Ended}
+use Rattle.flow_byte.specs.Byte.{isPathable, isImpassable}
+use Rattle.flow_byte.specs.New.{isIn, inWindow, startOf, windowBits, newByte, flowNew}
+use Rattle.flow_byte.specs.Look.{lookedByte, lookAround, pointed, builtByte, flowBuild}
+use Rattle.arrows.specs.Arrows.{Reached, Cuts, Move, Leads, ends, moves, ArrowsLead}
+use Rattle.arrows.specs.Promise.{WindowSector, builtCells, BuildArrows}
+use Rattle.arrows.proofs.Fall.{is-in, in-among, beside-back, beside-from, Sector, value, Plain, Kind, a-window, a-wall, a-plain, wall-word, kind, Lower, falls, rank, rank-less, rank-few}
+use Rattle.arrows.proofs.Around.{Sees, near-in, reached-there, reached-back, sees-beside}
+use Rattle.arrows.proofs.Look.{Found, found, Nothing, nothing}
+use Rattle.arrows.proofs.Bytes.{built-byte, new-byte, Pointed, pointed-is, Kept, portal-kept, window-bits}
+
+differ : (a b : ℕ) → (a ≡ b → ⊥) → not (eqb a b) ≡ true
+differ a b h = rw (ne-eqb a b h)
+
+-- a word without flags starts with 0
+small-start : (w : ℕ) → w < 2 ^ 16 → startOf w ≡ 0
+unfolding startOf
+small-start w h = rw (small-flag w 17 (omega arith), small-flag w 19 (omega arith), small-flag w 16 h, small-flag w 25 (omega arith))
+
+small-untaken : (w : ℕ) → w < 2 ^ 16 → (isGoal w || isPortal w) ≡ false
+small-untaken w h = rw (small-flag w 17 (omega arith), small-flag w 19 (omega arith))
+
+module _ (costs step cells corners built : List ℕ) (s : Sector costs (windowCells step) cells corners built) (on : isWindow step ≡ true) (side : boundaryByte step < 4)
+    (has : Bool) (previous : List ℕ) where
+  abbrev window : List ℕ
+  window = windowCells step
+
+  abbrev bytes : List ℕ
+  bytes = flowBuild built (flowNew step built has previous)
+
+  -- ---- the byte of each kind of cell
+
+  made : (x : ℕ) → x < 100 → getD bytes x 0 ≡ builtByte built x (newByte step built has previous x)
+  made x h = built-byte built (flowNew step built has previous) x h ∙ ap (builtByte built x) (new-byte step built has previous x h)
+
+  no-bits : (x : ℕ) → (Among x window → ⊥) → inWindow step x ≡ false
+  unfolding inWindow
+  no-bits x a = rw on (go (isIn x window) refl)
+    where
+      go : (b : Bool) → isIn x window ≡ b → b ≡ false
+      go true e = absurd (a (in-among x window e))
+      go false e = refl
+
+  bits : (x : ℕ) → Among x window → inWindow step x ≡ true
+  unfolding inWindow
+  bits x a = rw (on, is-in x window a)
+
+  window-byte : (x : ℕ) → x < 100 → Among x window → getD built x 0 ≡ 0x80000 → Kept (getD bytes x 0)
+  unfolding newByte startOf builtByte
+  window-byte x h a e =
+      let b = windowBits step has previous x in
+      let k = portal-kept b (window-bits step has previous x side) in
+      let n : newByte step built has previous x ≡ bitOr 0x90 b = rw (e, bits x a) in
+      rw (made x h, n, k .pathable) k
+
+  wall-byte : (x : ℕ) → x < 100 → (Among x window → ⊥) → getD built x 0 ≡ 0x200FFFF → getD bytes x 0 ≡ 0xE0
+  unfolding newByte startOf builtByte
+  wall-byte x h a e =
+      let n : newByte step built has previous x ≡ 0xE0 = rw (e, no-bits x a) in
+      made x h ∙ ap (builtByte built x) n
+
+  plain-byte : (x : ℕ) → Plain s x → getD built x 0 < 2 ^ 16 → getD bytes x 0 ≡ lookedByte 0 (lookAround built x)
+  unfolding newByte builtByte
+  plain-byte x p l =
+      let n : newByte step built has previous x ≡ 0 = rw (small-start (getD built x 0) l, no-bits x (p .no-window)) in
+      made x (p .inside) ∙ ap (builtByte built x) n
+
+  -- ---- a move
+
+  -- the walls of document 01 are walls of the built field
+  wall-at : (x : ℕ) → x < 100 → Wall costs step x → wallAt built x ≡ true
+  wall-at x h w = ap word.isImpassable (wall-word s x h (w .impassable) (λ a. w .not-window (on, among-mem x window a)))
+
+  no-cut : (x n : ℕ) → x < 100 → n < 100 → betweenWalls built x n ≡ false → Cuts costs step x n → ⊥
+  unfolding betweenWalls
+  no-cut x n h l e c =
+      let r : wallAt built (x / 10 * 10 + n % 10) ≡ true = wall-at (x / 10 * 10 + n % 10) (omega arith) (c .wall-in-row) in
+      let k : wallAt built (n / 10 * 10 + x % 10) ≡ true = wall-at (n / 10 * 10 + x % 10) (omega arith) (c .wall-in-column) in
+      true≢false (rw (differ (x / 10) (n / 10) (c .other-row), differ (x % 10) (n % 10) (c .other-column), r, k) at e)
+
+  -- where the byte of a cell points
+  record Next (x : ℕ) : Type 0 where
+    way : CompassDir
+    next : ℕ
+    sees : Sees built x way next
+    lower : value s next < value s x
+    byte : getD bytes x 0 ≡ pointed 0 way
+
+  next-pointed : {x : ℕ} (n : Next x) → Pointed (n .way)
+  next-pointed {x} n = pointed-is (n .way) (stepped-cell (cellAt x) (n .way) (cellAt (n .next)) (n .sees .steps) .pointing)
+
+  next-move : {x : ℕ} → x < 100 → (n : Next x) → Move costs step built bytes x (n .next)
+  next-move {x} h n = record {
+    goes = rw (n .byte, next-pointed n .arrow-is) (n .sees .steps);
+    inside = near-in (n .sees .to);
+    lower = n .lower;
+    uncut = no-cut x (n .next) h (near-in (n .sees .to)) (n .sees .open-way);
+  }
+
+  -- a goal or portal of the built field is a window cell, of cost 0
+  taken-zero : (n : ℕ) → n < 100 → wallAt built n ≡ false → (isGoal (getD built n 0) || isPortal (getD built n 0)) ≡ true → value s n ≡ 0
+  taken-zero n h w t = go (kind s n h)
+    where
+      go : Kind s n (getD built n 0) → value s n ≡ 0
+      go (a-window a e) = ap low e
+      go (a-wall c a e) = absurd (true≢false (sym (ap word.isImpassable e) ∙ w))
+      go (a-plain p l) = absurd (true≢false (sym t ∙ small-untaken (getD built n 0) l))
+
+  next-of : (x : ℕ) → Plain s x → getD built x 0 < 2 ^ 16 → value s x < 65535 → Next x
+  next-of x p l r = go (lookAround built x) (plain-byte x p l) (found built x (p .inside) reached (value s x) (f .cell) (d .0) (d .1) (d .2) (f .lower))
+    where
+      f : Lower s x
+      f = falls s x p r
+
+      reached : (d : CompassDir) (n : ℕ) → Sees built x d n → low (getD built n 0) < 65535
+      reached d n e = reached-there s x d n e r
+
+      open-cell : wallAt built (f .cell) ≡ false
+      open-cell = at (kind s (f .cell) (beside-from (f .beside)))
+        where
+          at : Kind s (f .cell) (getD built (f .cell) 0) → wallAt built (f .cell) ≡ false
+          at (a-window a e) = ap word.isImpassable e
+          at (a-wall c a e) = absurd (omega (arith, ap low e, f .lower))
+          at (a-plain q m) = small-flag (getD built (f .cell) 0) 25 (omega arith)
+
+      d : (d : CompassDir) × List·Memᴰ d all × Sees built x d (f .cell)
+      d = sees-beside built x (p .inside) (f .cell) (beside-back (f .beside)) open-cell
+
+      go : (look : Look) → getD bytes x 0 ≡ lookedByte 0 look → Found built x (p .inside) reached (value s x) look → Next x
+      go (Looking best v) e q = record { way = best; next = q .0; sees = q .1; lower = q .2; byte = e }
+      go (Taken t) e q = record {
+        way = t;
+        next = q .0;
+        sees = q .1;
+        lower = omega (arith, f .lower, taken-zero (q .0) (near-in (q .1 .to)) (q .1 .no-wall) (q .2));
+        byte = e;
+      }
+      go (Ended best) e q = absurd q
+
+  -- ---- the arrows lead to the window
+
+  abbrev Led : ℕ → ℕ → Type 0
+  Led r x = (n : ℕ) × (n ≤ r) × Leads costs step built bytes n x
+
+  lead : (r x : ℕ) → x < 100 → rank s x ≤ r → value s x < 65535 → Led r x
+  lead zero x h l v = go (kind s x h)
+    where
+      go : Kind s x (getD built x 0) → Led zero x
+      go (a-window a e) = (zero, omega arith, ends (on, among-mem x window a))
+      go (a-wall c a e) = absurd (omega (arith, ap low e))
+      go (a-plain p q) = let n = next-of x p q v in absurd (omega (arith, rank-less s x (n .next) (near-in (n .sees .to)) (n .lower)))
+  lead (suc r) x h l v = go (kind s x h) (λ y. lead r y)
+    where
+      go : Kind s x (getD built x 0) → ((y : ℕ) → y < 100 → rank s y ≤ r → value s y < 65535 → Led r y) → Led (suc r) x
+      go (a-window a e) ih = (zero, omega arith, ends (on, among-mem x window a))
+      go (a-wall c a e) ih = absurd (omega (arith, ap low e))
+      go (a-plain p q) ih =
+          let n = next-of x p q v in
+          let to = near-in (n .sees .to) in
+          let rest = ih (n .next) to (omega (arith, rank-less s x (n .next) to (n .lower))) (omega (arith, n .lower)) in
+          (suc (rest .0), omega (arith, rest .1), moves (λ w. p .no-window (mem-among x window (w .1))) (next-move h n) (rest .2))
+
+  -- ---- all of 0xE0
+
+  -- nothing seen from an unreached cell is reached
+  plain-unreached : (x : ℕ) → Plain s x → getD built x 0 < 2 ^ 16 → (value s x < 65535 → ⊥) → isImpassable (getD bytes x 0) ≡ true
+  unfolding pointed
+  plain-unreached x p l u = rw (plain-byte x p l) (go (lookAround built x) (nothing built x (p .inside) unreached))
+    where
+      unreached : (d : CompassDir) (n : ℕ) → Sees built x d n → (low (getD built n 0) ≡ 65535) × ((isGoal (getD built n 0) || isPortal (getD built n 0)) ≡ false)
+      unreached d n e = (v, at (kind s n (near-in (e .to))))
+        where
+          v : low (getD built n 0) ≡ 65535
+          v =
+              let w : value s n < 65535 → ⊥ = λ r. u (reached-back s x d n e (small-flag (getD built x 0) 25 (omega arith)) r) in
+              omega arith
+
+          at : Kind s n (getD built n 0) → (isGoal (getD built n 0) || isPortal (getD built n 0)) ≡ false
+          at (a-window a q) = absurd (omega (arith, ap low q, v))
+          at (a-wall c a q) = absurd (true≢false (sym (ap word.isImpassable q) ∙ e .no-wall))
+          at (a-plain q m) = small-untaken (getD built n 0) m
+
+      go : (look : Look) → Nothing built x (p .inside) unreached look → isImpassable (lookedByte 0 look) ≡ true
+      go (Looking best v) q = rw (q .0)
+      go (Taken t) q = absurd q
+      go (Ended best) q = rw q
+
+  marked-cell : (x : ℕ) → x < 100 → isImpassable (getD bytes x 0) ≡ true → Wall costs step x ⊎ (Reached built x → ⊥)
+  marked-cell x h m = go (kind s x h)
+    where
+      go : Kind s x (getD built x 0) → Wall costs step x ⊎ (Reached built x → ⊥)
+      go (a-window a e) = absurd (true≢false (sym m ∙ window-byte x h a e .unmarked))
+      go (a-wall c a e) = inl (record { impassable = c; not-goal = λ g. true≢false (sym on ∙ g .0); not-window = λ w. a (mem-among x window (w .1)) })
+      go (a-plain p l) = inr (λ r. (let n = next-of x p l r in true≢false (sym m ∙ ap isImpassable (n .byte) ∙ next-pointed n .unmarked)))
+
+  cell-marked : (x : ℕ) → x < 100 → Wall costs step x ⊎ (Reached built x → ⊥) → isImpassable (getD bytes x 0) ≡ true
+  cell-marked x h u = go (kind s x h) u
+    where
+      go : Kind s x (getD built x 0) → Wall costs step x ⊎ (Reached built x → ⊥) → isImpassable (getD bytes x 0) ≡ true
+      go (a-window a e) (inl w) = absurd (w .not-window (on, among-mem x window a))
+      go (a-window a e) (inr u) = absurd (u (omega (arith, ap low e)))
+      go (a-wall c a e) w = ap isImpassable (wall-byte x h a e)
+      go (a-plain p l) (inl w) = absurd (p .no-wall (w .impassable))
+      go (a-plain p l) (inr u) = plain-unreached x p l u
+
+  pub sector-arrows : ArrowsLead costs step built bytes
+  sector-arrows = record { leads = λ x h r. lead 99 x h (rank-few s x h) r; marked = λ x h. (marked-cell x h, cell-marked x h) }
+
+-- ---- a sector left by a window
+
+module _ (costs step : List ℕ) (w : WindowSector costs step) where
+  abbrev cells : List ℕ
+  cells = started costs step .field
+
+  abbrev corners : List ℕ
+  corners = listOf (started costs step)
+
+  told : WindowStarted costs (windowCells step) cells corners
+  told = started-field costs (w .full) step (w .accepted) .of-window (w .by-window)
+
+  inside : (x : ℕ) → List·Memᴰ x corners → x < 100
+  inside x m = let a = mem-among x corners m in omega (arith, told .corner-in (a .0) (a .1), a .2)
+
+  sector : Sector costs (windowCells step) cells corners (builtCells costs step)
+  sector = record { started = told; least = least-walks costs cells corners (told .full) inside; cost-from = w .no-zero; cost-to = w .byte }
+
+  pub arrows-lead : (has : Bool) (previous : List ℕ)
+      → ArrowsLead costs step (builtCells costs step) (flowBuild (builtCells costs step) (flowNew step (builtCells costs step) has previous))
+  arrows-lead has previous =
+      sector-arrows costs step cells corners (builtCells costs step) sector (w .by-window) (accepted-window step (w .accepted) (w .by-window) .boundary-in) has previous
+
+pub build-arrows : (cells entry : List ℕ) → BuildArrows cells entry (flowBuild cells entry)
+build-arrows cells entry = record { arrows = λ costs step has previous w c e. rw (e, c) (arrows-lead costs step w has previous) }
+
+-- ---- following is determined
+
+pub leads-once : (costs step built bytes : List ℕ) {n m x : ℕ} → Leads costs step built bytes n x → Leads costs step built bytes m x → n ≡ m
+leads-once costs step built bytes (ends a) (ends b) = refl
+leads-once costs step built bytes (ends a) (moves o p q) = absurd (o a)
+leads-once costs step built bytes (moves o p q) (ends b) = absurd (o b)
+leads-once costs step built bytes (moves {y = y} o p q) (moves {y = z} u v w) =
+    let e : cellAt z ≡ cellAt y = cc (p .goes, v .goes) in
+    let c : z ≡ y = sym (index-of-cell z) ∙ ap indexOf e ∙ index-of-cell y in
+    ap suc (leads-once costs step built bytes q (rw c at w))

@@ -1,0 +1,5 @@
+pub mod Fall
+pub mod Around
+pub mod Look
+pub mod Bytes
+pub mod Lead

@@ -1,0 +1,208 @@
+-- A look, direction by direction.
+--     found         where all that it sees is reached and one cell is lower, it comes to a direction in which it sees a lower cell
+--     nothing       where nothing that it sees is reached, it comes to no direction
+-- Assumes nothing.
+use mathlib.Core.Path.{_≡_, refl, sym, ap, _∙_, subst}
+use mathlib.Core.Bool.{Bool, true, false, true≢false, cond, _||_}
+use mathlib.Core.Logic.{_⊎_, inl, inr}
+use mathlib.Core.List.{List, [], _∷_, List·Memᴰ, List·Memᴰ·cases-cons, List·Memᴰ·not-nil}
+use Prim.Native.Nat.{ℕ, _≤_, _<_}
+use native.Mathlib.Omega.{arith}
+use lib.Dec.{ltb, eqb}
+use lib.ListN.{getD}
+use borrow.Author.Tests.{ltb-true, ltb-false, eqb-true, eqb-false}
+use Rattle.utilities.specs.declared.CompassDir.{CompassDir}
+use Rattle.utilities.specs.declared.CompassDir.the-variants.{Zero}
+use Rattle.utilities.specs.Compass.{all}
+use Rattle.fields.specs.declared.FieldCell.{FieldCell}
+use Rattle.fields.specs.declared.Stepped.{Stepped}
+use Rattle.fields.specs.declared.Stepped.the-variants.{Cell, Outside}
+use Rattle.fields.specs.Cell.{indexOf, cellAt, stepped}
+use Rattle.fields.proofs.Steps.{stepped-cell, cell-of-index, index-of-cell}
+use Rattle.integration_field.specs.Word.{low, isGoal, isPortal}
+use Rattle.integration_field.specs.Diagonal.{wallAt, betweenWalls}
+use Rattle.flow_byte.specs.declared.Look.{Look}
+use Rattle.flow_byte.specs.declared.Look.the-variants.{Looking, Taken, Ended}
+use Rattle.flow_byte.specs.Look.{seen, seenAt, lookAt, lookAlong, lookAround}
+use Rattle.arrows.proofs.Around.{Sees, sees}
+
+neither : (a b : Bool) → (a || b) ≡ false → (a ≡ false) × (b ≡ false)
+neither true b e = absurd (true≢false e)
+neither false b e = (refl, e)
+
+module _ (cells : List ℕ) (i : ℕ) (h : i < 100) where
+  abbrev at : ℕ → ℕ
+  at n = getD cells n 0
+
+  abbrev isTaken : ℕ → Bool
+  isTaken n = isGoal (at n) || isPortal (at n)
+
+  -- what a look in direction d, with the best so far and its value, comes to
+  data Came (d best : CompassDir) (value : ℕ) : Look → Type 0 where
+    over : {l : Look} → ((n : ℕ) → Sees cells i d n → ⊥) → l ≡ Looking best value → Came d best value l
+    takes : {l : Look} → (n : ℕ) → Sees cells i d n → isTaken n ≡ true → l ≡ Taken d → Came d best value l
+    stops : {l : Look} → (n : ℕ) → Sees cells i d n → isTaken n ≡ false → low (at n) ≡ 65535 → l ≡ Ended best → Came d best value l
+    better : {l : Look} → (n : ℕ) → Sees cells i d n → low (at n) < value → l ≡ Looking d (low (at n)) → Came d best value l
+    worse : {l : Look} → (n : ℕ) → Sees cells i d n → value ≤ low (at n) → l ≡ Looking best value → Came d best value l
+
+  -- a direction arrives at one cell
+  same-cell : (d : CompassDir) (c : FieldCell) (n : ℕ) → stepped (cellAt i) d ≡ Cell c → Sees cells i d n → n ≡ indexOf c
+  same-cell d c n e s = let q : cellAt n ≡ c = cc (e, s .steps) in sym (index-of-cell n) ∙ ap indexOf q
+
+  came-cell : (d best : CompassDir) (value : ℕ) (c : FieldCell) → stepped (cellAt i) d ≡ Cell c → Came d best value (seen cells i d (indexOf c) best value)
+  unfolding seen
+  came-cell d best value c e = passing (wallAt cells n) (betweenWalls cells i n) refl refl
+    where
+      n : ℕ
+      n = indexOf c
+
+      x : ℕ
+      x = at n
+
+      comparing : Sees cells i d n → (b : Bool) → ltb (low x) value ≡ b → Came d best value (cond b (Looking d (low x)) (Looking best value))
+      comparing s true q = better n s (ltb-true (low x) value q) refl
+      comparing s false q = worse n s (ltb-false (low x) value q) refl
+
+      ending : Sees cells i d n → isTaken n ≡ false → (b : Bool) → eqb (low x) 65535 ≡ b
+          → Came d best value (cond b (Ended best) (cond (ltb (low x) value) (Looking d (low x)) (Looking best value)))
+      ending s t true q = stops n s t (eqb-true (low x) 65535 q) refl
+      ending s t false q = comparing s (ltb (low x) value) refl
+
+      taking : Sees cells i d n → (b : Bool) → isTaken n ≡ b
+          → Came d best value (cond b (Taken d) (cond (eqb (low x) 65535) (Ended best) (cond (ltb (low x) value) (Looking d (low x)) (Looking best value))))
+      taking s true q = takes n s q refl
+      taking s false q = ending s q (eqb (low x) 65535) refl
+
+      hidden : (a b : Bool) → wallAt cells n ≡ a → betweenWalls cells i n ≡ b → (a || b) ≡ true → (m : ℕ) → Sees cells i d m → ⊥
+      hidden a b p q t m s =
+          let w : wallAt cells n ≡ false = rw (← same-cell d c m e s) (s .no-wall) in
+          let o : betweenWalls cells i n ≡ false = rw (← same-cell d c m e s) (s .open-way) in
+          true≢false (sym t ∙ rw (← p, ← q, w, o))
+
+      passing : (a b : Bool) → wallAt cells n ≡ a → betweenWalls cells i n ≡ b
+          → Came d best value (cond (a || b) (Looking best value)
+          (cond (isTaken n) (Taken d) (cond (eqb (low x) 65535) (Ended best) (cond (ltb (low x) value) (Looking d (low x)) (Looking best value)))))
+      passing true b p q = over (hidden true b p q refl) refl
+      passing false true p q = over (hidden false true p q refl) refl
+      passing false false p q = taking (sees cells i h d c e p q) (isTaken n) refl
+
+  came : (d best : CompassDir) (value : ℕ) → Came d best value (lookAt cells i (Looking best value) d)
+  came d best value = at-step (stepped (cellAt i) d) refl
+    where
+      at-step : (t : Stepped) → stepped (cellAt i) d ≡ t → Came d best value (seenAt cells i d t best value)
+      at-step (Cell c) e = came-cell d best value c e
+      at-step Outside e = over (λ n s. (let z : _≡_ {A = ℕ} 0 1 = cc (e, s .steps) in omega arith)) refl
+
+  -- ---- all that is seen is reached
+
+  module _ (reached : (d : CompassDir) (n : ℕ) → Sees cells i d n → low (at n) < 65535) where
+    -- what a look has come to so far: nothing, or a cell that it sees, at its value
+    abbrev Sound : Look → Type 0
+    Sound (Looking best value) = ((best ≡ Zero) × (value ≡ 65535)) ⊎ ((n : ℕ) × Sees cells i best n × (low (at n) ≡ value))
+    Sound (Taken d) = (n : ℕ) × Sees cells i d n × (isTaken n ≡ true)
+    Sound (Ended best) = ⊥
+
+    sound-at : (l : Look) (d : CompassDir) → Sound l → Sound (lookAt cells i l d)
+    sound-at (Looking best value) d s = go (came d best value)
+      where
+        go : {l : Look} → Came d best value l → Sound l
+        go (over p e) = rw e s
+        go (takes n p t e) = rw e (n, p, t)
+        go (stops n p t v e) = absurd (omega (arith, reached d n p))
+        go (better n p v e) = rw e (inr (n, p, refl))
+        go (worse n p v e) = rw e s
+    sound-at (Taken e) d s = s
+    sound-at (Ended e) d s = s
+
+    sound : (ds : List CompassDir) (l : Look) → Sound l → Sound (lookAlong cells i ds l)
+    sound [] l s = s
+    sound (d ∷ ds) l s = sound ds (lookAt cells i l d) (sound-at l d s)
+
+    -- the best so far is no more than m
+    abbrev AtMost : ℕ → Look → Type 0
+    AtMost m (Looking best value) = value ≤ m
+    AtMost m (Taken d) = Unit
+    AtMost m (Ended d) = Unit
+
+    stays-at : (m : ℕ) (l : Look) (d : CompassDir) → AtMost m l → AtMost m (lookAt cells i l d)
+    stays-at m (Looking best value) d a = go (came d best value)
+      where
+        go : {l : Look} → Came d best value l → AtMost m l
+        go (over p e) = rw e a
+        go (takes n p t e) = rw e tt
+        go (stops n p t v e) = rw e tt
+        go (better n p v e) = rw e (omega arith)
+        go (worse n p v e) = rw e a
+    stays-at m (Taken e) d a = a
+    stays-at m (Ended e) d a = a
+
+    noted-at : (m : ℕ) (l : Look) (d : CompassDir) → Sees cells i d m → AtMost (low (at m)) (lookAt cells i l d)
+    noted-at m (Looking best value) d s = go (came d best value)
+      where
+        same : (n : ℕ) → Sees cells i d n → n ≡ m
+        same n p = let q : cellAt n ≡ cellAt m = cc (p .steps, s .steps) in sym (index-of-cell n) ∙ ap indexOf q ∙ index-of-cell m
+
+        go : {l : Look} → Came d best value l → AtMost (low (at m)) l
+        go (over p e) = absurd (p m s)
+        go (takes n p t e) = rw e tt
+        go (stops n p t v e) = rw e tt
+        go (better n p v e) = rw (e, same n p) (omega arith)
+        go (worse n p v e) = rw (e, ← same n p) v
+    noted-at m (Taken e) d s = tt
+    noted-at m (Ended e) d s = tt
+
+    stays : (m : ℕ) (ds : List CompassDir) (l : Look) → AtMost m l → AtMost m (lookAlong cells i ds l)
+    stays m [] l a = a
+    stays m (d ∷ ds) l a = stays m ds (lookAt cells i l d) (stays-at m l d a)
+
+    noted : (m : ℕ) (d : CompassDir) → Sees cells i d m → (ds : List CompassDir) → List·Memᴰ d ds → (l : Look) → AtMost (low (at m)) (lookAlong cells i ds l)
+    noted m d s [] k l = absurd (List·Memᴰ·not-nil k)
+    noted m d s (e ∷ ds) k l = go (List·Memᴰ·cases-cons k) (λ k′. noted m d s ds k′ (lookAt cells i l e))
+      where
+        go : (d ≡ e) ⊎ List·Memᴰ d ds → (List·Memᴰ d ds → AtMost (low (at m)) (lookAlong cells i ds (lookAt cells i l e))) → AtMost (low (at m)) (lookAlong cells i ds (lookAt cells i l e))
+        go (inl q) ih = stays (low (at m)) ds (lookAt cells i l e) (noted-at m l e (rw q at s))
+        go (inr k′) ih = ih k′
+
+    -- a look that came to a cell that it sees: one of a value below b, or one that is taken
+    abbrev pub Found : ℕ → Look → Type 0
+    Found b (Looking best value) = (n : ℕ) × Sees cells i best n × (low (at n) < b)
+    Found b (Taken d) = (n : ℕ) × Sees cells i d n × (isTaken n ≡ true)
+    Found b (Ended best) = ⊥
+
+    pub found : (b m : ℕ) (d : CompassDir) → List·Memᴰ d all → Sees cells i d m → low (at m) < b → Found b (lookAround cells i)
+    unfolding lookAround
+    found b m d k s v = go (lookAlong cells i all (Looking Zero 65535)) (sound all (Looking Zero 65535) (inl (refl, refl))) (noted m d s all k (Looking Zero 65535))
+      where
+        go : (l : Look) → Sound l → AtMost (low (at m)) l → Found b l
+        go (Looking best value) (inl z) a = absurd (omega (arith, z .1, reached d m s))
+        go (Looking best value) (inr p) a = (p .0, p .1, omega (arith, p .2))
+        go (Taken e) p a = p
+        go (Ended e) p a = p
+
+  -- ---- nothing that is seen is reached
+
+  module _ (unreached : (d : CompassDir) (n : ℕ) → Sees cells i d n → (low (at n) ≡ 65535) × (isTaken n ≡ false)) where
+    abbrev pub Nothing : Look → Type 0
+    Nothing (Looking best value) = (best ≡ Zero) × (value ≡ 65535)
+    Nothing (Taken d) = ⊥
+    Nothing (Ended best) = best ≡ Zero
+
+    nothing-at : (l : Look) (d : CompassDir) → Nothing l → Nothing (lookAt cells i l d)
+    nothing-at (Looking best value) d s = go (came d best value)
+      where
+        go : {l : Look} → Came d best value l → Nothing l
+        go (over p e) = rw e s
+        go (takes n p t e) = absurd (true≢false (sym t ∙ unreached d n p .1))
+        go (stops n p t v e) = rw e (s .0)
+        go (better n p v e) = absurd (omega (arith, unreached d n p .0, s .1))
+        go (worse n p v e) = rw e s
+    nothing-at (Taken e) d s = s
+    nothing-at (Ended e) d s = s
+
+    nothing-along : (ds : List CompassDir) (l : Look) → Nothing l → Nothing (lookAlong cells i ds l)
+    nothing-along [] l s = s
+    nothing-along (d ∷ ds) l s = nothing-along ds (lookAt cells i l d) (nothing-at l d s)
+
+    pub nothing : Nothing (lookAround cells i)
+    unfolding lookAround
+    nothing = nothing-along all (Looking Zero 65535) (refl, refl)

@@ -1,0 +1,1 @@
+// Followed arrows of a window sector: definitions and theorems, with no code.

@@ -1,0 +1,65 @@
+-- The bytes that a flow field starts with (01, "Flow byte": start, and window cells).
+-- Assumes nothing.
+use mathlib.Core.Bool.{Bool, false, cond, not, _&&_, _||_}
+use mathlib.Core.List.{List, [], _∷_, map}
+use Prim.Native.Nat.{ℕ, _+_, _-_, _^_}
+use lib.Dec.{leb, eqb}
+use lib.Bits.{bitOr}
+use lib.ListN.{getD}
+use Rattle.utilities.specs.declared.CompassDir.{CompassDir}
+use Rattle.utilities.specs.declared.CompassDir.the-variants.{North, West}
+use Rattle.utilities.specs.Compass.{opposite}
+use Rattle.route.specs.Window.{below, stride, facing}
+use Rattle.route.specs.Step.{isWindow, firstOf, lastOf, boundaryOf, windowCells}
+use Rattle.integration_field.specs.Word.{low, isLos, isGoal, isPortal, isImpassable}
+use Rattle.flow_byte.specs.Byte.{bitsOf}
+
+-- Start: goal 0x70, portal 0x90, LOS 0x30, wall 0xE0, tested in that order; else 0.
+unfoldable pub startOf : ℕ → ℕ
+startOf x = cond (isGoal x) 0x70 (cond (isPortal x) 0x90 (cond (isLos x) 0x30 (cond (isImpassable x) 0xE0 0)))
+
+-- along an edge, the direction of the lower index: West along a row, North down a column
+abbrev pub towardsLower : CompassDir → CompassDir
+towardsLower side = cond (eqb (stride side) 1) West North
+
+-- The facing choice, by the values that a window cell sees: straight if not above either side; else the lower-index side
+-- if not above the other two; else the higher. A side's bits are the sum.
+unfoldable pub facingBits : CompassDir → ℕ → ℕ → ℕ → ℕ
+facingBits side lower straight higher =
+    cond (leb straight lower && leb straight higher) (bitsOf side)
+    (cond (leb lower straight && leb lower higher) (bitsOf side + bitsOf (towardsLower side)) (bitsOf side + bitsOf (opposite (towardsLower side))))
+
+-- the low 16 bits of the cell that faces cell i
+abbrev pub facingValue : List ℕ → CompassDir → ℕ → ℕ
+facingValue previous side i = low (getD previous (facing side i) 0)
+
+-- End cells see two: what an end cell does not see counts as above every cell's value.
+abbrev pub unlessEnd : Bool → ℕ → ℕ
+unlessEnd end value = cond end (2 ^ 16) value
+
+-- The bits of window cell i: without a previous field, or with one window cell, the boundary's; else the facing choice.
+unfoldable pub windowBits : List ℕ → Bool → List ℕ → ℕ → ℕ
+windowBits step has previous i =
+    let side = boundaryOf step in
+    cond (not has || eqb (firstOf step) (lastOf step)) (bitsOf side)
+    (facingBits side
+    (unlessEnd (eqb i (firstOf step)) (facingValue previous side (i - stride side)))
+    (facingValue previous side i)
+    (unlessEnd (eqb i (lastOf step)) (facingValue previous side (i + stride side))))
+
+-- a list has the number i
+abbrev pub isIn : ℕ → List ℕ → Bool
+isIn i [] = false
+isIn i (n ∷ ns) = eqb n i || isIn i ns
+
+-- cell i is a window cell of the step
+unfoldable pub inWindow : List ℕ → ℕ → Bool
+inWindow step i = isWindow step && isIn i (windowCells step)
+
+-- All bits are or-ed on.
+unfoldable pub newByte : List ℕ → List ℕ → Bool → List ℕ → ℕ → ℕ
+newByte step cells has previous i = bitOr (startOf (getD cells i 0)) (cond (inWindow step i) (windowBits step has previous i) 0)
+
+-- the 100 bytes of a new flow field, for a step and an integration field's cells; `has` says whether there is a previous field
+unfoldable pub flowNew : List ℕ → List ℕ → Bool → List ℕ → List ℕ
+flowNew step cells has previous = map (newByte step cells has previous) (below 100)

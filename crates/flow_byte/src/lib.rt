@@ -1,0 +1,10 @@
+// The flow byte: what it says, and what a look has come to.
+use utilities::CompassDir;
+
+// What a look has come to: still looking, with the best direction so far and its cost; taken, at a goal or a portal; or
+// ended at a cell that no cost has reached, with the best so far.
+pub enum Look {
+    Looking(CompassDir, u32),
+    Taken(CompassDir),
+    Ended(CompassDir),
+}
