@@ -1,4 +1,6 @@
--- What the line calls answer, by the tests that they make.
+-- What the line calls answer, by the tests that they make. Callers cite
+--     line-accepted    between two cells of the sector a line call answers the line
+--     padded-cell      and its places up to the count are the line's cells
 -- Assumes nothing.
 use mathlib.Core.Path.{_≡_, refl, _∙_}
 use mathlib.Core.Bool.{Bool, true, false, _&&_}
@@ -6,12 +8,13 @@ use mathlib.Core.List.{List, reverse}
 use Prim.Native.Nat.{ℕ, _-_, _<_, _≤_}
 use native.Mathlib.Omega.{arith}
 use lib.Dec.{leb, ltb}
+use lib.ListN.{length, getD, replicate, List·getD-append}
 use lib.Seq.{take-append-seam}
 use borrow.Author.Tests.{ltb-true, lt-ltb, le-ltb, le-leb, lt-leb}
 use Rattle.fields.specs.declared.FieldCell.{FieldCell}
-use Rattle.fields.specs.Cell.{Inside, inside}
+use Rattle.fields.specs.Cell.{cell, Inside, inside}
 use Rattle.bresenham.specs.declared.Line.{Line}
-use Rattle.bresenham.specs.Line.{apart, shallow, steep, line, answered, refused, called, walked, lineCall, shallowCall, steepCall}
+use Rattle.bresenham.specs.Line.{apart, shallow, steep, line, answered, padded, refused, called, walked, lineCall, shallowCall, steepCall}
 use Rattle.bresenham.specs.Nearest.{HoldsNearestLine}
 use Rattle.bresenham.proofs.Theorem.{nearest-line}
 
@@ -91,13 +94,16 @@ module _ (s t : FieldCell) where
   unfolding lineCall
   line-outside e = call-outside (line s t) e
 
+  pub line-accepted : Inside s → Inside t → lineCall s t ≡ answered (line s t)
+  unfolding lineCall
+  line-accepted i j = call-inside (line s t) (in-both i j)
+
   -- the answer holds Bresenham's line
   pub promised : (r : Line) → r ≡ lineCall s t → (r ≡ lineCall s t) × HoldsNearestLine s t r
-  unfolding lineCall
   promised r e = (
     e,
     λ i j.
-        let f : r ≡ answered (line s t) = e ∙ call-inside (line s t) (in-both i j) in
+        let f : r ≡ answered (line s t) = e ∙ line-accepted i j in
         rw (f, take-append-seam (line s t)) (nearest-line s t),
   )
 
@@ -127,3 +133,6 @@ module _ (s t : FieldCell) (e : (inside s && inside t) ≡ true) (n : apart (s .
   pub steep-back : t .row < s .row → lineCall s t ≡ answered (reverse (steep t s))
   unfolding lineCall line
   steep-back h = rw (e, le-ltb (apart (s .row) (t .row)) (apart (s .column) (t .column)) n, lt-leb (s .row) (t .row) h)
+
+pub padded-cell : (l : List FieldCell) (k : ℕ) → k < length l → getD (padded l) k (cell 0 0) ≡ getD l k (cell 0 0)
+padded-cell l k h = List·getD-append l (replicate (10 - length l) (cell 0 0)) (cell 0 0) k h

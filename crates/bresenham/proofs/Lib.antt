@@ -2,5 +2,6 @@ pub mod Lists
 pub mod Offset
 pub mod Walks
 pub mod Theorem
+pub mod Neighbours
 pub mod Places
 pub mod Calls

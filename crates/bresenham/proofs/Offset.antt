@@ -24,7 +24,7 @@ quotient₀ (suc m) q x b z = let p : 0 < suc m = omega arith in quotient (suc m
 
 flat : (d m k : ℕ) → m ≡ 0 → nearest d m k ≡ 0
 unfolding nearest
-flat d m k e = rw e (div-zero (2 * (k * d) + 0 - 1))
+flat d m k e = rw e (div-zero _)
 
 -- the two bounds of the nearest number
 pub record Bounds (d m k y : ℕ) : Type 0 where

@@ -1,0 +1,116 @@
+-- The neighbours that a line moves between are the cells that the eight directions lead to.
+-- Assumes nothing.
+use mathlib.Core.Path.{_≡_, refl}
+use mathlib.Core.Bool.{Bool, true, false}
+use Prim.Native.Nat.{ℕ, _+_, _-_, _<_, _≤_, max}
+use native.Mathlib.Omega.{arith}
+use lib.Dec.{ltb}
+use borrow.Author.Tests.{ltb-true, ltb-false}
+use Rattle.utilities.specs.declared.CompassDir.{CompassDir}
+use Rattle.utilities.specs.declared.CompassDir.the-variants.{North, East, South, West, NorthEast, SouthEast, SouthWest, NorthWest, Zero}
+use Rattle.utilities.specs.Compass.{Differences, differences, points}
+use Rattle.fields.specs.declared.FieldCell.{FieldCell}
+use Rattle.fields.specs.declared.Stepped.the-variants.{Cell}
+use Rattle.fields.specs.Cell.{Inside, stepped}
+use Rattle.fields.proofs.Steps.{stepped-cell, steps-to}
+use Rattle.bresenham.specs.Line.{apart}
+use Rattle.bresenham.specs.Nearest.{Neighbours}
+
+-- two coordinates of which one is 1 apart and the other at most 1
+record Close (a b x y : ℕ) : Type 0 where
+  up : b ≤ a + 1
+  down : a ≤ b + 1
+  right : y ≤ x + 1
+  left : x ≤ y + 1
+  other : a ≡ b → x ≡ y → ⊥
+
+close : (a b x y : ℕ) → max (apart a b) (apart x y) ≡ 1 → Close a b x y
+close a b x y h = record { up = omega arith; down = omega arith; right = omega arith; left = omega arith; other = λ p q. omega arith }
+
+pub neighbours-stepped : (c n : FieldCell) → Inside n → Neighbours c n → (d : CompassDir) × (stepped c d ≡ Cell n)
+neighbours-stepped c n i h =
+    go (ltb (n .column) (c .column)) (ltb (c .column) (n .column)) (ltb (n .row) (c .row)) (ltb (c .row) (n .row)) refl refl refl refl
+    (close (c .column) (n .column) (c .row) (n .row) h)
+  where
+    go : (w e u d : Bool) → ltb (n .column) (c .column) ≡ w → ltb (c .column) (n .column) ≡ e → ltb (n .row) (c .row) ≡ u → ltb (c .row) (n .row) ≡ d
+        → Close (c .column) (n .column) (c .row) (n .row) → (d : CompassDir) × (stepped c d ≡ Cell n)
+    go true e true d p q r s k =
+        let x = ltb-true (n .column) (c .column) p in
+        let y = ltb-true (n .row) (c .row) r in
+        (NorthWest, steps-to c NorthWest n (record { pointing = refl; column-from = omega arith; row-from = omega arith; column-at = omega arith; row-at = omega arith; within = i }))
+    go true e false true p q r s k =
+        let x = ltb-true (n .column) (c .column) p in
+        let y = ltb-true (c .row) (n .row) s in
+        (SouthWest, steps-to c SouthWest n (record { pointing = refl; column-from = omega arith; row-from = omega arith; column-at = omega arith; row-at = omega arith; within = i }))
+    go true e false false p q r s k =
+        let x = ltb-true (n .column) (c .column) p in
+        let y = ltb-false (n .row) (c .row) r in
+        let y′ = ltb-false (c .row) (n .row) s in
+        (West, steps-to c West n (record { pointing = refl; column-from = omega arith; row-from = omega arith; column-at = omega arith; row-at = omega arith; within = i }))
+    go false true true d p q r s k =
+        let x = ltb-true (c .column) (n .column) q in
+        let y = ltb-true (n .row) (c .row) r in
+        (NorthEast, steps-to c NorthEast n (record { pointing = refl; column-from = omega arith; row-from = omega arith; column-at = omega arith; row-at = omega arith; within = i }))
+    go false true false true p q r s k =
+        let x = ltb-true (c .column) (n .column) q in
+        let y = ltb-true (c .row) (n .row) s in
+        (SouthEast, steps-to c SouthEast n (record { pointing = refl; column-from = omega arith; row-from = omega arith; column-at = omega arith; row-at = omega arith; within = i }))
+    go false true false false p q r s k =
+        let x = ltb-true (c .column) (n .column) q in
+        let y = ltb-false (n .row) (c .row) r in
+        let y′ = ltb-false (c .row) (n .row) s in
+        (East, steps-to c East n (record { pointing = refl; column-from = omega arith; row-from = omega arith; column-at = omega arith; row-at = omega arith; within = i }))
+    go false false true d p q r s k =
+        let x = ltb-false (n .column) (c .column) p in
+        let x′ = ltb-false (c .column) (n .column) q in
+        let y = ltb-true (n .row) (c .row) r in
+        (North, steps-to c North n (record { pointing = refl; column-from = omega arith; row-from = omega arith; column-at = omega arith; row-at = omega arith; within = i }))
+    go false false false true p q r s k =
+        let x = ltb-false (n .column) (c .column) p in
+        let x′ = ltb-false (c .column) (n .column) q in
+        let y = ltb-true (c .row) (n .row) s in
+        (South, steps-to c South n (record { pointing = refl; column-from = omega arith; row-from = omega arith; column-at = omega arith; row-at = omega arith; within = i }))
+    go false false false false p q r s k =
+        let x = ltb-false (n .column) (c .column) p in
+        let x′ = ltb-false (c .column) (n .column) q in
+        let y = ltb-false (n .row) (c .row) r in
+        let y′ = ltb-false (c .row) (n .row) s in
+        absurd (k .other (omega arith) (omega arith))
+
+-- a direction moves by one at most in each coordinate, and by one in some
+record One (δ : Differences) : Type 0 where
+  across : δ .east + δ .west ≤ 1
+  along : δ .south + δ .north ≤ 1
+  some : 1 ≤ δ .east + δ .west + (δ .south + δ .north)
+
+one : (d : CompassDir) → points d ≡ true → One (differences d)
+one North e = record { across = omega arith; along = omega arith; some = omega arith }
+one East e = record { across = omega arith; along = omega arith; some = omega arith }
+one South e = record { across = omega arith; along = omega arith; some = omega arith }
+one West e = record { across = omega arith; along = omega arith; some = omega arith }
+one NorthEast e = record { across = omega arith; along = omega arith; some = omega arith }
+one SouthEast e = record { across = omega arith; along = omega arith; some = omega arith }
+one SouthWest e = record { across = omega arith; along = omega arith; some = omega arith }
+one NorthWest e = record { across = omega arith; along = omega arith; some = omega arith }
+one Zero e = let z : _≡_ {A = ℕ} 0 1 = cc in absurd (omega arith)
+
+largest : (x y : ℕ) → x ≤ 1 → y ≤ 1 → 1 ≤ x + y → max x y ≡ 1
+largest x y p q r = omega arith
+
+by-one : (a b e w : ℕ) → b + w ≡ a + e → e + w ≤ 1 → apart a b ≡ e + w
+by-one a b e w p h = omega arith
+
+-- and each of them is a neighbour
+pub stepped-neighbours : (c n : FieldCell) (d : CompassDir) → stepped c d ≡ Cell n → Neighbours c n
+stepped-neighbours c n d e =
+    let δ = differences d in
+    let a = stepped-cell c d n e in
+    let u = one d (a .pointing) in
+    let f = a .column-from in
+    let g = a .column-at in
+    let h = a .row-from in
+    let k = a .row-at in
+    let p : n .column + δ .west ≡ c .column + δ .east = omega arith in
+    let q : n .row + δ .north ≡ c .row + δ .south = omega arith in
+    rw (by-one (c .column) (n .column) (δ .east) (δ .west) p (u .across), by-one (c .row) (n .row) (δ .south) (δ .north) q (u .along))
+    (largest (δ .east + δ .west) (δ .south + δ .north) (u .across) (u .along) (u .some))
