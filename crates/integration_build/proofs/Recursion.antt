@@ -2,12 +2,12 @@
 --     settles-none     no wave is left
 --     settles-still    a wave that changes no cell is the last
 --     settles-more     a wave that changes a cell, and then the waves from those cells
---     built-is         a hundred waves give the definition's answer
+--     built-is         any number of waves from 99 on gives the definition's answer
 -- Assumes nothing.
 use mathlib.Core.Path.{_≡_, refl, sym, ap, subst, _∙_}
 use mathlib.Core.Bool.{true, false}
 use mathlib.Core.List.{List, [], _∷_}
-use Prim.Native.Nat.{ℕ, suc, _+_}
+use Prim.Native.Nat.{ℕ, suc, _+_, _≤_}
 use native.Mathlib.Numerals.{add-one}
 use native.Mathlib.Omega.{arith}
 use lib.ListN.{length, take}
@@ -91,11 +91,12 @@ module _ (costs : List ℕ) where
 pub corners-ready : (costs : List ℕ) (f : IntegrationField) → length (f .«los_corners») ≡ 100 → Accepted costs f → Ready (length (listOf f)) (padded (listOf f))
 corners-ready costs f long a = front-ready (listOf f) (omega (arith, corners-length f long (a .count-in), a .count-in)) (all-below (listOf f) (a .corners-in))
 
--- a hundred waves from the listed corners are enough
-pub built-is : (costs : List ℕ) (f : IntegrationField) (r : Propagated) → length (f .field) ≡ 100 → length (f .«los_corners») ≡ 100 → Accepted costs f
-    → Settles costs (record { field = f .field; «los_corners» = padded (listOf f); count = f .count }) (frontOf (listOf f)) 100 r
+-- any number of waves from 99 on is enough for the listed corners
+pub built-is : (costs : List ℕ) (f : IntegrationField) {m : ℕ} (r : Propagated) → length (f .field) ≡ 100 → length (f .«los_corners») ≡ 100 → Accepted costs f
+    → Settles costs (record { field = f .field; «los_corners» = padded (listOf f); count = f .count }) (frontOf (listOf f)) m r
+    → 99 ≤ m
     → record { number = 0; field = r .field; waves = r .waves } ≡ answerOf 0 costs f
-built-is costs f r full long a s = go (settle-same costs 100 (waveOf g (frontOf l)) u (ap (λ (m : List ℕ). record { cells = f .field; changed = m }) (padded-list l)) enough)
+built-is costs f {m} r full long a s h = go (settle-same costs m (waveOf g (frontOf l)) u (ap (λ (x : List ℕ). record { cells = f .field; changed = x }) (padded-list l)) enough)
   where
     l : List ℕ
     l = listOf f
@@ -106,14 +107,14 @@ built-is costs f r full long a s = go (settle-same costs 100 (waveOf g (frontOf 
     u : Wave
     u = record { cells = f .field; changed = l }
 
-    enough : Rests costs 100 u
-    enough = rests-within costs (f .field) l full (all-cells l (a .corners-in)) 100 (omega arith)
+    enough : Rests costs m u
+    enough = rests-within costs (f .field) l full (all-cells l (a .corners-in)) m h
 
-    t : Settles costs g (frontOf l) 100 r
-    t = subst (λ (n : ℕ). Settles costs (record { field = f .field; «los_corners» = padded l; count = n }) (frontOf l) 100 r) (sym (corners-length f long (a .count-in))) s
+    t : Settles costs g (frontOf l) m r
+    t = subst (λ (n : ℕ). Settles costs (record { field = f .field; «los_corners» = padded l; count = n }) (frontOf l) m r) (sym (corners-length f long (a .count-in))) s
 
-    go : (k : Rests costs 100 (waveOf g (frontOf l))) × (settle costs 100 (waveOf g (frontOf l)) k ≡ settle costs 100 u enough)
+    go : (k : Rests costs m (waveOf g (frontOf l))) × (settle costs m (waveOf g (frontOf l)) k ≡ settle costs m u enough)
         → record { number = 0; field = r .field; waves = r .waves } ≡ answerOf 0 costs f
     go p =
         ap (λ (q : Propagated). record { number = 0; field = q .field; waves = q .waves })
-        (t .settled (p .0) ∙ ap (propagated g) (p .1 ∙ settle-build costs (f .field) l 100 enough))
+        (t .settled (p .0) ∙ ap (propagated g) (p .1 ∙ settle-build costs (f .field) l m enough))

@@ -13,6 +13,7 @@ ghost use Rattle.integration_field.specs.Listed.{listOf};
 ghost use Rattle.integration_field.specs.Wave.{isWritten, relaxed, offered, offeredAround, offeredBy, changedFrom};
 ghost use Rattle.integration_field.specs.Answer.{answerOf, allCells, Accepted, buildAnswer};
 ghost use Rattle.integration_field.specs.Promise.{LeastWalks, Counted};
+ghost use Rattle.least_walks.specs.Promise.{BuildsStarted};
 ghost use Rattle.integration_build.specs.Wavefront.{Ready, frontOf, Settles};
 
 // Indexes of cells: `count` of them, in the first places of `cells`, and 0 in the others.
@@ -216,6 +217,7 @@ pub fn build(costs: &[u8], field: IntegrationField) -> BuildAnswer
     ensures answer { λ r. ⌜ r ≡ buildAnswer (now (costs .entry)) field ⌝ }
     ensures least { λ r. ⌜ (r .number ≡ 0 → LeastWalks (now (costs .entry)) (field .field) (listOf field) (r .field .field)) ⌝ }
     ensures counted { λ r. ⌜ (r .number ≡ 0 → Counted (now (costs .entry)) (field .field) (listOf field) (r .field .field) (r .waves)) ⌝ }
+    ensures started { λ r. ⌜ BuildsStarted (now (costs .entry)) field r ⌝ }
 {
     if costs.len() != 100 {
         return integration_field::refused(1);

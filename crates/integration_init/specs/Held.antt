@@ -6,8 +6,7 @@ use Prim.Native.Nat.{ℕ, _<_, _≤_}
 use lib.ListN.{length, getD, take}
 use Rattle.fields.specs.declared.FieldCell.{FieldCell}
 use Rattle.fields.specs.Cell.{Inside, cell}
-use Rattle.integration_field.specs.declared.IntegrationField.{IntegrationField}
-use Rattle.integration_field.specs.Listed.{padded, withCorners}
+use Rattle.integration_field.specs.Listed.{padded}
 use Rattle.started_field.specs.Sight.{Sight}
 use Rattle.started_field.specs.Room.{Room}
 
@@ -59,10 +58,6 @@ pub record Wavefront (wavefront : List ℕ) (size : ℕ) : Type 0 where
   pub full : length wavefront ≡ 100
   pub size-in : size ≤ 100
   pub cells-in : (i : ℕ) → i < size → getD wavefront i 0 < 100
-
--- the field of a sight
-abbrev pub startedOf : Sight → IntegrationField
-startedOf s = withCorners (s .cells) (s .corners)
 
 -- the cells of a line, in an array of 10 places
 pub record Drawn (cells : List FieldCell) (count : ℕ) : Type 0 where

@@ -25,7 +25,8 @@ ghost use Rattle.route.specs.Step.{stepNumber};
 ghost use Rattle.started_field.specs.Started.{startedAt, startedFrom, started, initRefused, initAnswer, StartedField};
 ghost use Rattle.started_field.specs.CornerLine.{cornerLine};
 ghost use Rattle.started_field.specs.Sight.{wallOr, walls, withPortals, marked, stopped, lineMarked, extended, unlessWall, firstSide, sideTried, wallMet, neighbourLooked, looked, lookedAround, waveLooked, sightAfter};
-ghost use Rattle.integration_init.specs.Held.{sightOf, Ready, Applied, HoldsAll, ReadyAll, InWave, Wavefront, Drawn, Window, startedOf};
+ghost use Rattle.least_walks.specs.Promise.{OnceBuilt};
+ghost use Rattle.integration_init.specs.Held.{sightOf, Holds, Ready, Applied, HoldsAll, ReadyAll, InWave, Wavefront, Drawn, Window};
 
 // How many corners are listed, and how many cells the wave has queued.
 pub struct Counts {
@@ -315,46 +316,23 @@ fn look_around(
     requires { ⌜ (ReadyAll (now cells) (now corners) (counts .corners) (now queue) (counts .queued)) × (InWave «wavefront_cost» goal from) ⌝ }
     ensures { λ r. ⌜ HoldsAll (lookedAround (cornerLine goal) «wavefront_cost» from orthogonal (sightOf (now (cells .entry)) (now (corners .entry)) (counts .corners) (take (counts .queued) (now (queue .entry))))) (now (cells .exit)) (now (corners .exit)) (r .corners) (now (queue .exit)) (r .queued) ⌝ }
 {
-    let north = look(
-        cells,
-        corners,
-        queue,
-        counts,
-        from,
-        CompassDir::North,
-        goal,
-        wavefront_cost,
-    );
-    let east = look(
-        cells,
-        corners,
-        queue,
-        north,
-        from,
-        CompassDir::East,
-        goal,
-        wavefront_cost,
-    );
-    let south = look(
-        cells,
-        corners,
-        queue,
-        east,
-        from,
-        CompassDir::South,
-        goal,
-        wavefront_cost,
-    );
-    look(
-        cells,
-        corners,
-        queue,
-        south,
-        from,
-        CompassDir::West,
-        goal,
-        wavefront_cost,
-    )
+    let mut counted = counts;
+    let mut side: u8 = 0;
+    while side < 4 {
+        let dir = CompassDir::from_boundary(side);
+        counted = look(
+            cells,
+            corners,
+            queue,
+            counted,
+            from,
+            dir,
+            goal,
+            wavefront_cost,
+        );
+        side += 1;
+    }
+    counted
 }
 
 // One wave: the neighbours of each of its cells, which queue the next.
@@ -384,31 +362,30 @@ fn look_wave(
     counts
 }
 
-// Sight, one wave a call: from each wave on, as long as there is a wave and the falling number is not 0.
+// Sight, one wave a call: from each wave on, as long as there is a wave and the falling number is not 0. Answers how many corners are listed.
 fn propagate_los(
-    field: IntegrationField,
+    cells: &mut [u32; 100],
+    corners: &mut [usize; 100],
+    count: usize,
     wavefront: &[usize; 100],
     size: usize,
     goal: usize,
     wavefront_cost: u32,
     falling: usize,
-) -> IntegrationField
-    requires { ⌜ (Ready (field .field) (field .«los_corners») (field .count)) × ((Wavefront (now wavefront) size) × ((goal < 100) × («wavefront_cost» + falling ≤ 101))) ⌝ }
-    ensures { λ r. ⌜ ((cells : List ℕ) (k : ℕ) → «wavefront_cost» ≡ suc k → sightOf (field .field) (field .«los_corners») (field .count) (take size (now (wavefront .entry))) ≡ sightAfter (cornerLine goal) cells goal k → r ≡ startedOf (sightAfter (cornerLine goal) cells goal (k + falling))) ⌝ }
+) -> usize
+    requires { ⌜ (Ready (now cells) (now corners) count) × ((Wavefront (now wavefront) size) × ((goal < 100) × («wavefront_cost» + falling ≤ 101))) ⌝ }
+    ensures { λ r. ⌜ ((before : List ℕ) (k : ℕ) → «wavefront_cost» ≡ suc k → sightOf (now (cells .entry)) (now (corners .entry)) count (take size (now (wavefront .entry))) ≡ sightAfter (cornerLine goal) before goal k → Holds (sightAfter (cornerLine goal) before goal (k + falling)) (now (cells .exit)) (now (corners .exit)) r) ⌝ }
 {
     if falling == 0 {
-        return field;
+        return count;
     }
     if size == 0 {
-        return field;
+        return count;
     }
-    let mut cells = field.field;
-    let mut corners = field.los_corners;
-    let count = field.count;
     let mut next: [usize; 100] = [0; 100];
     let counts = look_wave(
-        &mut cells,
-        &mut corners,
+        cells,
+        corners,
         count,
         wavefront,
         size,
@@ -416,13 +393,18 @@ fn propagate_los(
         goal,
         wavefront_cost,
     );
-    let after = IntegrationField {
-        field: cells,
-        los_corners: corners,
-        count: counts.corners,
-    };
+    let listed = counts.corners;
     let queued = counts.queued;
-    propagate_los(after, &next, queued, goal, wavefront_cost + 1, falling - 1)
+    propagate_los(
+        cells,
+        corners,
+        listed,
+        &next,
+        queued,
+        goal,
+        wavefront_cost + 1,
+        falling - 1,
+    )
 }
 
 // A cell before any goal or sight.
@@ -487,14 +469,15 @@ fn start_from(costs: &[u8], goal: usize) -> IntegrationField
     let mut cells: [u32; 100] = [65535; 100];
     mark_walls(costs, &mut cells);
     cells[goal] = INT_BITS_GOAL;
-    let field = IntegrationField {
-        field: cells,
-        los_corners: [0; 100],
-        count: 0,
-    };
+    let mut corners: [usize; 100] = [0; 100];
     let mut wavefront: [usize; 100] = [0; 100];
     wavefront[0] = goal;
-    propagate_los(field, &wavefront, 1, goal, 1, 100)
+    let count = propagate_los(&mut cells, &mut corners, 0, &wavefront, 1, goal, 1, 100);
+    IntegrationField {
+        field: cells,
+        los_corners: corners,
+        count,
+    }
 }
 
 // The field that an accepted step starts.
@@ -526,6 +509,7 @@ fn refused(number: u8) -> InitAnswer
 pub fn init(costs: &[u8], step: &[u8]) -> InitAnswer
     ensures answer { λ r. ⌜ r ≡ initAnswer (now (costs .entry)) (now (step .entry)) ⌝ }
     ensures started { λ r. ⌜ (r .number ≡ 0 → StartedField (now (costs .entry)) (now (step .entry)) (r .field)) ⌝ }
+    ensures built { λ r. ⌜ (r .number ≡ 0 → OnceBuilt (now (costs .entry)) (now (step .entry)) (r .field)) ⌝ }
 {
     if costs.len() != 100 {
         return refused(1);

@@ -1,24 +1,40 @@
 -- Demand 3 for every accepted step, of the started field as it is defined.
+--     accepts-started    the started field of an accepted step is one that `build` takes
+--     demand3            least walks, and the exact count
+--     once-built         the same of what `init` answers
+--     builds-started     the same of what `build` answers
 -- Assumes nothing.
-use mathlib.Core.Path.{_≡_, refl, sym, subst}
-use mathlib.Core.Bool.{Bool, true, false}
-use mathlib.Core.List.{List, List·Memᴰ}
-use Prim.Native.Nat.{ℕ, _<_}
+use mathlib.Core.Path.{_≡_, refl, sym, ap, subst, _∙_}
+use mathlib.Core.Bool.{Bool, true, false, cond}
+use mathlib.Core.List.{List, [], _∷_, List·Memᴰ}
+use Prim.Native.Nat.{ℕ, zero, suc, _<_}
 use native.Mathlib.Omega.{arith}
 use lib.ListN.{getD, length}
+use lib.Dec.{eqb}
+use borrow.Author.Tests.{lt-ltb, eqb-true, eqb-false}
 use Rattle.route.specs.Step.{isWindow, goalOf, windowCells, stepNumber}
 use Rattle.integration_field.specs.Listed.{listOf}
+use Rattle.integration_field.specs.declared.IntegrationField.{IntegrationField}
+use Rattle.integration_field.specs.declared.BuildAnswer.{BuildAnswer}
 use Rattle.integration_field.specs.Build.{build}
+use Rattle.integration_field.specs.Answer.{answerOf, allCells, Accepted, buildAnswer}
+use Rattle.integration_field.proofs.Answers.{number-accepted}
+use Rattle.started_field.specs.declared.InitAnswer.{InitAnswer}
 use Rattle.integration_field.proofs.Least.{least-walks, waves-counted}
 use Rattle.started_field.specs.StartedCell.{GoalStarted, WindowStarted}
-use Rattle.started_field.specs.Started.{started, StartedField}
-use Rattle.started_field.proofs.Started.{started-field}
+use Rattle.started_field.specs.Started.{started, StartedField, initNumber, initRefused, initAccepted, initAnswer}
+use Rattle.started_field.proofs.Started.{started-field, accepted}
 use Rattle.least_walks.specs.Walks.{GoalCell, Wall}
-use Rattle.least_walks.specs.Promise.{Demand3}
+use Rattle.least_walks.specs.Promise.{Demand3, OnceBuilt, BuildsStarted}
 use Rattle.least_walks.proofs.Started.{Ground, started-least}
 use Rattle.least_walks.proofs.Ground.{mem-among, goal-ground, window-ground}
 
-module _ (costs step : List ℕ) (full : length costs ≡ 100) (accepted : stepNumber step ≡ 0) where
+all-below : (l : List ℕ) → ((i : ℕ) → i < length l → getD l i 0 < 100) → allCells l ≡ true
+unfolding allCells
+all-below [] h = refl
+all-below (x ∷ xs) h = rw (lt-ltb x 100 (h zero (omega arith))) (all-below xs (λ i g. h (suc i) (omega arith)))
+
+module _ (costs step : List ℕ) (full : length costs ≡ 100) (good : stepNumber step ≡ 0) where
   abbrev cells : List ℕ
   cells = started costs step .field
 
@@ -26,7 +42,7 @@ module _ (costs step : List ℕ) (full : length costs ≡ 100) (accepted : stepN
   corners = listOf (started costs step)
 
   told : StartedField costs step (started costs step)
-  told = started-field costs full step accepted
+  told = started-field costs full step good
 
   -- by the kind of the step
   abbrev Kind : Bool → Type 0
@@ -47,6 +63,9 @@ module _ (costs step : List ℕ) (full : length costs ≡ 100) (accepted : stepN
   inside : (x : ℕ) → List·Memᴰ x corners → x < 100
   inside x m = let a = mem-among x corners m in subst (λ (n : ℕ). n < 100) (a .2) (within (isWindow step) refl (a .0) (a .1))
 
+  pub accepts-started : Accepted costs (started costs step)
+  accepts-started = record { costs-hundred = full; count-in = told .list-fits; corners-in = all-below corners (within (isWindow step) refl) }
+
   pub demand3 : Demand3 costs step (build costs cells corners .cells) (build costs cells corners .waves)
   demand3 =
       let n = long (isWindow step) refl in
@@ -55,3 +74,27 @@ module _ (costs step : List ℕ) (full : length costs ≡ 100) (accepted : stepN
             (build costs cells corners .cells) (least-walks costs cells corners n inside);
         counted = waves-counted costs cells corners n inside;
       }
+
+module _ (costs step : List ℕ) (good : initNumber costs step ≡ 0) where
+  -- the field of an accepted step, built by `build`
+  built : (f : IntegrationField) → f ≡ started costs step → buildAnswer costs f ≡ answerOf 0 costs (started costs step)
+  built f e =
+      let a = accepted costs step good in
+      rw (e, number-accepted costs (started costs step) (accepts-started costs step (a .0) (a .1)))
+
+  pub builds : (f : IntegrationField) (r : BuildAnswer) → r ≡ buildAnswer costs f → f ≡ started costs step
+      → (r .number ≡ 0) × Demand3 costs step (r .field .field) (r .waves)
+  builds f r e q = let a = accepted costs step good in rw (e ∙ built f q) (refl, demand3 costs step (a .0) (a .1))
+
+pub builds-started : (costs : List ℕ) (f : IntegrationField) (r : BuildAnswer) → r ≡ buildAnswer costs f → BuildsStarted costs f r
+builds-started costs f r e = record { started-built = λ step good q. builds costs step good f r e q }
+
+pub once-built : (costs step : List ℕ) (r : InitAnswer) → r ≡ initAnswer costs step → r .number ≡ 0 → OnceBuilt costs step (r .field)
+unfolding initAnswer
+once-built costs step r e n = go (eqb (initNumber costs step) 0) refl e
+  where
+    go : (b : Bool) → eqb (initNumber costs step) 0 ≡ b → r ≡ cond b (initAccepted (started costs step)) (initRefused (initNumber costs step)) → OnceBuilt costs step (r .field)
+    go true q f =
+        let a = accepted costs step (eqb-true (initNumber costs step) 0 q) in
+        rw f (demand3 costs step (a .0) (a .1))
+    go false q f = absurd (eqb-false (initNumber costs step) 0 q (sym (ap (λ (a : InitAnswer). a .number) f) ∙ n))

@@ -6,7 +6,8 @@ use lib.ListN.{length}
 use denote.Ref.{now}
 use borrow.Author.Needs.{needs}
 use Rattle.integration_field.specs.Answer.{answerOf, Accepted}
-use Rattle.integration_field.proofs.Answers.{number-costs, number-count, number-corners, number-accepted, answer-promises}
+use Rattle.integration_field.proofs.Answers.{number-costs, number-count, number-corners, number-accepted}
+use Rattle.integration_build.proofs.Promised.{promised}
 use Rattle.integration_build.proofs.build.Statement.{statement}
 use Rattle.integration_build.proofs.build.Tie as tie
 
@@ -18,7 +19,7 @@ returns c =
     let a = c .before .before .before .args in
     let f = a .t2 in
     let full : length (f .field) ≡ 100 = search needs in
-    answer-promises (now (a .costs)) f full (c .refused .result)
+    promised (now (a .costs)) f full (c .refused .result)
     (c .refused .ensures ∙ sym (ap (λ (n : ℕ). answerOf n (now (a .costs)) f) (number-costs (now (a .costs)) f (c .before .if1 .taken))))
 
 refused-requires-2 : tie.Need-refused-requires-2
@@ -29,7 +30,7 @@ returns-2 c =
     let a = c .before .before .before .before .args in
     let f = a .t2 in
     let full : length (f .field) ≡ 100 = search needs in
-    answer-promises (now (a .costs)) f full (c .refused2 .result)
+    promised (now (a .costs)) f full (c .refused2 .result)
     (c .refused2 .ensures ∙ sym (ap (λ (n : ℕ). answerOf n (now (a .costs)) f) (number-count (now (a .costs)) f (c .before .before .if1 .left) (c .before .if2 .taken))))
 
 corners-inside-requires : tie.Need-corners-inside-requires
@@ -46,7 +47,7 @@ returns-3 c =
     let a = c .before .before .before .before .before .before .before .before .args in
     let f = a .t2 in
     let full : length (f .field) ≡ 100 = search needs in
-    answer-promises (now (a .costs)) f full (c .built .result)
+    promised (now (a .costs)) f full (c .built .result)
     (c .built .ensures ∙ sym (ap (λ (n : ℕ). answerOf n (now (a .costs)) f) (number-accepted (now (a .costs)) f (accepts (c .before)))))
 
 refused-requires-3 : tie.Need-refused-requires-3
@@ -57,7 +58,7 @@ returns-4 c =
     let a = c .before .before .before .before .before .before .before .before .args in
     let f = a .t2 in
     let full : length (f .field) ≡ 100 = search needs in
-    answer-promises (now (a .costs)) f full (c .refused3 .result)
+    promised (now (a .costs)) f full (c .refused3 .result)
     (c .refused3 .ensures ∙ sym (ap (λ (n : ℕ). answerOf n (now (a .costs)) f)
     (number-corners (now (a .costs)) f (c .before .before .before .before .before .before .if1 .left) (c .before .before .before .before .before .if2 .left) (sym (c .before .before .corners-inside .ensures) ∙ c .before .if3 .left))))
 

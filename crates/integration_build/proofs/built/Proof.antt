@@ -1,6 +1,7 @@
--- `integration_build::built` meets its contract. A hundred waves are enough.
+-- `integration_build::built` meets its contract. Any number of waves from 99 on is enough.
 -- Assumes nothing.
 use mathlib.Core.Path.{_≡_, sym, subst}
+use native.Mathlib.Omega.{arith}
 use lib.ListN.{length}
 use denote.Ref.{now}
 use borrow.Author.Needs.{needs}
@@ -26,8 +27,9 @@ returns c =
     let full : length (f .field) ≡ 100 = search needs in
     let long : length (f .«los_corners») ≡ 100 = search needs in
     built-is (now (c .before .before .before .before .before .before .before .before .args .costs)) f r full long (c .before .before .before .before .before .before .before .before .pre)
-    (subst (λ (w : Wavefront). Settles (now (c .before .before .before .before .before .before .before .before .args .costs)) (record { field = f .field; «los_corners» = w .cells; count = f .count }) w 100 r) (c .before .before .before .before .corner-wave .ensures)
+    (subst (λ (w : Wavefront). Settles (now (c .before .before .before .before .before .before .before .before .args .costs)) (record { field = f .field; «los_corners» = w .cells; count = f .count }) w _ r) (c .before .before .before .before .corner-wave .ensures)
     (c .before .propagate-integrated-wavefront .ensures))
+    (omega arith)
 
 pub built-spec : {M : Type 1} → statement M
 built-spec =

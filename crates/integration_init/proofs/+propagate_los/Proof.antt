@@ -1,7 +1,7 @@
 -- `integration_init::propagate_los` meets its contract. It calls itself with one less of `falling`, which is its measure.
 -- Assumes nothing.
 use mathlib.Core.Path.{_≡_, refl, sym, ap, _∙_}
-use mathlib.Core.List.{List, []}
+use mathlib.Core.List.{[]}
 use Prim.Native.Nat.{ℕ, suc, _+_, _-_, _<_, _≤_}
 use native.Mathlib.Nat.{pos-of-ne-zero}
 use native.Mathlib.Omega.{arith}
@@ -9,13 +9,13 @@ use denote.Ref.{now}
 use lib.ListN.{take}
 use borrow.Fn.Kinds.{In}
 use borrow.Fn.PlainCycle.{Measures, is, falls, and}
-use Rattle.started_field.specs.Sight.{Sight, sightAfter}
 use Rattle.started_field.specs.CornerLine.{cornerLine}
+use Rattle.started_field.specs.Sight.{Sight, sightAfter}
 use Rattle.started_field.proofs.Waves.{ended}
-use Rattle.integration_init.specs.Held.{sightOf, Holds, startedOf}
+use Rattle.integration_init.specs.Held.{sightOf, Holds}
 use Rattle.integration_init.proofs.Held.{held-all, all-ready}
 use Rattle.integration_init.proofs.Looks.{all-begins}
-use Rattle.integration_init.proofs.Waves.{wave-next, held-started, held-wavefront}
+use Rattle.integration_init.proofs.Waves.{wave-next, held-as, held-same, held-wavefront}
 use Rattle.integration_init.proofs.propagate_los.Reads as go
 use Rattle.integration_init.proofs.propagate_los.Kinds as kinds
 use Rattle.integration_init.proofs.+propagate_los.Lts-propagate_los as lts
@@ -23,48 +23,43 @@ use Rattle.integration_init.proofs.look_wave.Reads as wave
 use Rattle.integration_init.proofs.+propagate_los.{statement}
 use Rattle.integration_init.proofs.+propagate_los.Tie.{close}
 
-abbrev μ : Measures 1 kinds.ps ℕ
-μ κs a = a .1 .1 .1 .1 .1 .0
+abbrev μ : Measures 3 kinds.ps ℕ
+μ κs a = a .1 .1 .1 .1 .1 .1 .1 .0
 
 -- what the function is given at the measure t, and what a call of it asks below t
-abbrev at : ℕ → In 1 kinds.ps
-at t = and 1 kinds.ps (is 1 kinds.ps μ t) go.Pre
+abbrev at : ℕ → In 3 kinds.ps
+at t = and 3 kinds.ps (is 3 kinds.ps μ t) go.Pre
 
-abbrev below : ℕ → In 1 kinds.ps
-below t = and 1 kinds.ps (falls 1 kinds.ps _<_ μ t) go.Pre
+abbrev below : ℕ → In 3 kinds.ps
+below t = and 3 kinds.ps (falls 3 kinds.ps _<_ μ t) go.Pre
 
 module _ (t : ℕ) where
   -- the sight at entry
   abbrev entry : lts.Start (wave.Asked, wave.Learnt, below t, go.Post) (at t) go.Post → Sight
-  entry c = let a = c .args in sightOf (a .field .field) (a .field .«los_corners») (a .field .count) (take (a .size) (now (a .wavefront)))
+  entry c = let a = c .args in sightOf (now (a .cells)) (now (a .corners)) (a .count) (take (a .size) (now (a .wavefront)))
 
-  -- its arrays, whatever is queued
-  begins : (c : lts.Start (wave.Asked, wave.Learnt, below t, go.Post) (at t) go.Post) → Holds (entry c) (c .args .field .field) (c .args .field .«los_corners») (c .args .field .count)
-  begins c = let h = c .pre .1 .0 .held in record { cells-held = refl; corners-held = h .corners-held; count-held = h .count-held }
+  -- arrays that are left as they are hold the sight at entry
+  same : (c : lts.Start (wave.Asked, wave.Learnt, below t, go.Post) (at t) go.Post) (s : Sight) → entry c ≡ s → Holds s (now (c .args .cells)) (now (c .args .corners)) (c .args .count)
+  same c s e = let a = c .args in held-as s (now (a .cells)) (now (a .corners)) (a .count) (take (a .size) (now (a .wavefront))) (c .pre .1 .0) e
 
   returns : lts.Need-returns (wave.Asked, wave.Learnt, below t, go.Post) (at t) go.Post
-  returns c cells k e f =
+  returns c before k e f =
       let a = c .before .args in
-      let p : k + a .falling ≡ k = omega (arith, c .if1 .taken) in
-      held-started (entry (c .before)) (a .field) (begins (c .before))
-      ∙ ap startedOf f
-      ∙ ap (λ (n : ℕ). startedOf (sightAfter (cornerLine (a .goal)) cells (a .goal) n)) (sym p)
+      let p : k ≡ k + a .falling = omega (arith, c .if1 .taken) in
+      same (c .before) _ (f ∙ ap (sightAfter (cornerLine (a .goal)) before (a .goal)) p)
 
   returns-2 : lts.Need-returns-2 (wave.Asked, wave.Learnt, below t, go.Post) (at t) go.Post
-  returns-2 c cells k e f =
+  returns-2 c before k e f =
       let a = c .before .before .args in
       let empty : take (a .size) (now (a .wavefront)) ≡ [] = ap (λ (n : ℕ). take n (now (a .wavefront))) (c .if2 .taken) in
-      held-started (entry (c .before .before)) (a .field) (begins (c .before .before))
-      ∙ ap startedOf f
-      ∙ ap startedOf (sym (ended (cornerLine (a .goal)) cells (a .goal) k (k + a .falling) (omega arith) (sym (ap (λ (s : Sight). s .queue) f) ∙ empty)))
+      same (c .before .before) _ (f ∙ sym (ended (cornerLine (a .goal)) before (a .goal) k (k + a .falling) (omega arith) (sym (ap (λ (s : Sight). s .queue) f) ∙ empty)))
 
   look-wave-requires : lts.Need-look-wave-requires (wave.Asked, wave.Learnt, below t, go.Post) (at t) go.Post
   look-wave-requires c κs =
-      let s = c .before .before .before .before .before .before .before in
-      let a = s .args in
+      let s = c .before .before .before .before .before in
       let p = s .pre .1 in
-      let h : 0 < a .falling = pos-of-ne-zero (c .before .before .before .before .before .before .if1 .left) in
-      let last : a .wavefront-cost ≤ 100 = omega (arith, p .1 .1 .1) in
+      let h : 0 < s .args .falling = pos-of-ne-zero (c .before .before .before .before .if1 .left) in
+      let last : s .args .wavefront-cost ≤ 100 = omega (arith, p .1 .1 .1) in
       (p .0, (p .1 .0, (refl, (last, p .1 .1 .0))))
 
   add-cost : lts.Need-add-propagate-los (wave.Asked, wave.Learnt, below t, go.Post) (at t) go.Post
@@ -80,19 +75,20 @@ module _ (t : ℕ) where
       let h : 0 < a .falling = pos-of-ne-zero (c .before .before .before .before .before .before .before .before .if1 .left) in
       let less : a .falling - 1 < t = omega (arith, s .pre .0) in
       let sum : a .wavefront-cost + 1 + (a .falling - 1) ≤ 101 = omega (arith, s .pre .1 .1 .1 .1) in
-      let ready = all-ready _ _ _ _ _ _ (c .before .look-wave .ensures) in
+      let ready = all-ready _ _ _ _ _ _ (c .before .before .before .look-wave .ensures) in
       (less, (all-begins _ _ _ _ _ ready, (held-wavefront _ _ _ _ _ ready, (s .pre .1 .1 .1 .0, sum))))
 
   returns-3 : lts.Need-returns-3 (wave.Asked, wave.Learnt, below t, go.Post) (at t) go.Post
-  returns-3 c cells k e f =
+  returns-3 c before k e f =
       let s = c .before .before .before .before .before .before .before .before .before .before in
       let a = s .args in
       let line = cornerLine (a .goal) in
       let h : 0 < a .falling = pos-of-ne-zero (c .before .before .before .before .before .before .before .before .before .if1 .left) in
       let more : a .wavefront-cost + 1 ≡ suc (suc k) = omega arith in
       let p : suc k + (a .falling - 1) ≡ k + a .falling = omega arith in
-      c .propagate-los .ensures cells (suc k) more (held-all _ _ _ _ _ _ (c .before .before .look-wave .ensures) ∙ wave-next line cells (a .goal) k (a .wavefront-cost) (entry s) e f)
-      ∙ ap (λ (n : ℕ). startedOf (sightAfter line cells (a .goal) n)) p
+      held-same _ _ _ _ _
+      (c .propagate-los .ensures before (suc k) more (held-all _ _ _ _ _ _ (c .before .before .before .before .look-wave .ensures) ∙ wave-next line before (a .goal) k (a .wavefront-cost) (entry s) e f))
+      (ap (sightAfter line before (a .goal)) p)
 
 pub +propagate-los-spec : {M : Type 1} → statement M
 +propagate-los-spec =

@@ -1,45 +1,80 @@
--- `integration_init::look_around` meets its contract: four looks, one after another.
+-- `integration_init::look_around` meets its contract: the invariant: the directions that are left do what all four do.
 -- Assumes nothing.
-use mathlib.Core.Path.{refl}
+use mathlib.Core.Path.{_≡_, refl, sym, ap, _∙_}
+use Prim.Native.Nat.{ℕ, _+_, _-_, _≤_}
+use native.Mathlib.Omega.{arith}
 use borrow.Author.Needs.{needs}
-use denote.Ref.{now}
-use lib.ListN.{take}
+use lib.ListN.{take, drop}
 use Rattle.utilities.specs.declared.CompassDir.{CompassDir}
-use Rattle.utilities.specs.declared.CompassDir.the-variants.{North, East, South, West}
-use Rattle.fields.specs.Cell.{stepped, cellAt}
+use Rattle.utilities.specs.Compass.{orthogonal}
+use Rattle.fields.specs.Cell.{cellAt, stepped}
 use Rattle.started_field.specs.Sight.{Sight, looked, lookedAround}
 use Rattle.started_field.specs.CornerLine.{cornerLine}
-use Rattle.integration_init.specs.Held.{sightOf}
-use Rattle.integration_init.proofs.Held.{all-ready, all-then}
+use Rattle.integration_init.specs.Held.{sightOf, ReadyAll}
+use Rattle.integration_init.proofs.Held.{held-all, all-ready, all-same}
+use Rattle.integration_init.proofs.Waves.{around-step, around-end}
 use Rattle.integration_init.proofs.look_around.Statement.{statement}
 use Rattle.integration_init.proofs.look_around.Tie as tie
 
-look-requires : tie.Need-look-requires
-look-requires c κs = search needs
+abbrev Inv-loop : tie.InvT-loop
+Inv-loop cells₀ corners₀ queue₀ from goal wavefront-cost counted₀ side₀ cells corners queue counted side =
+    (side ≤ 4)
+    × ReadyAll cells corners (counted .corners) queue (counted .queued)
+    × (lookedAround (cornerLine goal) wavefront-cost from orthogonal (sightOf cells₀ corners₀ (counted₀ .corners) (take (counted₀ .queued) queue₀))
+    ≡ lookedAround (cornerLine goal) wavefront-cost from (drop side orthogonal) (sightOf cells corners (counted .corners) (take (counted .queued) queue)))
 
--- a look in one direction, and the sight at entry
-abbrev look : tie.Start → CompassDir → Sight → Sight
-look c d s = let a = c .args in looked (cornerLine (a .goal)) (a .wavefront-cost) (a .from) d (stepped (cellAt (a .from)) d) s
+abbrev μ-loop : tie.MeasureT-loop
+μ-loop cells₀ corners₀ queue₀ from goal wavefront-cost counted₀ side₀ cells corners queue counted side = 4 - side
 
-abbrev entry : tie.Start → Sight
-entry c = let a = c .args in sightOf (now (a .cells)) (now (a .corners)) (a .counts .corners) (take (a .counts .queued) (now (a .queue)))
+loop-holds : tie.Need-loop-holds Inv-loop μ-loop
+loop-holds c = (search needs, c .pre .0, refl)
 
-look-requires-2 : tie.Need-look-requires-2
-look-requires-2 c κs = (all-ready _ _ _ _ _ _ (c .before .before .before .look .ensures), c .before .before .before .before .before .before .before .pre .1)
+from-boundary-requires : tie.Need-from-boundary-requires Inv-loop μ-loop
+from-boundary-requires c κs = search needs
 
-look-requires-3 : tie.Need-look-requires-3
-look-requires-3 c κs = (all-ready _ _ _ _ _ _ (c .before .before .before .look2 .ensures), c .before .before .before .before .before .before .before .before .before .before .before .pre .1)
+look-requires : tie.Need-look-requires Inv-loop μ-loop
+look-requires c κs = (c .before .before .before .before .before .loop .inv .1, c .before .before .before .before .before .before .pre .1)
 
-look-requires-4 : tie.Need-look-requires-4
-look-requires-4 c κs = (all-ready _ _ _ _ _ _ (c .before .before .before .look3 .ensures), c .before .before .before .before .before .before .before .before .before .before .before .before .before .before .before .pre .1)
+add-side : tie.Need-add-side Inv-loop μ-loop
+add-side c = search needs
 
-returns : tie.Need-returns
-unfolding lookedAround
-returns c = let s = c .before .before .before .before .before .before .before .before .before .before .before .before .before .before .before .before in let n = look s North (entry s) in let e = look s East n in let t = look s South e in
-    all-then t _ _ _ _ _
-    (all-then e _ _ _ _ _ (all-then n _ _ _ _ _ (c .before .before .before .before .before .before .before .before .before .before .before .before .look .ensures) (look s East) _ _ _ _ _ (c .before .before .before .before .before .before .before .before .look2 .ensures)) (look s South) _ _ _ _ _ (c .before .before .before .before .look3 .ensures))
-    (look s West) _ _ _ _ _ (c .look4 .ensures)
+loop-less : tie.Need-loop-less Inv-loop μ-loop
+loop-less c = search needs
+
+-- what the arrays hold before a look
+abbrev held : tie.At-loop Inv-loop μ-loop → Sight
+held c = let l = c .loop in sightOf (l .cells) (l .corners) (l .counted .corners) (take (l .counted .queued) (l .queue))
+
+loop-again : tie.Need-loop-again Inv-loop μ-loop
+loop-again c = let a = c .before .before .before .before .before .before .before .args in let l = c .before .before .before .before .before .before .loop in
+    let line = cornerLine (a .goal) in (
+      search needs,
+      all-ready _ _ _ _ _ _ (c .look .ensures),
+      l .inv .2
+          ∙ around-step line (a .wavefront-cost) (a .from) (l .side) (held (c .before .before .before .before .before .before)) (c .before .before .before .before .before .loop-test .taken)
+          ∙ ap (lookedAround line (a .wavefront-cost) (a .from) (drop (l .side + 1) orthogonal))
+          (ap (λ (d : CompassDir). looked line (a .wavefront-cost) (a .from) d (stepped (cellAt (a .from)) d) (held (c .before .before .before .before .before .before))) (sym (c .before .before .before .before .from-boundary .ensures))
+          ∙ sym (held-all _ _ _ _ _ _ (c .look .ensures))),
+    )
+
+returns : tie.Need-returns Inv-loop μ-loop
+returns c = let a = c .before .before .args in let l = c .before .loop in
+    let e : l .side ≡ 4 = omega arith in
+    all-same (held (c .before)) _ _ _ _ _ (l .inv .1) _
+    (l .inv .2
+    ∙ ap (λ (k : ℕ). lookedAround (cornerLine (a .goal)) (a .wavefront-cost) (a .from) (drop k orthogonal) (held (c .before))) e
+    ∙ around-end (cornerLine (a .goal)) (a .wavefront-cost) (a .from) (held (c .before)))
 
 pub look-around-spec : {M : Type 1} → statement M
 look-around-spec =
-    tie.close (tie.spec look-requires look-requires-2 look-requires-3 look-requires-4 returns)
+    tie.close
+    (tie.spec
+    Inv-loop
+    μ-loop
+    loop-holds
+    from-boundary-requires
+    look-requires
+    add-side
+    loop-less
+    loop-again
+    returns)

@@ -1,6 +1,6 @@
 -- `integration_init::start_from` meets its contract: walls, then the goal, then sight from it.
 -- Assumes nothing.
-use mathlib.Core.Path.{_≡_, refl, ap, _∙_}
+use mathlib.Core.Path.{refl, ap, _∙_}
 use mathlib.Core.List.{List}
 use Prim.Native.Nat.{ℕ}
 use native.Mathlib.Omega.{arith}
@@ -10,6 +10,7 @@ use lib.ListN.{set}
 use Rattle.started_field.specs.Sight.{walls}
 use Rattle.started_field.specs.Started.{sightFrom, startedFrom}
 use Rattle.integration_init.proofs.Starts.{goal-ready, goal-sight, goal-wavefront}
+use Rattle.integration_init.proofs.Waves.{held-field}
 use Rattle.integration_init.proofs.start_from.Statement.{statement}
 use Rattle.integration_init.proofs.start_from.Tie as tie
 
@@ -26,16 +27,17 @@ array-write-wavefront : tie.Need-array-write-wavefront
 array-write-wavefront c = search needs
 
 propagate-los-requires : tie.Need-propagate-los-requires
-propagate-los-requires c κs = let a = c .before .before .before .before .args in (
-  goal-ready (now (a .costs)) (c .before .before .before .before .pre .0) (a .goal) (c .before .before .before .before .pre .1) _ (ap (λ (l : List ℕ). set l (a .goal) 0x20000) (c .before .mark-walls .ensures)),
-  (goal-wavefront (now (a .costs)) (c .before .before .before .before .pre .0) (a .goal) (c .before .before .before .before .pre .1), (c .before .before .before .before .pre .1, omega arith)),
+propagate-los-requires c κs = let a = c .before .before .before .before .before .before .args in (
+  goal-ready (now (a .costs)) (c .before .before .before .before .before .before .pre .0) (a .goal) (c .before .before .before .before .before .before .pre .1) _ (ap (λ (l : List ℕ). set l (a .goal) 0x20000) (c .before .before .before .mark-walls .ensures)),
+  (goal-wavefront (now (a .costs)) (c .before .before .before .before .before .before .pre .0) (a .goal) (c .before .before .before .before .before .before .pre .1), (c .before .before .before .before .before .before .pre .1, omega arith)),
 )
 
 returns : tie.Need-returns
 unfolding startedFrom sightFrom
-returns c = let a = c .before .before .before .before .before .args in
-    c .propagate-los .ensures (walls (now (a .costs))) 0 refl
-    (goal-sight (now (a .costs)) (c .before .before .before .before .before .pre .0) (a .goal) (c .before .before .before .before .before .pre .1) _ (ap (λ (l : List ℕ). set l (a .goal) 0x20000) (c .before .before .mark-walls .ensures)))
+returns c = let a = c .before .before .before .before .before .before .before .args in
+    held-field _ _ _ _
+    (c .propagate-los .ensures (walls (now (a .costs))) 0 refl
+    (goal-sight (now (a .costs)) (c .before .before .before .before .before .before .before .pre .0) (a .goal) (c .before .before .before .before .before .before .before .pre .1) _ (ap (λ (l : List ℕ). set l (a .goal) 0x20000) (c .before .before .before .before .mark-walls .ensures))))
 
 pub start-from-spec : {M : Type 1} → statement M
 start-from-spec =
