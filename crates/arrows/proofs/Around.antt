@@ -1,21 +1,21 @@
--- The neighbours that a look does not pass over.
---     Sees          a neighbour that is no wall, and no diagonal move to it lies between two walls
---     sees-beside   a cell beside, that is no wall
---     alike         such a neighbour is reached if and only if the cell is
---     uncut         a move to it does not cut between two walls
+-- The neighbours that a look does not pass over: no walls, and no diagonals between two walls.
+--     Near                          a neighbour by rows and columns: beside the cell, or one row and one column away
+--     Sees                          a neighbour that a look does not pass over
+--     reached-there, reached-back   it is reached if and only if the cell is: a permitted diagonal has a side cell that is no wall
+--     sees                          what a step arrives at, where the two tests of a look fail
+--     sees-beside                   a cell beside that is no wall is seen in some direction
 -- Assumes nothing.
-use mathlib.Core.Path.{_≡_, refl, sym, ap, _∙_}
+use mathlib.Core.Path.{_≡_, refl, sym}
 use mathlib.Core.Bool.{Bool, true, false, true≢false, not, _&&_}
 use mathlib.Core.Logic.{_⊎_, inl, inr}
 use mathlib.Core.List.{List, [], _∷_, List·Memᴰ, Memᴰ·append-left}
-use Prim.Native.Nat.{ℕ, _+_, _-_, _*_, _/_, _%_, _≤_, _<_}
+use Prim.Native.Nat.{ℕ, _+_, _-_, _*_, _/_, _%_, _<_}
 use native.Mathlib.Omega.{arith}
 use lib.Dec.{eqb}
-use lib.ListN.{getD}
 use borrow.Author.Tests.{eq-eqb, ne-eqb}
 use Rattle.utilities.specs.declared.CompassDir.{CompassDir}
 use Rattle.utilities.specs.declared.CompassDir.the-variants.{North, East, South, West, NorthEast, SouthEast, SouthWest, NorthWest, Zero}
-use Rattle.utilities.specs.Compass.{points, orthogonal, all}
+use Rattle.utilities.specs.Compass.{orthogonal, all}
 use Rattle.fields.specs.declared.FieldCell.{FieldCell}
 use Rattle.fields.specs.declared.Stepped.the-variants.{Cell}
 use Rattle.fields.specs.Cell.{cell, indexOf, cellAt, stepped}
@@ -80,7 +80,7 @@ and-false : (a b : Bool) → (a && b) ≡ false → (a ≡ false) ⊎ (b ≡ fal
 and-false true b e = inr e
 and-false false b e = inl refl
 
-differ : (a b : ℕ) → (a ≡ b → ⊥) → not (eqb a b) ≡ true
+pub differ : (a b : ℕ) → (a ≡ b → ⊥) → not (eqb a b) ≡ true
 differ a b h = rw (ne-eqb a b h)
 
 module _ (cells : List ℕ) (i n : ℕ) where

@@ -1,26 +1,26 @@
 -- The bytes of a flow field, cell by cell.
 --     built-byte, new-byte      the byte at an index
+--     new-length                100 bytes
 --     pointed-is                a byte made of a direction: its arrow is that direction, and it has not all of 0xE0
---     window-byte               a window cell's byte stays, and has not all of 0xE0
+--     portal-kept, window-bits  a window cell's byte: 0x10 is set, and not all of 0xE0
 -- Assumes nothing.
 use mathlib.Core.Path.{_≡_, refl, sym, ap, _∙_}
 use mathlib.Core.Bool.{Bool, true, false, true≢false, cond, not, _&&_, _||_}
 use mathlib.Core.List.{List, [], _∷_, map}
 use Prim.Native.Nat.{ℕ, zero, suc, _+_, _-_, _<_}
 use native.Mathlib.Omega.{arith}
-use native.Mathlib.Decide.{decLt}
 use lib.Dec.{ltb, leb, eqb}
 use lib.Bits.{bitOr}
-use lib.ListN.{length, getD}
+use lib.ListN.{length, getD, length-map}
 use borrow.Author.Tests.{ltb-true, not-true}
 use Rattle.utilities.specs.declared.CompassDir.{CompassDir}
 use Rattle.utilities.specs.declared.CompassDir.the-variants.{North, East, South, West, NorthEast, SouthEast, SouthWest, NorthWest, Zero}
 use Rattle.utilities.specs.Compass.{points, sideOf, opposite}
 use Rattle.route.specs.Window.{below, stride}
-use Rattle.route.specs.Step.{firstOf, lastOf, boundaryByte, boundaryOf}
+use Rattle.route.specs.Step.{firstOf, lastOf, boundaryByte, boundaryOf, routeStep}
 use Rattle.route.proofs.Below.{holds, holds-at, same-at}
 use Rattle.flow_byte.specs.Byte.{bitsOf, dirOf, isPathable, isImpassable}
-use Rattle.flow_byte.specs.New.{towardsLower, facingBits, facingValue, unlessEnd, windowBits, newByte, flowNew}
+use Rattle.flow_byte.specs.New.{towardsLower, facingBits, facingValue, unlessEnd, facingChoice, windowBits, newByte, newBytes, flowNew}
 use Rattle.flow_byte.specs.Look.{pointed, builtByte, flowBuild}
 
 -- ---- a byte at an index
@@ -41,9 +41,13 @@ unfolding flowBuild
 built-byte cells sheet i h = table-at (λ i. builtByte cells i (getD sheet i 0)) i h
 
 pub new-byte : (step cells : List ℕ) (has : Bool) (previous : List ℕ) (i : ℕ) → i < 100
-    → getD (flowNew step cells has previous) i 0 ≡ newByte step cells has previous i
-unfolding flowNew
-new-byte step cells has previous i h = table-at (newByte step cells has previous) i h
+    → getD (flowNew step cells has previous) i 0 ≡ newByte (routeStep step) (getD cells i 0) has previous i
+unfolding newBytes
+new-byte step cells has previous i h = table-at (λ i. newByte (routeStep step) (getD cells i 0) has previous i) i h
+
+pub new-length : (step cells : List ℕ) (has : Bool) (previous : List ℕ) → length (flowNew step cells has previous) ≡ 100
+unfolding newBytes
+new-length step cells has previous = length-map (below 100) (λ i. newByte (routeStep step) (getD cells i 0) has previous i)
 
 -- ---- a direction's byte
 
@@ -93,8 +97,8 @@ facing-bits : (n lower straight higher : ℕ) → n < 4 → facingBits (sideOf n
 unfolding facingBits
 facing-bits n lower straight higher h = side-bits (leb straight lower && leb straight higher) (leb lower straight && leb lower higher) n h
 
-pub window-bits : (step : List ℕ) (has : Bool) (previous : List ℕ) (i : ℕ) → boundaryByte step < 4 → windowBits step has previous i < 16
-unfolding windowBits
+pub window-bits : (step : List ℕ) (has : Bool) (previous : List ℕ) (i : ℕ) → boundaryByte step < 4 → windowBits (routeStep step .portal) has previous i < 16
+unfolding windowBits facingChoice
 window-bits step has previous i h = go (not has || eqb (firstOf step) (lastOf step))
   where
     side : CompassDir

@@ -1,8 +1,9 @@
 -- The built costs of a window sector: they fall from every reached cell to the window, and spread to every cell beside a reached one.
 --     kind        what a cell's built word is: a window cell's, a wall's, or a cost alone
---     falls       a reached cell that is no window cell has a reached cell of lower cost beside it
---     bounded     a reached cell costs at most 254 for each cell of lower cost
---     spreads     beside a reached cell every cell but a wall is reached
+--     falls       beside a reached cell that is no window cell lies one of lower cost, from which its own cost is made
+--     rank        how many cells cost less than a cell: at most 99
+--     bounded     a reached cell costs at most 254 for each cell of lower cost, so 25,146 at most
+--     spreads     beside a reached cell every cell but a wall is reached: the sum stays below 65535
 -- Assumes nothing.
 use mathlib.Core.Path.{_≡_, refl, sym, ap, _∙_}
 use mathlib.Core.Bool.{Bool, true, false, true≢false, _||_}
@@ -11,12 +12,12 @@ use mathlib.Core.List.{List, [], _∷_}
 use Prim.Native.Nat.{ℕ, zero, suc, _+_, _*_, _^_, _≤_, _<_}
 use native.Mathlib.Omega.{arith}
 use lib.Dec.{leb, eqb}
-use lib.ListN.{length, getD}
+use lib.ListN.{getD}
 use borrow.Author.Tests.{le-leb, lt-leb, eqb-true, eq-eqb}
-use Rattle.waves.specs.Walks.{Walk, start, move}
+use Rattle.waves.specs.Walks.{start, move}
 use Rattle.waves.proofs.Count.{bit, count, count-le, count-more, leb-grows}
 use Rattle.integration_field.specs.Word.{low, isLos, isImpassable}
-use Rattle.integration_field.specs.Walks.{Beside, in-row, in-column, MayEnter, Permitted}
+use Rattle.integration_field.specs.Walks.{Beside, in-row, in-column, Permitted}
 use Rattle.integration_field.specs.Promise.{Walked, LeastWalks}
 use Rattle.started_field.specs.StartedCell.{Among, WindowStarted}
 use Rattle.least_walks.proofs.Ground.{among-mem, mem-among}
@@ -119,11 +120,11 @@ module _ {costs window cells corners built : List ℕ} (s : Sector costs window 
 
   -- ---- walks into reached cells
 
-  pub Arrived : ℕ → Type 0
+  -- a permitted walk comes to what the cell holds
+  abbrev Arrived : ℕ → Type 0
   Arrived x = (k : ℕ) × Permitted costs cells corners k x (value x)
 
   walk-into : (x : ℕ) → x < 100 → value x < 65535 → Arrived x
-  unfolding Arrived
   walk-into x h r = go (kind x h) (s .least .attained x)
     where
       go : Kind x (getD built x 0) → (getD built x 0 ≡ getD cells x 0) ⊎ Walked costs cells corners x (getD built x 0) → (k : ℕ) × Permitted costs cells corners k x (value x)
@@ -134,7 +135,6 @@ module _ {costs window cells corners built : List ℕ} (s : Sector costs window 
 
   -- one move more
   enters : (y x : ℕ) → Arrived y → Beside y x → Plain x → value y + getD costs x 0 < 65535 → value x ≤ value y + getD costs x 0
-  unfolding Arrived
   enters y x w b p l =
       let e = plain-word x p in
       s .least .none-below (suc (w .0)) x (value y + getD costs x 0) (move (w .1) b (record {
@@ -153,7 +153,6 @@ module _ {costs window cells corners built : List ℕ} (s : Sector costs window 
     pub exact : value x ≤ value cell + getD costs x 0
 
   pub falls : (x : ℕ) → Plain x → value x < 65535 → Lower x
-  unfolding Arrived
   falls x p r = go (walk-into x (p .inside) r)
     where
       back : {k : ℕ} → (t : ℕ) → t ≡ value x → Permitted costs cells corners k x t → Lower x
@@ -174,6 +173,7 @@ module _ {costs window cells corners built : List ℕ} (s : Sector costs window 
 
   -- ---- how many cells cost less
 
+  -- with each move to a lower cell there is one less; no cell is lower than itself
   pub rank : ℕ → ℕ
   rank x = count 100 (λ z. leb (suc (value z)) (value x))
 

@@ -5,49 +5,42 @@
 --     leads-once       following is determined: two ways to follow the arrows from a cell make as many moves
 -- Assumes nothing.
 use mathlib.Core.Path.{_≡_, refl, sym, ap, _∙_}
-use mathlib.Core.Bool.{Bool, true, false, true≢false, cond, not, _&&_, _||_}
-use mathlib.Core.Logic.{_⊎_, inl, inr, _↔_}
+use mathlib.Core.Bool.{Bool, true, false, true≢false, _||_}
+use mathlib.Core.Logic.{_⊎_, inl, inr}
 use mathlib.Core.List.{List, List·Memᴰ}
 use Prim.Native.Nat.{ℕ, zero, suc, _+_, _*_, _/_, _%_, _^_, _≤_, _<_}
 use native.Mathlib.Omega.{arith}
-use native.Mathlib.Decide.{decLt}
-use lib.Dec.{eqb}
 use lib.Bits.{bitOr}
 use lib.ListN.{length, getD}
-use borrow.Author.Tests.{ne-eqb}
 use Rattle.utilities.specs.declared.CompassDir.{CompassDir}
-use Rattle.utilities.specs.declared.CompassDir.the-variants.{Zero}
 use Rattle.utilities.specs.Compass.{all}
 use Rattle.fields.specs.declared.Stepped.the-variants.{Cell}
 use Rattle.fields.specs.Cell.{cell, indexOf, cellAt, stepped}
 use Rattle.fields.proofs.Steps.{stepped-cell, index-of-cell}
-use Rattle.route.specs.Step.{isWindow, windowCells, stepNumber, boundaryByte}
+use Rattle.route.specs.Step.{isWindow, windowCells, boundaryByte, routeStep}
 use Rattle.route.proofs.Accepted.{accepted-window}
-use Rattle.integration_field.specs.Word.{low, isLos, isGoal, isPortal}
+use Rattle.integration_field.specs.Word.{low, isGoal, isPortal}
 use Rattle.integration_field.specs.Word as word
 use Rattle.integration_field.specs.Diagonal.{wallAt, betweenWalls}
 use Rattle.integration_field.specs.Listed.{listOf}
 use Rattle.integration_field.proofs.Flags.{small-flag}
 use Rattle.integration_field.proofs.Least.{least-walks}
 use Rattle.started_field.specs.StartedCell.{Among, WindowStarted}
-use Rattle.started_field.specs.Started.{started, StartedField}
+use Rattle.started_field.specs.Started.{started}
 use Rattle.started_field.proofs.Started.{started-field}
-use Rattle.least_walks.specs.Walks.{WindowCell, Wall}
+use Rattle.least_walks.specs.Walks.{Wall}
 use Rattle.least_walks.proofs.Ground.{among-mem, mem-among}
 use Rattle.flow_byte.specs.declared.Look.{Look}
 use Rattle.flow_byte.specs.declared.Look.the-variants.{Looking, Taken, Ended}
-use Rattle.flow_byte.specs.Byte.{isPathable, isImpassable}
+use Rattle.flow_byte.specs.Byte.{isImpassable}
 use Rattle.flow_byte.specs.New.{isIn, inWindow, startOf, windowBits, newByte, flowNew}
 use Rattle.flow_byte.specs.Look.{lookedByte, lookAround, pointed, builtByte, flowBuild}
-use Rattle.arrows.specs.Arrows.{Reached, Cuts, Move, Leads, ends, moves, ArrowsLead}
+use Rattle.arrows.specs.Arrows.{Reached, Away, Cuts, Move, Leads, ends, moves, ArrowsLead}
 use Rattle.arrows.specs.Promise.{WindowSector, builtCells, BuildArrows}
 use Rattle.arrows.proofs.Fall.{is-in, in-among, beside-back, beside-from, Sector, value, Plain, Kind, a-window, a-wall, a-plain, wall-word, kind, Lower, falls, rank, rank-less, rank-few}
-use Rattle.arrows.proofs.Around.{Sees, near-in, reached-there, reached-back, sees-beside}
+use Rattle.arrows.proofs.Around.{Sees, differ, near-in, reached-there, reached-back, sees-beside}
 use Rattle.arrows.proofs.Look.{Found, found, Nothing, nothing}
-use Rattle.arrows.proofs.Bytes.{built-byte, new-byte, Pointed, pointed-is, Kept, portal-kept, window-bits}
-
-differ : (a b : ℕ) → (a ≡ b → ⊥) → not (eqb a b) ≡ true
-differ a b h = rw (ne-eqb a b h)
+use Rattle.arrows.proofs.Bytes.{built-byte, new-byte, new-length, Pointed, pointed-is, Kept, portal-kept, window-bits}
 
 -- a word without flags starts with 0
 small-start : (w : ℕ) → w < 2 ^ 16 → startOf w ≡ 0
@@ -56,6 +49,10 @@ small-start w h = rw (small-flag w 17 (omega arith), small-flag w 19 (omega arit
 
 small-untaken : (w : ℕ) → w < 2 ^ 16 → (isGoal w || isPortal w) ≡ false
 small-untaken w h = rw (small-flag w 17 (omega arith), small-flag w 19 (omega arith))
+
+-- a step arrives as far away as its direction says
+stepped-away : (d : CompassDir) (x y : ℕ) → stepped (cellAt x) d ≡ Cell (cellAt y) → Away d x y
+stepped-away d x y e = let a = stepped-cell (cellAt x) d (cellAt y) e in record { columns = omega arith; rows = omega arith }
 
 module _ (costs step cells corners built : List ℕ) (s : Sector costs (windowCells step) cells corners built) (on : isWindow step ≡ true) (side : boundaryByte step < 4)
     (has : Bool) (previous : List ℕ) where
@@ -67,10 +64,10 @@ module _ (costs step cells corners built : List ℕ) (s : Sector costs (windowCe
 
   -- ---- the byte of each kind of cell
 
-  made : (x : ℕ) → x < 100 → getD bytes x 0 ≡ builtByte built x (newByte step built has previous x)
+  made : (x : ℕ) → x < 100 → getD bytes x 0 ≡ builtByte built x (newByte (routeStep step) (getD built x 0) has previous x)
   made x h = built-byte built (flowNew step built has previous) x h ∙ ap (builtByte built x) (new-byte step built has previous x h)
 
-  no-bits : (x : ℕ) → (Among x window → ⊥) → inWindow step x ≡ false
+  no-bits : (x : ℕ) → (Among x window → ⊥) → inWindow (routeStep step) x ≡ false
   unfolding inWindow
   no-bits x a = rw on (go (isIn x window) refl)
     where
@@ -78,28 +75,28 @@ module _ (costs step cells corners built : List ℕ) (s : Sector costs (windowCe
       go true e = absurd (a (in-among x window e))
       go false e = refl
 
-  bits : (x : ℕ) → Among x window → inWindow step x ≡ true
+  bits : (x : ℕ) → Among x window → inWindow (routeStep step) x ≡ true
   unfolding inWindow
   bits x a = rw (on, is-in x window a)
 
   window-byte : (x : ℕ) → x < 100 → Among x window → getD built x 0 ≡ 0x80000 → Kept (getD bytes x 0)
   unfolding newByte startOf builtByte
   window-byte x h a e =
-      let b = windowBits step has previous x in
+      let b = windowBits (routeStep step .portal) has previous x in
       let k = portal-kept b (window-bits step has previous x side) in
-      let n : newByte step built has previous x ≡ bitOr 0x90 b = rw (e, bits x a) in
+      let n : newByte (routeStep step) (getD built x 0) has previous x ≡ bitOr 0x90 b = rw (e, bits x a) in
       rw (made x h, n, k .pathable) k
 
   wall-byte : (x : ℕ) → x < 100 → (Among x window → ⊥) → getD built x 0 ≡ 0x200FFFF → getD bytes x 0 ≡ 0xE0
   unfolding newByte startOf builtByte
   wall-byte x h a e =
-      let n : newByte step built has previous x ≡ 0xE0 = rw (e, no-bits x a) in
+      let n : newByte (routeStep step) (getD built x 0) has previous x ≡ 0xE0 = rw (e, no-bits x a) in
       made x h ∙ ap (builtByte built x) n
 
   plain-byte : (x : ℕ) → Plain s x → getD built x 0 < 2 ^ 16 → getD bytes x 0 ≡ lookedByte 0 (lookAround built x)
   unfolding newByte builtByte
   plain-byte x p l =
-      let n : newByte step built has previous x ≡ 0 = rw (small-start (getD built x 0) l, no-bits x (p .no-window)) in
+      let n : newByte (routeStep step) (getD built x 0) has previous x ≡ 0 = rw (small-start (getD built x 0) l, no-bits x (p .no-window)) in
       made x (p .inside) ∙ ap (builtByte built x) n
 
   -- ---- a move
@@ -129,6 +126,7 @@ module _ (costs step cells corners built : List ℕ) (s : Sector costs (windowCe
   next-move : {x : ℕ} → x < 100 → (n : Next x) → Move costs step built bytes x (n .next)
   next-move {x} h n = record {
     goes = rw (n .byte, next-pointed n .arrow-is) (n .sees .steps);
+    away = rw (n .byte, next-pointed n .arrow-is) (stepped-away (n .way) x (n .next) (n .sees .steps));
     inside = near-in (n .sees .to);
     lower = n .lower;
     uncut = no-cut x (n .next) h (near-in (n .sees .to)) (n .sees .open-way);
@@ -266,8 +264,12 @@ module _ (costs step : List ℕ) (w : WindowSector costs step) where
   arrows-lead has previous =
       sector-arrows costs step cells corners (builtCells costs step) sector (w .by-window) (accepted-window step (w .accepted) (w .by-window) .boundary-in) has previous
 
-pub build-arrows : (cells entry : List ℕ) → BuildArrows cells entry (flowBuild cells entry)
-build-arrows cells entry = record { arrows = λ costs step has previous w c e. rw (e, c) (arrows-lead costs step w has previous) }
+-- for a call that writes what building makes of a sheet of 100 bytes
+pub build-arrows : (cells entry exit : List ℕ) → (length entry ≡ 100 → exit ≡ flowBuild cells entry) → BuildArrows cells entry exit
+build-arrows cells entry exit writes = record {
+  arrows = λ costs step has previous w c e.
+      (let made : exit ≡ flowBuild cells entry = writes (ap length e ∙ new-length step cells has previous) in rw (made, e, c) (arrows-lead costs step w has previous));
+}
 
 -- ---- following is determined
 

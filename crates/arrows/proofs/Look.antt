@@ -1,8 +1,9 @@
 -- A look, direction by direction.
---     found         where all that it sees is reached and one cell is lower, it comes to a direction in which it sees a lower cell
---     nothing       where nothing that it sees is reached, it comes to no direction
+--     came          what looking in one more direction comes to
+--     found         where all that a look sees is reached, and one cell of it is lower: it comes to a lower cell, or takes one
+--     nothing       where nothing that it sees is reached: it comes to no direction
 -- Assumes nothing.
-use mathlib.Core.Path.{_≡_, refl, sym, ap, _∙_, subst}
+use mathlib.Core.Path.{_≡_, refl, sym, ap, _∙_}
 use mathlib.Core.Bool.{Bool, true, false, true≢false, cond, _||_}
 use mathlib.Core.Logic.{_⊎_, inl, inr}
 use mathlib.Core.List.{List, [], _∷_, List·Memᴰ, List·Memᴰ·cases-cons, List·Memᴰ·not-nil}
@@ -10,7 +11,7 @@ use Prim.Native.Nat.{ℕ, _≤_, _<_}
 use native.Mathlib.Omega.{arith}
 use lib.Dec.{ltb, eqb}
 use lib.ListN.{getD}
-use borrow.Author.Tests.{ltb-true, ltb-false, eqb-true, eqb-false}
+use borrow.Author.Tests.{ltb-true, ltb-false, eqb-true}
 use Rattle.utilities.specs.declared.CompassDir.{CompassDir}
 use Rattle.utilities.specs.declared.CompassDir.the-variants.{Zero}
 use Rattle.utilities.specs.Compass.{all}
@@ -18,17 +19,13 @@ use Rattle.fields.specs.declared.FieldCell.{FieldCell}
 use Rattle.fields.specs.declared.Stepped.{Stepped}
 use Rattle.fields.specs.declared.Stepped.the-variants.{Cell, Outside}
 use Rattle.fields.specs.Cell.{indexOf, cellAt, stepped}
-use Rattle.fields.proofs.Steps.{stepped-cell, cell-of-index, index-of-cell}
+use Rattle.fields.proofs.Steps.{index-of-cell}
 use Rattle.integration_field.specs.Word.{low, isGoal, isPortal}
 use Rattle.integration_field.specs.Diagonal.{wallAt, betweenWalls}
 use Rattle.flow_byte.specs.declared.Look.{Look}
 use Rattle.flow_byte.specs.declared.Look.the-variants.{Looking, Taken, Ended}
 use Rattle.flow_byte.specs.Look.{seen, seenAt, lookAt, lookAlong, lookAround}
 use Rattle.arrows.proofs.Around.{Sees, sees}
-
-neither : (a b : Bool) → (a || b) ≡ false → (a ≡ false) × (b ≡ false)
-neither true b e = absurd (true≢false e)
-neither false b e = (refl, e)
 
 module _ (cells : List ℕ) (i : ℕ) (h : i < 100) where
   abbrev at : ℕ → ℕ
@@ -39,11 +36,11 @@ module _ (cells : List ℕ) (i : ℕ) (h : i < 100) where
 
   -- what a look in direction d, with the best so far and its value, comes to
   data Came (d best : CompassDir) (value : ℕ) : Look → Type 0 where
-    over : {l : Look} → ((n : ℕ) → Sees cells i d n → ⊥) → l ≡ Looking best value → Came d best value l
-    takes : {l : Look} → (n : ℕ) → Sees cells i d n → isTaken n ≡ true → l ≡ Taken d → Came d best value l
-    stops : {l : Look} → (n : ℕ) → Sees cells i d n → isTaken n ≡ false → low (at n) ≡ 65535 → l ≡ Ended best → Came d best value l
-    better : {l : Look} → (n : ℕ) → Sees cells i d n → low (at n) < value → l ≡ Looking d (low (at n)) → Came d best value l
-    worse : {l : Look} → (n : ℕ) → Sees cells i d n → value ≤ low (at n) → l ≡ Looking best value → Came d best value l
+    passed : {l : Look} → ((n : ℕ) → Sees cells i d n → ⊥) → l ≡ Looking best value → Came d best value l
+    is-taken : {l : Look} → (n : ℕ) → Sees cells i d n → isTaken n ≡ true → l ≡ Taken d → Came d best value l
+    is-ended : {l : Look} → (n : ℕ) → Sees cells i d n → isTaken n ≡ false → low (at n) ≡ 65535 → l ≡ Ended best → Came d best value l
+    is-better : {l : Look} → (n : ℕ) → Sees cells i d n → low (at n) < value → l ≡ Looking d (low (at n)) → Came d best value l
+    not-better : {l : Look} → (n : ℕ) → Sees cells i d n → value ≤ low (at n) → l ≡ Looking best value → Came d best value l
 
   -- a direction arrives at one cell
   same-cell : (d : CompassDir) (c : FieldCell) (n : ℕ) → stepped (cellAt i) d ≡ Cell c → Sees cells i d n → n ≡ indexOf c
@@ -60,17 +57,17 @@ module _ (cells : List ℕ) (i : ℕ) (h : i < 100) where
       x = at n
 
       comparing : Sees cells i d n → (b : Bool) → ltb (low x) value ≡ b → Came d best value (cond b (Looking d (low x)) (Looking best value))
-      comparing s true q = better n s (ltb-true (low x) value q) refl
-      comparing s false q = worse n s (ltb-false (low x) value q) refl
+      comparing s true q = is-better n s (ltb-true (low x) value q) refl
+      comparing s false q = not-better n s (ltb-false (low x) value q) refl
 
       ending : Sees cells i d n → isTaken n ≡ false → (b : Bool) → eqb (low x) 65535 ≡ b
           → Came d best value (cond b (Ended best) (cond (ltb (low x) value) (Looking d (low x)) (Looking best value)))
-      ending s t true q = stops n s t (eqb-true (low x) 65535 q) refl
+      ending s t true q = is-ended n s t (eqb-true (low x) 65535 q) refl
       ending s t false q = comparing s (ltb (low x) value) refl
 
       taking : Sees cells i d n → (b : Bool) → isTaken n ≡ b
           → Came d best value (cond b (Taken d) (cond (eqb (low x) 65535) (Ended best) (cond (ltb (low x) value) (Looking d (low x)) (Looking best value))))
-      taking s true q = takes n s q refl
+      taking s true q = is-taken n s q refl
       taking s false q = ending s q (eqb (low x) 65535) refl
 
       hidden : (a b : Bool) → wallAt cells n ≡ a → betweenWalls cells i n ≡ b → (a || b) ≡ true → (m : ℕ) → Sees cells i d m → ⊥
@@ -82,8 +79,8 @@ module _ (cells : List ℕ) (i : ℕ) (h : i < 100) where
       passing : (a b : Bool) → wallAt cells n ≡ a → betweenWalls cells i n ≡ b
           → Came d best value (cond (a || b) (Looking best value)
           (cond (isTaken n) (Taken d) (cond (eqb (low x) 65535) (Ended best) (cond (ltb (low x) value) (Looking d (low x)) (Looking best value)))))
-      passing true b p q = over (hidden true b p q refl) refl
-      passing false true p q = over (hidden false true p q refl) refl
+      passing true b p q = passed (hidden true b p q refl) refl
+      passing false true p q = passed (hidden false true p q refl) refl
       passing false false p q = taking (sees cells i h d c e p q) (isTaken n) refl
 
   came : (d best : CompassDir) (value : ℕ) → Came d best value (lookAt cells i (Looking best value) d)
@@ -91,7 +88,7 @@ module _ (cells : List ℕ) (i : ℕ) (h : i < 100) where
     where
       at-step : (t : Stepped) → stepped (cellAt i) d ≡ t → Came d best value (seenAt cells i d t best value)
       at-step (Cell c) e = came-cell d best value c e
-      at-step Outside e = over (λ n s. (let z : _≡_ {A = ℕ} 0 1 = cc (e, s .steps) in omega arith)) refl
+      at-step Outside e = passed (λ n s. (let z : _≡_ {A = ℕ} 0 1 = cc (e, s .steps) in omega arith)) refl
 
   -- ---- all that is seen is reached
 
@@ -106,11 +103,11 @@ module _ (cells : List ℕ) (i : ℕ) (h : i < 100) where
     sound-at (Looking best value) d s = go (came d best value)
       where
         go : {l : Look} → Came d best value l → Sound l
-        go (over p e) = rw e s
-        go (takes n p t e) = rw e (n, p, t)
-        go (stops n p t v e) = absurd (omega (arith, reached d n p))
-        go (better n p v e) = rw e (inr (n, p, refl))
-        go (worse n p v e) = rw e s
+        go (passed p e) = rw e s
+        go (is-taken n p t e) = rw e (n, p, t)
+        go (is-ended n p t v e) = absurd (omega (arith, reached d n p))
+        go (is-better n p v e) = rw e (inr (n, p, refl))
+        go (not-better n p v e) = rw e s
     sound-at (Taken e) d s = s
     sound-at (Ended e) d s = s
 
@@ -128,11 +125,11 @@ module _ (cells : List ℕ) (i : ℕ) (h : i < 100) where
     stays-at m (Looking best value) d a = go (came d best value)
       where
         go : {l : Look} → Came d best value l → AtMost m l
-        go (over p e) = rw e a
-        go (takes n p t e) = rw e tt
-        go (stops n p t v e) = rw e tt
-        go (better n p v e) = rw e (omega arith)
-        go (worse n p v e) = rw e a
+        go (passed p e) = rw e a
+        go (is-taken n p t e) = rw e tt
+        go (is-ended n p t v e) = rw e tt
+        go (is-better n p v e) = rw e (omega arith)
+        go (not-better n p v e) = rw e a
     stays-at m (Taken e) d a = a
     stays-at m (Ended e) d a = a
 
@@ -143,11 +140,11 @@ module _ (cells : List ℕ) (i : ℕ) (h : i < 100) where
         same n p = let q : cellAt n ≡ cellAt m = cc (p .steps, s .steps) in sym (index-of-cell n) ∙ ap indexOf q ∙ index-of-cell m
 
         go : {l : Look} → Came d best value l → AtMost (low (at m)) l
-        go (over p e) = absurd (p m s)
-        go (takes n p t e) = rw e tt
-        go (stops n p t v e) = rw e tt
-        go (better n p v e) = rw (e, same n p) (omega arith)
-        go (worse n p v e) = rw (e, ← same n p) v
+        go (passed p e) = absurd (p m s)
+        go (is-taken n p t e) = rw e tt
+        go (is-ended n p t v e) = rw e tt
+        go (is-better n p v e) = rw (e, same n p) (omega arith)
+        go (not-better n p v e) = rw (e, ← same n p) v
     noted-at m (Taken e) d s = tt
     noted-at m (Ended e) d s = tt
 
@@ -191,11 +188,11 @@ module _ (cells : List ℕ) (i : ℕ) (h : i < 100) where
     nothing-at (Looking best value) d s = go (came d best value)
       where
         go : {l : Look} → Came d best value l → Nothing l
-        go (over p e) = rw e s
-        go (takes n p t e) = absurd (true≢false (sym t ∙ unreached d n p .1))
-        go (stops n p t v e) = rw e (s .0)
-        go (better n p v e) = absurd (omega (arith, unreached d n p .0, s .1))
-        go (worse n p v e) = rw e s
+        go (passed p e) = rw e s
+        go (is-taken n p t e) = absurd (true≢false (sym t ∙ unreached d n p .1))
+        go (is-ended n p t v e) = rw e (s .0)
+        go (is-better n p v e) = absurd (omega (arith, unreached d n p .0, s .1))
+        go (not-better n p v e) = rw e s
     nothing-at (Taken e) d s = s
     nothing-at (Ended e) d s = s
 

@@ -5,9 +5,10 @@ use mathlib.Core.Path.{_≡_}
 use mathlib.Core.Bool.{true}
 use mathlib.Core.Logic.{_⊎_, _↔_}
 use mathlib.Core.List.{List}
-use Prim.Native.Nat.{ℕ, zero, suc, _+_, _*_, _/_, _%_, _≤_, _<_}
+use Prim.Native.Nat.{ℕ, zero, suc, _+_, _/_, _%_, _≤_, _<_}
 use lib.ListN.{getD}
 use Rattle.utilities.specs.declared.CompassDir.{CompassDir}
+use Rattle.utilities.specs.Compass.{differences}
 use Rattle.fields.specs.declared.Stepped.{Stepped}
 use Rattle.fields.specs.declared.Stepped.the-variants.{Cell}
 use Rattle.fields.specs.Cell.{cell, cellAt, indexOf, stepped}
@@ -31,6 +32,11 @@ arrow bytes x = dirOf (getD bytes x 0)
 abbrev pub moveFrom : List ℕ → ℕ → Stepped
 moveFrom bytes x = stepped (cellAt x) (arrow bytes x)
 
+-- The same by rows and columns: y lies as many columns and rows away from x as the direction's differences say.
+pub record Away (d : CompassDir) (x y : ℕ) : Type 0 where
+  pub columns : y % 10 + differences d .west ≡ x % 10 + differences d .east
+  pub rows : y / 10 + differences d .north ≡ x / 10 + differences d .south
+
 module _ (costs step : List ℕ) where
   -- A move from a to b cuts between two walls when it is diagonal and both cells beside it, one in the row of the cell it leaves and one
   -- in its column, are walls.
@@ -44,6 +50,7 @@ module _ (costs step : List ℕ) where
     -- the move from x goes to y, a cell inside the sector of strictly lower built cost, and does not cut between two walls
     pub record Move (x y : ℕ) : Type 0 where
       pub goes : moveFrom bytes x ≡ Cell (cellAt y)
+      pub away : Away (arrow bytes x) x y
       pub inside : y < 100
       pub lower : builtCost built y < builtCost built x
       pub uncut : Cuts x y → ⊥

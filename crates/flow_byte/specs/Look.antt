@@ -46,7 +46,7 @@ abbrev pub lookAlong : List ℕ → ℕ → List CompassDir → Look → Look
 lookAlong cells i [] l = l
 lookAlong cells i (d ∷ ds) l = lookAlong cells i ds (lookAt cells i l d)
 
--- Cells look N, E, S, W, NE, SE, SW, NW. Nothing is found yet, and each value that is noted lies below 65535.
+-- Cells look N, E, S, W, NE, SE, SW, NW, with nothing found yet (Zero); a value that is noted lies below 65535, which ends a look.
 unfoldable pub lookAround : List ℕ → ℕ → Look
 lookAround cells i = lookAlong cells i all (Looking Zero 65535)
 

@@ -9,8 +9,10 @@ use lib.ListN.{getD}
 use Rattle.utilities.specs.declared.CompassDir.{CompassDir}
 use Rattle.utilities.specs.declared.CompassDir.the-variants.{North, West}
 use Rattle.utilities.specs.Compass.{opposite}
-use Rattle.route.specs.Window.{below, stride, facing}
-use Rattle.route.specs.Step.{isWindow, firstOf, lastOf, boundaryOf, windowCells}
+use Rattle.route.specs.declared.PortalWindow.{PortalWindow}
+use Rattle.route.specs.declared.RouteStep.{RouteStep}
+use Rattle.route.specs.Window.{below, stride, facing, cellsBetween}
+use Rattle.route.specs.Step.{routeStep}
 use Rattle.integration_field.specs.Word.{low, isLos, isGoal, isPortal, isImpassable}
 use Rattle.flow_byte.specs.Byte.{bitsOf}
 
@@ -37,15 +39,19 @@ facingValue previous side i = low (getD previous (facing side i) 0)
 abbrev pub unlessEnd : Bool → ℕ → ℕ
 unlessEnd end value = cond end (2 ^ 16) value
 
--- The bits of window cell i: without a previous field, or with one window cell, the boundary's; else the facing choice.
-unfoldable pub windowBits : List ℕ → Bool → List ℕ → ℕ → ℕ
-windowBits step has previous i =
-    let side = boundaryOf step in
-    cond (not has || eqb (firstOf step) (lastOf step)) (bitsOf side)
-    (facingBits side
-    (unlessEnd (eqb i (firstOf step)) (facingValue previous side (i - stride side)))
+-- The facing choice of window cell i: it sees the cell that faces it, and those that face its neighbours in the window.
+unfoldable pub facingChoice : PortalWindow → List ℕ → ℕ → ℕ
+facingChoice window previous i =
+    let side = window .boundary in
+    facingBits side
+    (unlessEnd (eqb i (window .start)) (facingValue previous side (i - stride side)))
     (facingValue previous side i)
-    (unlessEnd (eqb i (lastOf step)) (facingValue previous side (i + stride side))))
+    (unlessEnd (eqb i (window .end)) (facingValue previous side (i + stride side)))
+
+-- The bits of window cell i: without a previous field, or with one window cell, the boundary's; else the facing choice.
+unfoldable pub windowBits : PortalWindow → Bool → List ℕ → ℕ → ℕ
+windowBits window has previous i =
+    cond (not has || eqb (window .start) (window .end)) (bitsOf (window .boundary)) (facingChoice window previous i)
 
 -- a list has the number i
 abbrev pub isIn : ℕ → List ℕ → Bool
@@ -53,13 +59,16 @@ isIn i [] = false
 isIn i (n ∷ ns) = eqb n i || isIn i ns
 
 -- cell i is a window cell of the step
-unfoldable pub inWindow : List ℕ → ℕ → Bool
-inWindow step i = isWindow step && isIn i (windowCells step)
+unfoldable pub inWindow : RouteStep → ℕ → Bool
+inWindow step i = step .«has_portal» && isIn i (cellsBetween (step .portal .boundary) (step .portal .start) (step .portal .end))
 
--- All bits are or-ed on.
-unfoldable pub newByte : List ℕ → List ℕ → Bool → List ℕ → ℕ → ℕ
-newByte step cells has previous i = bitOr (startOf (getD cells i 0)) (cond (inWindow step i) (windowBits step has previous i) 0)
+-- the first byte of cell i, whose 32 bits are x: all bits are or-ed on
+unfoldable pub newByte : RouteStep → ℕ → Bool → List ℕ → ℕ → ℕ
+newByte step x has previous i = bitOr (startOf x) (cond (inWindow step i) (windowBits (step .portal) has previous i) 0)
 
--- the 100 bytes of a new flow field, for a step and an integration field's cells; `has` says whether there is a previous field
-unfoldable pub flowNew : List ℕ → List ℕ → Bool → List ℕ → List ℕ
-flowNew step cells has previous = map (newByte step cells has previous) (below 100)
+unfoldable pub newBytes : RouteStep → List ℕ → Bool → List ℕ → List ℕ
+newBytes step cells has previous = map (λ i. newByte step (getD cells i 0) has previous i) (below 100)
+
+-- the 100 bytes of a new flow field, for a step's bytes and an integration field's cells; `has` says whether there is a previous field
+abbrev pub flowNew : List ℕ → List ℕ → Bool → List ℕ → List ℕ
+flowNew step cells has previous = newBytes (routeStep step) cells has previous

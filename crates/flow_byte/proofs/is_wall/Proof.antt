@@ -1,0 +1,22 @@
+-- `flow_byte::is_wall` meets its contract: all of a mask's bits are set, and one is not.
+-- Assumes nothing.
+use mathlib.Core.Path.{ap}
+use mathlib.Core.Bool.{not}
+use lib.Bits.{bitAnd}
+use Rattle.flow_byte.specs.Byte.{isPathable, isImpassable}
+use Rattle.flow_byte.proofs.Bytes.{and-taken, and-left, all-mask}
+use borrow.Author.Needs.{needs}
+use Rattle.flow_byte.proofs.is_wall.Statement.{statement}
+use Rattle.flow_byte.proofs.is_wall.Tie as tie
+
+is-pathable-requires : tie.Need-is-pathable-requires
+is-pathable-requires c κs = search needs
+
+returns : tie.Need-returns
+returns c = and-taken (bitAnd (c .before .before .args .byte) 0xE0) 0xE0 (isImpassable (c .before .before .args .byte)) (not (isPathable (c .before .before .args .byte))) (all-mask (c .before .before .args .byte)) _ (c .before .if1 .taken) (ap not (c .is-pathable .ensures))
+
+returns-2 : tie.Need-returns-2
+returns-2 c = and-left (bitAnd (c .before .args .byte) 0xE0) 0xE0 (isImpassable (c .before .args .byte)) (not (isPathable (c .before .args .byte))) (all-mask (c .before .args .byte)) (c .if1 .left)
+
+pub is-wall-spec : {M : Type 1} → statement M
+is-wall-spec = tie.close (tie.spec is-pathable-requires returns returns-2)
