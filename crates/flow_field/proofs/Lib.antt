@@ -1,0 +1,4 @@
+pub mod Looks
+pub mod Windows
+pub mod Sheets
+pub mod Numbers

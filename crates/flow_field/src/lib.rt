@@ -1,0 +1,444 @@
+// The flow field: a byte for each cell, new and built.
+use fields::FieldCell;
+use fields::Stepped;
+use flow_byte::BITS_DEFAULT;
+use flow_byte::BITS_GOAL;
+use flow_byte::BITS_HAS_LOS;
+use flow_byte::BITS_IMPASSABLE;
+use flow_byte::BITS_PATHABLE;
+use flow_byte::BITS_PORTAL_GOAL;
+use flow_byte::Look;
+use integration_field::IntegrationField;
+use route::PortalWindow;
+use route::RouteStep;
+use utilities::CompassDir;
+ghost use mathlib.Core.Path.{_≡_};
+ghost use mathlib.Core.Bool.{true, not, _&&_};
+ghost use mathlib.Core.List.{[], _∷_};
+ghost use Prim.Native.Nat.{_-_, _<_};
+ghost use lib.Dec.{eqb, leb};
+ghost use lib.ListN.{length};
+ghost use Rattle.fields.specs.Cell.{Inside, indexOf};
+ghost use Rattle.route.specs.Window.{stride, cellsBetween};
+ghost use Rattle.integration_field.specs.Diagonal.{betweenWalls};
+ghost use Rattle.flow_byte.specs.Byte.{bitsOf};
+ghost use Rattle.flow_byte.specs.New.{startOf, towardsLower, facingBits, facingValue, unlessEnd, facingChoice, windowBits, isIn, newByte, newBytes};
+ghost use Rattle.flow_byte.specs.Look.{seen, lookAt, lookAlong, lookAround, pointed, lookedByte, builtByte, flowBuild};
+ghost use Rattle.arrows.specs.Promise.{BuildArrows};
+ghost use Rattle.flow_field.specs.Flow.{newNumber, newSheet, buildNumber, buildSheet};
+
+// What an end cell of a window does not see: above every cost.
+const UNSEEN: u32 = 0x10000;
+
+// The flags that a cell starts with.
+fn starting_flags(value: u32) -> u8
+    ensures { λ r. ⌜ r ≡ startOf value ⌝ }
+{
+    if integration_field::is_goal(value) {
+        return BITS_GOAL | BITS_PATHABLE | BITS_HAS_LOS;
+    }
+    if integration_field::is_portal(value) {
+        return BITS_PORTAL_GOAL | BITS_PATHABLE;
+    }
+    if integration_field::is_los(value) {
+        return BITS_HAS_LOS | BITS_PATHABLE;
+    }
+    if integration_field::is_impassable(value) {
+        return BITS_IMPASSABLE;
+    }
+    BITS_DEFAULT
+}
+
+// From a window cell to the next.
+fn stride_of(boundary: CompassDir) -> usize
+    ensures { λ r. ⌜ r ≡ stride boundary ⌝ }
+{
+    match boundary {
+        CompassDir::North => 1,
+        CompassDir::East => 10,
+        CompassDir::South => 1,
+        CompassDir::West => 10,
+        CompassDir::NorthEast => 10,
+        CompassDir::SouthEast => 10,
+        CompassDir::SouthWest => 10,
+        CompassDir::NorthWest => 10,
+        CompassDir::Zero => 1,
+    }
+}
+
+// Along an edge, the direction of the lower index.
+fn towards_lower(boundary: CompassDir) -> CompassDir
+    ensures { λ r. ⌜ r ≡ towardsLower boundary ⌝ }
+{
+    if stride_of(boundary) == 1 {
+        return CompassDir::West;
+    }
+    CompassDir::North
+}
+
+// A value is above neither of two others.
+fn not_above(value: u32, one: u32, other: u32) -> bool
+    ensures { λ r. ⌜ r ≡ (leb value one && leb value other) ⌝ }
+{
+    value <= one && value <= other
+}
+
+// The bits that point at the cheapest of the three cells that a window cell faces.
+fn facing_bits(boundary: CompassDir, lower: u32, straight: u32, higher: u32) -> u8
+    ensures { λ r. ⌜ r ≡ facingBits boundary lower straight higher ⌝ }
+{
+    let bits = flow_byte::convert_compass_dir_to_bits_dir(boundary);
+    let side = towards_lower(boundary);
+    if not_above(straight, lower, higher) {
+        return bits;
+    }
+    if not_above(lower, straight, higher) {
+        return bits + flow_byte::convert_compass_dir_to_bits_dir(side);
+    }
+    bits + flow_byte::convert_compass_dir_to_bits_dir(side.inverse())
+}
+
+// The cost of the cell that faces a cell.
+fn facing_value(previous: &[u32], boundary: CompassDir, index: usize) -> u32
+    requires { ⌜ length (now previous) ≡ 100 ⌝ }
+    ensures { λ r. ⌜ r ≡ facingValue (now (previous .entry)) boundary index ⌝ }
+{
+    let cell = route::facing_cell(boundary, index);
+    integration_field::low_bits(previous[cell])
+}
+
+// The cost beside it, which the window's end cell does not see.
+fn side_value(
+    previous: &[u32],
+    boundary: CompassDir,
+    index: usize,
+    end: usize,
+    beside: usize,
+) -> u32
+    requires { ⌜ length (now previous) ≡ 100 ⌝ }
+    ensures { λ r. ⌜ r ≡ unlessEnd (eqb index end) (facingValue (now (previous .entry)) boundary beside) ⌝ }
+{
+    if index == end {
+        return UNSEEN;
+    }
+    facing_value(previous, boundary, beside)
+}
+
+// The index that lies so much lower, and 0 where none does.
+fn lower_by(index: usize, stride: usize) -> usize
+    ensures { λ r. ⌜ r ≡ index - stride ⌝ }
+{
+    if index < stride {
+        return 0;
+    }
+    index - stride
+}
+
+// The bits of a window cell, by the costs of the cells that it faces.
+fn optimise_portal_direction(window: PortalWindow, previous: &[u32], index: usize) -> u8
+    requires { ⌜ (length (now previous) ≡ 100) × (index < 100) ⌝ }
+    ensures { λ r. ⌜ r ≡ facingChoice window (now (previous .entry)) index ⌝ }
+{
+    let boundary = window.boundary;
+    let start = window.start;
+    let end = window.end;
+    let stride = stride_of(boundary);
+    let before = lower_by(index, stride);
+    let after = index + stride;
+    let lower = side_value(previous, boundary, index, start, before);
+    let straight = facing_value(previous, boundary, index);
+    let higher = side_value(previous, boundary, index, end, after);
+    facing_bits(boundary, lower, straight, higher)
+}
+
+// The bits of a window cell.
+fn portal_direction(window: PortalWindow, has_previous: bool, previous: &[u32], index: usize) -> u8
+    requires { ⌜ («has_previous» ≡ true → length (now previous) ≡ 100) × (index < 100) ⌝ }
+    ensures { λ r. ⌜ r ≡ windowBits window «has_previous» (now (previous .entry)) index ⌝ }
+{
+    let boundary = window.boundary;
+    let start = window.start;
+    let end = window.end;
+    if !has_previous {
+        return flow_byte::convert_compass_dir_to_bits_dir(boundary);
+    }
+    if start == end {
+        return flow_byte::convert_compass_dir_to_bits_dir(boundary);
+    }
+    optimise_portal_direction(window, previous, index)
+}
+
+// Whether a cell is one of a window's.
+fn is_window_cell(window: PortalWindow, index: usize) -> bool
+    requires { ⌜ index < 100 ⌝ }
+    ensures { λ r. ⌜ r ≡ isIn index (cellsBetween (window .boundary) (window .start) (window .end)) ⌝ }
+{
+    let boundary = window.boundary;
+    let start = window.start;
+    let end = window.end;
+    if index < start {
+        return false;
+    }
+    if end < index {
+        return false;
+    }
+    route::on_edge(boundary, index)
+}
+
+// A cell's first byte: its flags, with a window cell's bits or-ed on.
+fn new_cell(step: RouteStep, cost: u32, has_previous: bool, previous: &[u32], index: usize) -> u8
+    requires { ⌜ («has_previous» ≡ true → length (now previous) ≡ 100) × (index < 100) ⌝ }
+    ensures { λ r. ⌜ r ≡ newByte step cost «has_previous» (now (previous .entry)) index ⌝ }
+{
+    let flags = starting_flags(cost);
+    let has_portal = step.has_portal;
+    let window = step.portal;
+    if !has_portal {
+        return flags;
+    }
+    if !is_window_cell(window, index) {
+        return flags;
+    }
+    flags | portal_direction(window, has_previous, previous, index)
+}
+
+// The first bytes of all cells.
+fn new_cells(
+    step: RouteStep,
+    cells: &[u32; 100],
+    has_previous: bool,
+    previous: &[u32],
+    sheet: &mut [u8],
+)
+    requires { ⌜ («has_previous» ≡ true → length (now previous) ≡ 100) × (length (now sheet) ≡ 100) ⌝ }
+    ensures { λ _. ⌜ now (sheet .exit) ≡ newBytes step (now (cells .entry)) «has_previous» (now (previous .entry)) ⌝ }
+{
+    let mut i = 0;
+    while i < 100 {
+        sheet[i] = new_cell(step, cells[i], has_previous, previous, i);
+        i += 1;
+    }
+}
+
+// Whether a previous field is lent as other than 100 numbers.
+fn is_misfit(has_previous: bool, previous: &[u32]) -> bool
+    ensures { λ r. ⌜ r ≡ («has_previous» && not (eqb (length (now (previous .entry))) 100)) ⌝ }
+{
+    if has_previous {
+        return previous.len() != 100;
+    }
+    false
+}
+
+// A new flow field for a step of a route, by hand: starting flags and the window's directions.
+pub fn new(
+    step: &[u8],
+    field: IntegrationField,
+    has_previous: bool,
+    previous: &[u32],
+    sheet: &mut [u8],
+) -> u8
+    ensures number { λ r. ⌜ r ≡ newNumber (now (step .entry)) «has_previous» (now (previous .entry)) (now (sheet .entry)) ⌝ }
+    ensures sheet { λ _. ⌜ now (sheet .exit) ≡ newSheet (now (step .entry)) (field .field) «has_previous» (now (previous .entry)) (now (sheet .entry)) ⌝ }
+{
+    let bytes = sheet.len();
+    if bytes != 100 {
+        return 2;
+    }
+    let number = route::step_number(step);
+    if 0 < number {
+        return number;
+    }
+    if is_misfit(has_previous, previous) {
+        return 12;
+    }
+    let cells = field.field;
+    new_cells(RouteStep::new(step), &cells, has_previous, previous, sheet);
+    0
+}
+
+// Whether a move between two cells is diagonal, with walls on both sides of it.
+fn between_walls(cells: &[u32; 100], from: FieldCell, to: FieldCell) -> bool
+    requires { ⌜ Inside from × Inside to ⌝ }
+    ensures { λ r. ⌜ r ≡ betweenWalls (now (cells .entry)) (indexOf from) (indexOf to) ⌝ }
+{
+    let from_column = from.column;
+    let from_row = from.row;
+    let to_column = to.column;
+    let to_row = to.row;
+    if from_row == to_row {
+        return false;
+    }
+    if from_column == to_column {
+        return false;
+    }
+    if !integration_field::is_impassable(cells[from_row * 10 + to_column]) {
+        return false;
+    }
+    integration_field::is_impassable(cells[to_row * 10 + from_column])
+}
+
+// What a look makes of a neighbour, with the best direction so far and its cost.
+fn see(
+    cells: &[u32; 100],
+    from: FieldCell,
+    dir: CompassDir,
+    to: FieldCell,
+    best: CompassDir,
+    value: u32,
+) -> Look
+    requires { ⌜ Inside from × Inside to ⌝ }
+    ensures { λ r. ⌜ r ≡ seen (now (cells .entry)) (indexOf from) dir (indexOf to) best value ⌝ }
+{
+    let cost = cells[to.row * 10 + to.column];
+    if integration_field::is_impassable(cost) {
+        return Look::Looking(best, value);
+    }
+    if between_walls(cells, from, to) {
+        return Look::Looking(best, value);
+    }
+    if integration_field::is_goal(cost) {
+        return Look::Taken(dir);
+    }
+    if integration_field::is_portal(cost) {
+        return Look::Taken(dir);
+    }
+    let low = integration_field::low_bits(cost);
+    if low == 65535 {
+        return Look::Ended(best);
+    }
+    if low < value {
+        return Look::Looking(dir, low);
+    }
+    Look::Looking(best, value)
+}
+
+// A look that has not ended goes on in a direction; there is nothing to see outside the sector.
+fn look_on(cells: &[u32; 100], index: usize, dir: CompassDir, best: CompassDir, value: u32) -> Look
+    requires { ⌜ index < 100 ⌝ }
+    ensures { λ r. ⌜ r ≡ lookAt (now (cells .entry)) index (Look.Looking best value) dir ⌝ }
+{
+    let cell = FieldCell::from_index(index);
+    let Stepped::Cell(next) = cell.get_in_compass_direction(dir) else {
+        return Look::Looking(best, value);
+    };
+    see(cells, cell, dir, next, best, value)
+}
+
+// A look that has ended stays so.
+fn look_at(cells: &[u32; 100], index: usize, look: Look, dir: CompassDir) -> Look
+    requires { ⌜ index < 100 ⌝ }
+    ensures { λ r. ⌜ r ≡ lookAt (now (cells .entry)) index look dir ⌝ }
+{
+    match look {
+        Look::Looking(best, value) => look_on(cells, index, dir, best, value),
+        Look::Taken(taken) => Look::Taken(taken),
+        Look::Ended(best) => Look::Ended(best),
+    }
+}
+
+// A look goes on in four directions, one after the other.
+fn look_along(
+    cells: &[u32; 100],
+    index: usize,
+    look: Look,
+    first: CompassDir,
+    second: CompassDir,
+    third: CompassDir,
+    fourth: CompassDir,
+) -> Look
+    requires { ⌜ index < 100 ⌝ }
+    ensures { λ r. ⌜ r ≡ lookAlong (now (cells .entry)) index (first ∷ second ∷ third ∷ fourth ∷ []) look ⌝ }
+{
+    let one = look_at(cells, index, look, first);
+    let two = look_at(cells, index, one, second);
+    let three = look_at(cells, index, two, third);
+    look_at(cells, index, three, fourth)
+}
+
+// A cell looks at its sides, then at its corners.
+fn look_around(cells: &[u32; 100], index: usize) -> Look
+    requires { ⌜ index < 100 ⌝ }
+    ensures { λ r. ⌜ r ≡ lookAround (now (cells .entry)) index ⌝ }
+{
+    let sides = look_along(
+        cells,
+        index,
+        Look::Looking(CompassDir::Zero, 65535),
+        CompassDir::North,
+        CompassDir::East,
+        CompassDir::South,
+        CompassDir::West,
+    );
+    look_along(
+        cells,
+        index,
+        sides,
+        CompassDir::NorthEast,
+        CompassDir::SouthEast,
+        CompassDir::SouthWest,
+        CompassDir::NorthWest,
+    )
+}
+
+// The byte with a direction or-ed on; impassable where there is none.
+fn point(byte: u8, dir: CompassDir) -> u8
+    ensures { λ r. ⌜ r ≡ pointed byte dir ⌝ }
+{
+    let bits = flow_byte::convert_compass_dir_to_bits_dir(dir);
+    if bits == BITS_DEFAULT {
+        return byte | BITS_IMPASSABLE;
+    }
+    byte | (BITS_PATHABLE + bits)
+}
+
+// The byte of a cell that has looked.
+fn looked_byte(byte: u8, look: Look) -> u8
+    ensures { λ r. ⌜ r ≡ lookedByte byte look ⌝ }
+{
+    match look {
+        Look::Looking(best, _) => point(byte, best),
+        Look::Taken(dir) => point(byte, dir),
+        Look::Ended(best) => point(byte | BITS_IMPASSABLE, best),
+    }
+}
+
+// A cell's byte, from the byte that it had.
+fn calculate_flow_cell(cells: &[u32; 100], index: usize, byte: u8) -> u8
+    requires { ⌜ index < 100 ⌝ }
+    ensures { λ r. ⌜ r ≡ builtByte (now (cells .entry)) index byte ⌝ }
+{
+    if flow_byte::is_pathable(byte) {
+        return byte;
+    }
+    if flow_byte::is_impassable(byte) {
+        return byte;
+    }
+    looked_byte(byte, look_around(cells, index))
+}
+
+// The bytes of all cells.
+fn calculate_flow_cells(cells: &[u32; 100], sheet: &mut [u8])
+    requires { ⌜ length (now sheet) ≡ 100 ⌝ }
+    ensures { λ _. ⌜ now (sheet .exit) ≡ flowBuild (now (cells .entry)) (now (sheet .entry)) ⌝ }
+{
+    let mut i = 0;
+    while i < 100 {
+        sheet[i] = calculate_flow_cell(cells, i, sheet[i]);
+        i += 1;
+    }
+}
+
+// The flow field of an integration field, by hand: from the sheet's bytes, whatever they are.
+pub fn build(field: IntegrationField, sheet: &mut [u8]) -> u8
+    ensures number { λ r. ⌜ r ≡ buildNumber (now (sheet .entry)) ⌝ }
+    ensures sheet { λ _. ⌜ now (sheet .exit) ≡ buildSheet (field .field) (now (sheet .entry)) ⌝ }
+    ensures arrows { λ _. ⌜ BuildArrows (field .field) (now (sheet .entry)) (now (sheet .exit)) ⌝ }
+{
+    if sheet.len() != 100 {
+        return 2;
+    }
+    let cells = field.field;
+    calculate_flow_cells(&cells, sheet);
+    0
+}
