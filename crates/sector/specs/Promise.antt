@@ -1,0 +1,12 @@
+-- What demand 3 says of a sector that was planned: least walks and the exact count of its field, and arrows of its bytes.
+-- Assumes nothing.
+use mathlib.Core.List.{List}
+use Prim.Native.Nat.{ℕ}
+use Rattle.least_walks.specs.Promise.{Demand3}
+use Rattle.arrows.specs.Arrows.{ArrowsLead}
+use Rattle.arrows.specs.Promise.{WindowSector}
+
+-- `built` are the cells of the built field, `waves` the count, `bytes` what was written
+pub record Planned (costs step built : List ℕ) (waves : ℕ) (bytes : List ℕ) : Type 0 where
+  pub walks : Demand3 costs step built waves
+  pub arrows : WindowSector costs step → ArrowsLead costs step built bytes
