@@ -1,0 +1,72 @@
+//! Writes the recorded sample, a file for each section and a README that says how it was made; with
+//! `--check`, compares the files that are there with what it would write.
+
+use std::fs;
+use std::path::{Path, PathBuf};
+use std::process::ExitCode;
+
+use oracle::records::{Section, sections};
+
+/// The layouts, from the head of the module that makes the records.
+fn layouts() -> String {
+    let source = include_str!("../records.rs");
+    let head = source.lines().take_while(|line| line.starts_with("//!"));
+    head.map(|line| line.trim_start_matches("//!").trim_start().to_string() + "\n").collect()
+}
+
+fn readme(sections: &[Section]) -> String {
+    let mut text = String::from("# Recorded answers of the Rust\n\n");
+    text += "Made by `record` of tools/oracle, never by hand: `tools/oracle/run record`.\n";
+    text += "`tools/oracle/run record --check` says whether the files are what it writes.\n";
+    text += &format!(
+        "Made from nine files of the Rust whose fingerprint (FNV-1a, 64 bits) is {:#018x}.\n\n",
+        reference::FINGERPRINT
+    );
+    text += &layouts();
+    text += "\n| file | records | bytes |\n|---|---|---|\n";
+    for section in sections {
+        let records = section.records.len();
+        text += &format!("| {} | {records} | {} |\n", section.name, records * section.length);
+    }
+    text
+}
+
+/// The files and what they hold.
+fn files() -> Vec<(String, Vec<u8>)> {
+    let sections = sections();
+    for section in &sections {
+        assert!(section.records.iter().all(|record| record.len() == section.length), "{}: a length", section.name);
+    }
+    let mut files = vec![("README.md".to_string(), readme(&sections).into_bytes())];
+    files.extend(sections.into_iter().map(|section| (section.name.to_string(), section.records.concat())));
+    files
+}
+
+fn default_folder() -> PathBuf {
+    Path::new(env!("CARGO_MANIFEST_DIR")).join("../../crates/replay/data")
+}
+
+fn main() -> ExitCode {
+    let mut words: Vec<String> = std::env::args().skip(1).collect();
+    let check = words.first().is_some_and(|word| word == "--check");
+    if check {
+        words.remove(0);
+    }
+    let folder = words.first().map_or_else(default_folder, PathBuf::from);
+    let mut alike = true;
+    if !check {
+        fs::create_dir_all(&folder).expect("the folder can be made");
+    }
+    for (name, bytes) in files() {
+        let path = folder.join(&name);
+        if check {
+            let same = fs::read(&path).is_ok_and(|there| there == bytes);
+            println!("{name}: {}", if same { "as recorded" } else { "OTHERWISE" });
+            alike &= same;
+        } else {
+            fs::write(&path, &bytes).expect("the file can be written");
+            println!("{name}: {} bytes", bytes.len());
+        }
+    }
+    if alike { ExitCode::SUCCESS } else { ExitCode::FAILURE }
+}

@@ -1,0 +1,205 @@
+//! One input of a call, what a side makes of it, and where two sides differ.
+
+use std::fmt::{Debug, Write};
+
+use crate::fence::Fenced;
+use crate::subject::*;
+
+/// What is asked: a call, or `new` and `build` of a flow field together.
+#[derive(Clone, Copy, PartialEq, Eq, Debug)]
+pub enum Ask {
+    One(Call),
+    FlowBoth,
+}
+
+/// An input. A call reads the parts that it has, the others stay as `Case::of` leaves them.
+#[derive(Clone, PartialEq, Debug)]
+pub struct Case {
+    pub ask: Ask,
+    /// The two cells of a line call.
+    pub cells: [FieldCell; 2],
+    /// The byte that is read.
+    pub byte: u8,
+    pub costs: Vec<u8>,
+    pub steps: Vec<u8>,
+    pub field: IntegrationField,
+    pub previous_lent: bool,
+    pub previous: Vec<u32>,
+    pub sheet: Vec<u8>,
+}
+
+/// What a side made of an input.
+#[derive(Clone, PartialEq, Debug)]
+pub struct Outcome {
+    pub number: u8,
+    pub line: Line,
+    pub readings: Option<Readings>,
+    pub field: IntegrationField,
+    pub waves: usize,
+    pub sheet: Vec<u8>,
+    /// What is lent to be read is unchanged, and no guard beside lent memory is.
+    pub memory_kept: bool,
+}
+
+impl Case {
+    pub fn of(call: Call) -> Self {
+        Case {
+            ask: Ask::One(call),
+            cells: [FieldCell::default(); 2],
+            byte: 0,
+            costs: Vec::new(),
+            steps: Vec::new(),
+            field: IntegrationField::ZERO,
+            previous_lent: false,
+            previous: Vec::new(),
+            sheet: Vec::new(),
+        }
+    }
+
+    /// The call that is asked; of two, the first.
+    pub fn call(&self) -> Call {
+        match self.ask {
+            Ask::One(call) => call,
+            Ask::FlowBoth => Call::FlowNew,
+        }
+    }
+
+    /// The call on a side, its memory lent from between guards.
+    pub fn run(&self, side: &dyn Subject) -> Outcome {
+        let (costs, steps) = (Fenced::new(&self.costs), Fenced::new(&self.steps));
+        let previous = Fenced::new(&self.previous);
+        let mut sheet = Fenced::new(&self.sheet);
+        let lent = Previous { lent: self.previous_lent, numbers: previous.lent() };
+        let mut outcome = self.called(side, costs.lent(), steps.lent(), lent, sheet.lent_mut());
+        outcome.sheet = sheet.lent().to_vec();
+        outcome.memory_kept = costs.lent() == self.costs
+            && steps.lent() == self.steps
+            && previous.lent() == self.previous
+            && costs.stands()
+            && steps.stands()
+            && previous.stands()
+            && sheet.stands();
+        outcome
+    }
+
+    fn called(&self, side: &dyn Subject, costs: &[u8], steps: &[u8], previous: Previous, sheet: &mut [u8]) -> Outcome {
+        let [first, second] = self.cells;
+        match self.ask {
+            Ask::One(Call::Line) => Outcome::of_line(side.line(first, second)),
+            Ask::One(Call::LineEnd) => {
+                let end = side.line_end(first, second);
+                let mut line = Line { count: 1, ..Line::default() };
+                line.cells[0] = end.cell;
+                Outcome { line, ..Outcome::of_number(end.number) }
+            }
+            Ask::One(Call::Readers) => Outcome { readings: Some(side.readings(self.byte)), ..Outcome::of_number(0) },
+            Ask::One(Call::Init) => {
+                let answer = side.init(costs, steps);
+                Outcome { field: answer.field, ..Outcome::of_number(answer.number) }
+            }
+            Ask::One(Call::Build) => Outcome::of_build(side.build(costs, self.field)),
+            Ask::One(Call::FlowNew) => Outcome::of_number(side.flow_new(steps, self.field, previous, sheet)),
+            Ask::One(Call::FlowBuild) => Outcome::of_number(side.flow_build(self.field, sheet)),
+            Ask::One(Call::Sector) => Outcome::of_build(side.sector(costs, steps, previous, sheet)),
+            Ask::One(Call::Leg) => Outcome::of_number(side.leg(costs, steps, sheet)),
+            Ask::FlowBoth => {
+                let number = side.flow_new(steps, self.field, previous, sheet);
+                let second = if number == 0 { side.flow_build(self.field, sheet) } else { 0 };
+                Outcome::of_number(number + second)
+            }
+        }
+    }
+
+    /// The input as statements that make it.
+    pub fn pasted(&self) -> String {
+        let mut text = format!("// {:?}\n", self.ask);
+        if matches!(self.ask, Ask::One(Call::Line | Call::LineEnd)) {
+            let _ = writeln!(text, "let cells = {:?};", self.cells.map(|cell| (cell.column, cell.row)));
+        }
+        if self.ask == Ask::One(Call::Readers) {
+            let _ = writeln!(text, "let byte = {:#04x};", self.byte);
+        }
+        paste(&mut text, "costs", &self.costs, |x| format!("{x}"));
+        let _ = if self.steps.is_empty() { Ok(()) } else { writeln!(text, "let steps = {:?};", self.steps) };
+        if self.field != IntegrationField::ZERO {
+            paste(&mut text, "field", &self.field.field, |x| format!("{x:#x}"));
+            let listed = &self.field.los_corners[..self.field.count.min(CELLS)];
+            let _ = writeln!(text, "let los_corners = {listed:?}; // count {}", self.field.count);
+        }
+        if self.previous_lent || !self.previous.is_empty() {
+            let _ = writeln!(text, "let has_previous = {};", self.previous_lent);
+            paste(&mut text, "previous", &self.previous, |x| format!("{x:#x}"));
+        }
+        paste(&mut text, "sheet", &self.sheet, |x| format!("{x:#04x}"));
+        text
+    }
+}
+
+/// `let mut NAME = [most frequent value; length]; NAME[i] = other; ..`
+fn paste<T: Copy + PartialEq>(text: &mut String, name: &str, values: &[T], shown: impl Fn(T) -> String) {
+    let frequency = |value: &T| values.iter().filter(|other| *other == value).count();
+    let Some(usual) = values.iter().max_by_key(|value| frequency(value)).copied() else { return };
+    let _ = write!(text, "let mut {name} = [{}; {}];", shown(usual), values.len());
+    for (i, value) in values.iter().enumerate().filter(|(_, value)| **value != usual) {
+        let _ = write!(text, " {name}[{i}] = {};", shown(*value));
+    }
+    text.push('\n');
+}
+
+impl Outcome {
+    fn of_number(number: u8) -> Self {
+        Outcome {
+            number,
+            line: Line::default(),
+            readings: None,
+            field: IntegrationField::ZERO,
+            waves: 0,
+            sheet: Vec::new(),
+            memory_kept: true,
+        }
+    }
+
+    fn of_line(line: Line) -> Self {
+        Outcome { line, ..Outcome::of_number(line.number) }
+    }
+
+    fn of_build(answer: BuildAnswer) -> Self {
+        Outcome { field: answer.field, waves: answer.waves, ..Outcome::of_number(answer.number) }
+    }
+
+    /// Where another outcome differs from this one, which is the right one.
+    pub fn differences(&self, other: &Outcome) -> Vec<String> {
+        let mut found = Vec::new();
+        differ(&mut found, "number", &[self.number], &[other.number]);
+        differ(&mut found, "line count", &[self.line.count], &[other.line.count]);
+        differ(&mut found, "line cell", &self.line.cells, &other.line.cells);
+        differ(&mut found, "readings", &[self.readings], &[other.readings]);
+        differ(&mut found, "field", &self.field.field.map(Hex), &other.field.field.map(Hex));
+        differ(&mut found, "corner count", &[self.field.count], &[other.field.count]);
+        differ(&mut found, "los_corners", &self.field.los_corners, &other.field.los_corners);
+        differ(&mut found, "waves", &[self.waves], &[other.waves]);
+        let bytes = |sheet: &[u8]| sheet.iter().map(|byte| Hex(u32::from(*byte))).collect::<Vec<_>>();
+        differ(&mut found, "sheet", &bytes(&self.sheet), &bytes(&other.sheet));
+        differ(&mut found, "memory kept", &[self.memory_kept], &[other.memory_kept]);
+        found
+    }
+}
+
+/// Shown in hexadecimal.
+#[derive(Clone, Copy, PartialEq)]
+struct Hex(u32);
+
+impl Debug for Hex {
+    fn fmt(&self, f: &mut std::fmt::Formatter) -> std::fmt::Result {
+        write!(f, "{:#x}", self.0)
+    }
+}
+
+fn differ<T: PartialEq + Debug>(found: &mut Vec<String>, name: &str, right: &[T], other: &[T]) {
+    if right.len() != other.len() {
+        found.push(format!("{name}: {} values where {} are due", other.len(), right.len()));
+    }
+    for (i, (right, other)) in right.iter().zip(other).enumerate().filter(|(_, (right, other))| right != other) {
+        found.push(format!("{name}[{i}] is {other:?} where {right:?} is due"));
+    }
+}

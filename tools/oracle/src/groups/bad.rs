@@ -1,0 +1,162 @@
+//! Inputs of which the table refuses many: good ones with something spoiled, one thing or several.
+
+use super::Cases;
+use super::good::{drawn, leg_case};
+use crate::cases::Case;
+use crate::floors::{self, Rng};
+use crate::subject::*;
+
+/// Coordinates on either side of the edge and far off.
+const COORDINATES: [usize; 8] = [0, 3, 9, 10, 11, 255, 1 << 32, usize::MAX];
+
+fn bad_pair(rng: &mut Rng, call: Call) -> Case {
+    let cell = |rng: &mut Rng| FieldCell { column: rng.pick(&COORDINATES), row: rng.pick(&COORDINATES) };
+    let mut cells = [cell(rng), FieldCell::from_index(rng.below(CELLS))];
+    if rng.one_in(2) {
+        cells.swap(0, 1);
+    }
+    Case { cells, ..Case::of(call) }
+}
+
+pub fn lines(rng: Rng, inputs: usize) -> Cases {
+    Box::new(drawn(rng, inputs / 10, |rng| bad_pair(rng, Call::Line)))
+}
+
+pub fn line_ends(rng: Rng, inputs: usize) -> Cases {
+    Box::new(drawn(rng, inputs / 10, |rng| bad_pair(rng, Call::LineEnd)))
+}
+
+/// One length in `often` made another.
+fn spoil_length<T: Clone + Default>(rng: &mut Rng, values: &mut Vec<T>, often: usize) {
+    if rng.one_in(often) {
+        let length = match rng.below(4) {
+            0 => values.len() + 1,
+            1 => values.len().saturating_sub(1),
+            2 => 0,
+            _ => rng.below(2 * values.len() + 2),
+        };
+        values.resize(length, T::default());
+    }
+}
+
+/// A byte of a step made another, near the limits or any.
+fn spoil_step(rng: &mut Rng, step: &mut [u8]) {
+    if step.is_empty() {
+        return;
+    }
+    let at = rng.below(step.len());
+    let near = match at % 8 {
+        0 => [63, 64, 255, 0],
+        1 => [99, 100, 255, 0],
+        2 => [0, 1, 2, 255],
+        3 | 4 => [99, 100, 9, 90],
+        5 => [3, 4, 0, 1],
+        _ => [0, 1, 128, 255],
+    };
+    step[at] = if rng.one_in(3) { rng.draw() as u8 } else { rng.pick(&near) };
+}
+
+fn bad_step(rng: &mut Rng) -> Vec<u8> {
+    let mut step = floors::any_step(rng).to_vec();
+    for _ in 0..rng.below(3) {
+        spoil_step(rng, &mut step);
+    }
+    if step[2] == 1 && rng.one_in(8) {
+        step.swap(3, 4);
+    }
+    spoil_length(rng, &mut step, 12);
+    step
+}
+
+fn bad_costs(rng: &mut Rng) -> Vec<u8> {
+    let mut costs = floors::any(rng).to_vec();
+    spoil_length(rng, &mut costs, 12);
+    costs
+}
+
+fn bad_sheet(rng: &mut Rng) -> Vec<u8> {
+    let mut sheet = floors::any_sheet(rng);
+    spoil_length(rng, &mut sheet, 12);
+    sheet
+}
+
+/// A previous field, lent or not, of any length.
+fn bad_previous(rng: &mut Rng) -> (bool, Vec<u32>) {
+    let (lent, mut numbers) = floors::any_previous(rng);
+    spoil_length(rng, &mut numbers, 3);
+    (if rng.one_in(6) { !lent } else { lent }, numbers)
+}
+
+pub fn inits(rng: Rng, inputs: usize) -> Cases {
+    Box::new(drawn(rng, inputs, |rng| Case { costs: bad_costs(rng), steps: bad_step(rng), ..Case::of(Call::Init) }))
+}
+
+pub fn builds(rng: Rng, inputs: usize) -> Cases {
+    Box::new(drawn(rng, inputs, |rng| {
+        let mut field = floors::any_field(rng);
+        if rng.one_in(3) {
+            field.count = rng.pick(&[99, 100, 101, 102, 1 << 32, usize::MAX]);
+        }
+        if rng.one_in(3) {
+            field.los_corners[rng.below(CELLS)] = rng.pick(&[99, 100, 101, 1 << 32, usize::MAX]);
+        }
+        Case { costs: bad_costs(rng), field, ..Case::of(Call::Build) }
+    }))
+}
+
+pub fn flows_new(rng: Rng, inputs: usize) -> Cases {
+    Box::new(drawn(rng, inputs, |rng| {
+        let (previous_lent, previous) = bad_previous(rng);
+        let (steps, field, sheet) = (bad_step(rng), floors::any_field(rng), bad_sheet(rng));
+        Case { steps, field, previous_lent, previous, sheet, ..Case::of(Call::FlowNew) }
+    }))
+}
+
+pub fn flows_build(rng: Rng, inputs: usize) -> Cases {
+    Box::new(drawn(rng, inputs / 4, |rng| Case {
+        field: floors::any_field(rng),
+        sheet: bad_sheet(rng),
+        ..Case::of(Call::FlowBuild)
+    }))
+}
+
+pub fn sectors(rng: Rng, inputs: usize) -> Cases {
+    Box::new(drawn(rng, inputs, |rng| {
+        let (previous_lent, previous) = bad_previous(rng);
+        let (costs, steps, sheet) = (bad_costs(rng), bad_step(rng), bad_sheet(rng));
+        Case { costs, steps, previous_lent, previous, sheet, ..Case::of(Call::Sector) }
+    }))
+}
+
+/// A leg with steps spoiled, repeated, swapped, marked otherwise, or too many.
+fn bad_leg(rng: &mut Rng) -> Case {
+    let mut case = leg_case(rng);
+    for _ in 0..rng.below(3) {
+        spoil_step(rng, &mut case.steps);
+    }
+    match rng.below(8) {
+        0 => case.steps = floors::any_leg(rng, 1).into_iter().cycle().take(8 * rng.pick(&[2, 16, 17, 32])).collect(),
+        1 => case.steps.extend(floors::any_step(rng)),
+        2 => case.steps.rotate_left(8),
+        3 => case.steps = wrapping_leg(rng),
+        4 => case.steps = floors::straight_leg(rng.pick(&[15, 16, 17])),
+        _ => {}
+    }
+    spoil_length(rng, &mut case.steps, 12);
+    spoil_length(rng, &mut case.costs, 12);
+    spoil_length(rng, &mut case.sheet, 12);
+    case
+}
+
+/// Two sectors whose numbers follow one another but whose rows do not.
+fn wrapping_leg(rng: &mut Rng) -> Vec<u8> {
+    let edge = 8 * (1 + rng.below(7));
+    let (before, sector, boundary) = if rng.one_in(2) { (edge - 1, edge, 3) } else { (edge, edge - 1, 1) };
+    let mut steps = floors::goal_step(before, 44).to_vec();
+    steps.extend(floors::window_step(sector, boundary, 2, 5));
+    steps
+}
+
+pub fn legs(rng: Rng, inputs: usize) -> Cases {
+    Box::new(drawn(rng, inputs / 10, bad_leg))
+}

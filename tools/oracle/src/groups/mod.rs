@@ -1,0 +1,108 @@
+//! The groups of the comparison. A group names the call that it needs and makes its inputs from the
+//! seed; `run` asks the oracle and a side, and stops at the first difference with the smallest input
+//! that shows it.
+
+mod bad;
+mod good;
+
+use crate::cases::{Case, Outcome};
+use crate::floors::Rng;
+use crate::oracle::Oracle;
+use crate::shrink;
+use crate::subject::{Call, Subject};
+
+/// Inputs of a group, one by one.
+pub type Cases = Box<dyn Iterator<Item = Case>>;
+
+/// A group. What is there to be tried in full comes first, then `inputs` that are drawn.
+pub struct Group {
+    pub name: &'static str,
+    /// The calls that a side must offer.
+    pub needs: &'static [Call],
+    pub cases: fn(Rng, usize) -> Cases,
+    /// The numbers that the group must have reached.
+    pub reaches: &'static [u8],
+}
+
+/// All groups, in the order in which they run.
+pub const GROUPS: &[Group] = &[
+    Group { name: "line", needs: &[Call::Line], cases: good::lines, reaches: &[0] },
+    Group { name: "line end", needs: &[Call::LineEnd], cases: good::line_ends, reaches: &[0] },
+    Group { name: "readers", needs: &[Call::Readers], cases: good::readers, reaches: &[0] },
+    Group { name: "init", needs: &[Call::Init], cases: good::inits, reaches: &[0] },
+    Group { name: "build started", needs: &[Call::Build], cases: good::builds_started, reaches: &[0] },
+    Group { name: "build by hand", needs: &[Call::Build], cases: good::builds_by_hand, reaches: &[0] },
+    Group { name: "flow new", needs: &[Call::FlowNew], cases: good::flows_new, reaches: &[0] },
+    Group { name: "flow build", needs: &[Call::FlowBuild], cases: good::flows_build, reaches: &[0] },
+    Group {
+        name: "flow new and build",
+        needs: &[Call::FlowNew, Call::FlowBuild],
+        cases: good::flows_both,
+        reaches: &[0],
+    },
+    Group { name: "sector", needs: &[Call::Sector], cases: good::sectors, reaches: &[0] },
+    Group { name: "sector, two walls", needs: &[Call::Sector], cases: good::two_walls, reaches: &[0] },
+    Group { name: "leg", needs: &[Call::Leg], cases: good::legs, reaches: &[0] },
+    Group { name: "line refusals", needs: &[Call::Line], cases: bad::lines, reaches: &[0, 13] },
+    Group { name: "line end refusals", needs: &[Call::LineEnd], cases: bad::line_ends, reaches: &[0, 13] },
+    Group { name: "init refusals", needs: &[Call::Init], cases: bad::inits, reaches: &[0, 1, 3, 4, 5, 6, 7, 8] },
+    Group { name: "build refusals", needs: &[Call::Build], cases: bad::builds, reaches: &[0, 1, 11] },
+    Group {
+        name: "flow new refusals",
+        needs: &[Call::FlowNew],
+        cases: bad::flows_new,
+        reaches: &[0, 2, 3, 4, 5, 6, 7, 8, 12],
+    },
+    Group { name: "flow build refusals", needs: &[Call::FlowBuild], cases: bad::flows_build, reaches: &[0, 2] },
+    Group {
+        name: "sector refusals",
+        needs: &[Call::Sector],
+        cases: bad::sectors,
+        reaches: &[0, 1, 2, 3, 4, 5, 6, 7, 8, 12],
+    },
+    Group { name: "leg refusals", needs: &[Call::Leg], cases: bad::legs, reaches: &[0, 1, 2, 3, 4, 5, 6, 7, 8, 9, 10] },
+];
+
+/// What a group that found no difference saw.
+#[derive(Default)]
+pub struct Clean {
+    pub inputs: usize,
+    /// How often each number was due.
+    pub numbers: [usize; 14],
+}
+
+/// The first difference.
+pub struct Difference {
+    /// Its place among the inputs, from 1.
+    pub input: usize,
+    pub smallest: Case,
+    pub found: Vec<String>,
+}
+
+/// Where a side differs from the oracle on one input.
+fn differences(case: &Case, side: &dyn Subject) -> (Outcome, Vec<String>) {
+    let due = case.run(&Oracle);
+    let found = case.run(side);
+    let list = if due == found { Vec::new() } else { due.differences(&found) };
+    (due, list)
+}
+
+impl Group {
+    pub fn run(&self, side: &dyn Subject, seed: u64, inputs: usize) -> Result<Clean, Box<Difference>> {
+        let mut clean = Clean::default();
+        for case in (self.cases)(Rng::new(seed), inputs) {
+            clean.inputs += 1;
+            let (due, found) = differences(&case, side);
+            clean.numbers[usize::from(due.number)] += 1;
+            if !found.is_empty() {
+                let smallest = shrink::smallest(&case, &|simpler| !differences(simpler, side).1.is_empty());
+                let found = differences(&smallest, side).1;
+                return Err(Box::new(Difference { input: clean.inputs, smallest, found }));
+            }
+        }
+        for number in self.reaches {
+            assert!(clean.numbers[usize::from(*number)] > 0, "{}: number {number} was not reached", self.name);
+        }
+        Ok(clean)
+    }
+}

@@ -1,0 +1,13 @@
+//! The Rust reference beside the proved library: what both are asked, and how they are compared.
+
+pub mod cases;
+pub mod fence;
+pub mod floors;
+pub mod groups;
+pub mod library;
+pub mod model;
+pub mod oracle;
+pub mod records;
+pub mod refusals;
+pub mod shrink;
+pub mod subject;

@@ -1,0 +1,165 @@
+//! The proved library, as others link it. The build script reads which exports the archive has; a
+//! call whose export is not there yet is not offered.
+
+use crate::subject::*;
+
+pub struct Library;
+
+/// `call` where the archive has the export of that name.
+macro_rules! exported {
+    ($name:tt, $call:expr) => {{
+        // SAFETY: the pointers and lengths are those of live slices, and the layouts are the library's.
+        #[cfg(export = $name)]
+        let answer = unsafe { $call };
+        #[cfg(not(export = $name))]
+        let answer = missing($name);
+        answer
+    }};
+}
+
+/// Not reached: `offers` is asked before a call.
+#[allow(dead_code)]
+fn missing<T>(name: &str) -> T {
+    unreachable!("the library does not export {name} yet")
+}
+
+#[allow(dead_code)]
+unsafe extern "C" {
+    fn hanjolum_line(source_column: usize, source_row: usize, target_column: usize, target_row: usize) -> Line;
+    fn hanjolum_line_end(corner_column: usize, corner_row: usize, goal_column: usize, goal_row: usize) -> LineEnd;
+    fn hanjolum_is_pathable(byte: u8) -> bool;
+    fn hanjolum_is_goal(byte: u8) -> bool;
+    fn hanjolum_is_portal_goal(byte: u8) -> bool;
+    fn hanjolum_has_line_of_sight(byte: u8) -> bool;
+    fn hanjolum_is_wall(byte: u8) -> bool;
+    fn hanjolum_get_compass_dir_from_bits(byte: u8) -> u8;
+    fn hanjolum_init(costs: *const u8, costs_length: usize, step: *const u8, step_length: usize) -> InitAnswer;
+    fn hanjolum_build(costs: *const u8, costs_length: usize, field: IntegrationField) -> BuildAnswer;
+    fn hanjolum_flow_new(
+        step: *const u8,
+        step_length: usize,
+        field: IntegrationField,
+        has_previous: bool,
+        previous: *const u32,
+        previous_length: usize,
+        sheet: *mut u8,
+        sheet_length: usize,
+    ) -> u8;
+    fn hanjolum_flow_build(field: IntegrationField, sheet: *mut u8, sheet_length: usize) -> u8;
+    fn hanjolum_sector(
+        costs: *const u8,
+        costs_length: usize,
+        step: *const u8,
+        step_length: usize,
+        has_previous: bool,
+        previous: *const u32,
+        previous_length: usize,
+        sheet: *mut u8,
+        sheet_length: usize,
+    ) -> BuildAnswer;
+    fn hanjolum_leg(
+        floor: *const u8,
+        floor_length: usize,
+        steps: *const u8,
+        steps_length: usize,
+        sheet: *mut u8,
+        sheet_length: usize,
+    ) -> u8;
+}
+
+#[allow(unused_variables)]
+impl Subject for Library {
+    fn offers(&self, call: Call) -> bool {
+        match call {
+            Call::Line => cfg!(export = "hanjolum_line"),
+            Call::LineEnd => cfg!(export = "hanjolum_line_end"),
+            Call::Readers => cfg!(all(
+                export = "hanjolum_is_pathable",
+                export = "hanjolum_is_goal",
+                export = "hanjolum_is_portal_goal",
+                export = "hanjolum_has_line_of_sight",
+                export = "hanjolum_is_wall",
+                export = "hanjolum_get_compass_dir_from_bits"
+            )),
+            Call::Init => cfg!(export = "hanjolum_init"),
+            Call::Build => cfg!(export = "hanjolum_build"),
+            Call::FlowNew => cfg!(export = "hanjolum_flow_new"),
+            Call::FlowBuild => cfg!(export = "hanjolum_flow_build"),
+            Call::Sector => cfg!(export = "hanjolum_sector"),
+            Call::Leg => cfg!(export = "hanjolum_leg"),
+        }
+    }
+
+    fn line(&self, source: FieldCell, target: FieldCell) -> Line {
+        exported!("hanjolum_line", hanjolum_line(source.column, source.row, target.column, target.row))
+    }
+
+    fn line_end(&self, corner: FieldCell, goal: FieldCell) -> LineEnd {
+        exported!("hanjolum_line_end", hanjolum_line_end(corner.column, corner.row, goal.column, goal.row))
+    }
+
+    fn readings(&self, byte: u8) -> Readings {
+        Readings {
+            is_pathable: exported!("hanjolum_is_pathable", hanjolum_is_pathable(byte)),
+            is_goal: exported!("hanjolum_is_goal", hanjolum_is_goal(byte)),
+            is_portal_goal: exported!("hanjolum_is_portal_goal", hanjolum_is_portal_goal(byte)),
+            has_line_of_sight: exported!("hanjolum_has_line_of_sight", hanjolum_has_line_of_sight(byte)),
+            is_wall: exported!("hanjolum_is_wall", hanjolum_is_wall(byte)),
+            direction: exported!("hanjolum_get_compass_dir_from_bits", hanjolum_get_compass_dir_from_bits(byte)),
+        }
+    }
+
+    fn init(&self, costs: &[u8], step: &[u8]) -> InitAnswer {
+        exported!("hanjolum_init", hanjolum_init(costs.as_ptr(), costs.len(), step.as_ptr(), step.len()))
+    }
+
+    fn build(&self, costs: &[u8], field: IntegrationField) -> BuildAnswer {
+        exported!("hanjolum_build", hanjolum_build(costs.as_ptr(), costs.len(), field))
+    }
+
+    fn flow_new(&self, step: &[u8], field: IntegrationField, previous: Previous, sheet: &mut [u8]) -> u8 {
+        let (numbers, length) = (previous.numbers.as_ptr(), previous.numbers.len());
+        exported!(
+            "hanjolum_flow_new",
+            hanjolum_flow_new(
+                step.as_ptr(),
+                step.len(),
+                field,
+                previous.lent,
+                numbers,
+                length,
+                sheet.as_mut_ptr(),
+                sheet.len()
+            )
+        )
+    }
+
+    fn flow_build(&self, field: IntegrationField, sheet: &mut [u8]) -> u8 {
+        exported!("hanjolum_flow_build", hanjolum_flow_build(field, sheet.as_mut_ptr(), sheet.len()))
+    }
+
+    fn sector(&self, costs: &[u8], step: &[u8], previous: Previous, sheet: &mut [u8]) -> BuildAnswer {
+        let (numbers, length) = (previous.numbers.as_ptr(), previous.numbers.len());
+        exported!(
+            "hanjolum_sector",
+            hanjolum_sector(
+                costs.as_ptr(),
+                costs.len(),
+                step.as_ptr(),
+                step.len(),
+                previous.lent,
+                numbers,
+                length,
+                sheet.as_mut_ptr(),
+                sheet.len()
+            )
+        )
+    }
+
+    fn leg(&self, floor: &[u8], steps: &[u8], sheet: &mut [u8]) -> u8 {
+        exported!(
+            "hanjolum_leg",
+            hanjolum_leg(floor.as_ptr(), floor.len(), steps.as_ptr(), steps.len(), sheet.as_mut_ptr(), sheet.len())
+        )
+    }
+}

@@ -1,0 +1,176 @@
+//! The calls, answered by the model.
+
+use super::numbers::Verdict;
+use super::{Model, Slip};
+use crate::refusals::Given;
+use crate::subject::*;
+
+fn place(cell: FieldCell) -> (i32, i32) {
+    (cell.column as i32, cell.row as i32)
+}
+
+fn answered(at: (i32, i32)) -> FieldCell {
+    FieldCell { column: at.0 as usize, row: at.1 as usize }
+}
+
+fn lent(previous: Previous<'_>) -> Option<&[u32]> {
+    previous.lent.then_some(previous.numbers)
+}
+
+impl Model {
+    /// The built field, its waves and the flow bytes of a sector.
+    fn planned(&self, costs: &[u8], step: &[u8], previous: Option<&[u32]>) -> (IntegrationField, usize, [u8; CELLS]) {
+        let (field, waves) = self.built(costs, &self.started(costs, step));
+        let mut bytes = self.starting_bytes(step, &field.field, previous);
+        for (cell, byte) in bytes.iter_mut().enumerate() {
+            *byte = self.looked(&field.field, cell, *byte);
+        }
+        if self.slips(Slip::OneSheetForAll) {
+            bytes = [0x12; CELLS];
+        }
+        (field, waves, bytes)
+    }
+
+    fn refused_build(&self, number: u8) -> BuildAnswer {
+        let mut answer = refused::build(number);
+        if self.slips(Slip::FieldOfRefusal) && number != 0 {
+            answer.field.field = [65535; CELLS];
+        }
+        answer
+    }
+
+    /// What a call that is not accepted answers; a slip may write first.
+    fn turned_away(&self, given: &Given, sheet: &mut [u8]) -> Option<u8> {
+        match self.judge(given) {
+            Verdict::Accepted => None,
+            Verdict::Mistaken => Some(0),
+            Verdict::Refused(number) => {
+                if self.slips(Slip::WrittenBeforeRefusal) {
+                    sheet.fill(0);
+                }
+                Some(number)
+            }
+        }
+    }
+
+    /// Every step of an accepted leg, in its order.
+    fn plan(&self, floor: &[u8], steps: &[u8], sheet: &mut [u8]) {
+        let mut before: Option<IntegrationField> = None;
+        if self.slips(Slip::UnnamedCleared) {
+            sheet.fill(0);
+        }
+        for (k, step) in steps.chunks(8).enumerate() {
+            let part = usize::from(step[0]) * CELLS..(usize::from(step[0]) + 1) * CELLS;
+            let previous = before.as_ref().map(|field| &field.field[..]);
+            let previous = previous.filter(|_| !self.slips(Slip::PreviousForgotten));
+            let (field, _, bytes) = self.planned(&floor[part.clone()], step, previous);
+            if !self.slips(Slip::LastSectorOnly) || 8 * (k + 1) == steps.len() {
+                sheet[part].copy_from_slice(&bytes);
+            }
+            if k == 0 || !self.slips(Slip::FirstPrevious) {
+                before = Some(field);
+            }
+        }
+    }
+}
+
+impl Subject for Model {
+    fn offers(&self, _call: Call) -> bool {
+        true
+    }
+
+    fn line(&self, source: FieldCell, target: FieldCell) -> Line {
+        let coordinates = [source.column, source.row, target.column, target.row];
+        let given = Given { coordinates: &coordinates, ..Given::default() };
+        if let Some(number) = self.turned_away(&given, &mut []) {
+            return refused::line(number);
+        }
+        let walked = self.line_cells(place(source), place(target));
+        let mut line = Line { count: walked.len(), ..Line::default() };
+        for (cell, at) in line.cells.iter_mut().zip(walked) {
+            *cell = answered(at);
+        }
+        line
+    }
+
+    fn line_end(&self, corner: FieldCell, goal: FieldCell) -> LineEnd {
+        let coordinates = [corner.column, corner.row, goal.column, goal.row];
+        let given = Given { coordinates: &coordinates, ..Given::default() };
+        match self.turned_away(&given, &mut []) {
+            Some(number) => refused::line_end(number),
+            None => LineEnd { number: 0, cell: answered(self.end_of_line(place(corner), place(goal))) },
+        }
+    }
+
+    fn readings(&self, byte: u8) -> Readings {
+        self.read(byte)
+    }
+
+    fn init(&self, costs: &[u8], step: &[u8]) -> InitAnswer {
+        let given = Given { costs: Some(costs.len()), steps: Some(step), ..Given::default() };
+        match self.turned_away(&given, &mut []) {
+            Some(number) => InitAnswer { number, field: self.refused_build(number).field },
+            None => InitAnswer { number: 0, field: self.started(costs, step) },
+        }
+    }
+
+    fn build(&self, costs: &[u8], field: IntegrationField) -> BuildAnswer {
+        let given = Given { costs: Some(costs.len()), by_hand: Some(&field), ..Given::default() };
+        if let Some(number) = self.turned_away(&given, &mut []) {
+            return self.refused_build(number);
+        }
+        let (field, waves) = self.built(costs, &field);
+        BuildAnswer { number: 0, field, waves }
+    }
+
+    fn flow_new(&self, step: &[u8], field: IntegrationField, previous: Previous, sheet: &mut [u8]) -> u8 {
+        let given = Given { sheet: Some(sheet.len()), steps: Some(step), previous: Some(previous), ..Given::default() };
+        if let Some(number) = self.turned_away(&given, sheet) {
+            return number;
+        }
+        sheet.copy_from_slice(&self.starting_bytes(step, &field.field, lent(previous)));
+        0
+    }
+
+    fn flow_build(&self, field: IntegrationField, sheet: &mut [u8]) -> u8 {
+        let given = Given { sheet: Some(sheet.len()), ..Given::default() };
+        if let Some(number) = self.turned_away(&given, sheet) {
+            return number;
+        }
+        for (cell, byte) in sheet.iter_mut().enumerate() {
+            *byte = self.looked(&field.field, cell, *byte);
+        }
+        0
+    }
+
+    fn sector(&self, costs: &[u8], step: &[u8], previous: Previous, sheet: &mut [u8]) -> BuildAnswer {
+        let given = Given {
+            costs: Some(costs.len()),
+            sheet: Some(sheet.len()),
+            steps: Some(step),
+            previous: Some(previous),
+            ..Given::default()
+        };
+        if let Some(number) = self.turned_away(&given, sheet) {
+            return self.refused_build(number);
+        }
+        let (field, waves, bytes) = self.planned(costs, step, lent(previous));
+        sheet.copy_from_slice(&bytes);
+        BuildAnswer { number: 0, field, waves }
+    }
+
+    fn leg(&self, floor: &[u8], steps: &[u8], sheet: &mut [u8]) -> u8 {
+        let given = Given {
+            leg: true,
+            costs: Some(floor.len()),
+            sheet: Some(sheet.len()),
+            steps: Some(steps),
+            ..Given::default()
+        };
+        if let Some(number) = self.turned_away(&given, sheet) {
+            return number;
+        }
+        self.plan(floor, steps, sheet);
+        0
+    }
+}

@@ -1,0 +1,55 @@
+//! A model of document 01, written from that page and not from the Rust, and the same model with one
+//! slip planted (`Slip`), to see that the groups find it.
+
+mod answers;
+mod flow;
+mod integration;
+mod line;
+mod numbers;
+mod slips;
+
+pub use slips::Slip;
+
+/// The model, with no slip or with one.
+pub struct Model {
+    pub slip: Slip,
+}
+
+impl Model {
+    pub const PLAIN: Model = Model { slip: Slip::None };
+
+    fn slips(&self, slip: Slip) -> bool {
+        self.slip == slip
+    }
+}
+
+/// Differences of column and row toward N, E, S, W, NE, SE, SW, NW.
+const DIFFERENCES: [(i32, i32); 8] = [(0, -1), (1, 0), (0, 1), (-1, 0), (1, -1), (1, 1), (-1, 1), (-1, -1)];
+
+const NORTH: usize = 0;
+const EAST: usize = 1;
+const SOUTH: usize = 2;
+const WEST: usize = 3;
+
+/// The cell one step away, inside the sector.
+fn beside(cell: usize, direction: usize) -> Option<usize> {
+    let (column, row) = DIFFERENCES[direction];
+    shifted(cell, column, row)
+}
+
+fn shifted(cell: usize, columns: i32, rows: i32) -> Option<usize> {
+    let (column, row) = (cell as i32 % 10 + columns, cell as i32 / 10 + rows);
+    let inside = (0..10).contains(&column) && (0..10).contains(&row);
+    inside.then_some((row * 10 + column) as usize)
+}
+
+/// A move cuts between two walls when it is diagonal and both cells beside it, one in the row of the
+/// cell it leaves and one in its column, are walls.
+fn walls_beside_move(from: usize, to: usize, wall: impl Fn(usize) -> bool) -> usize {
+    let columns = to as i32 % 10 - from as i32 % 10;
+    let rows = to as i32 / 10 - from as i32 / 10;
+    if columns == 0 || rows == 0 {
+        return 0;
+    }
+    [shifted(from, columns, 0), shifted(from, 0, rows)].into_iter().flatten().filter(|cell| wall(*cell)).count()
+}

@@ -1,0 +1,224 @@
+//! The oracle: refusal numbers by the table of document 01, everything else by the Rust. Wave counts
+//! come from the counted copy, whose fields are asserted equal to the published one's.
+
+use reference::flowfields as rust;
+use reference::flowfields::fields::{Field, flow_field};
+use reference::flowfields::utilities::CompassDir;
+
+use crate::refusals::{self, Given};
+use crate::subject::*;
+
+pub struct Oracle;
+
+const BOUNDARIES: [CompassDir; 4] = [CompassDir::North, CompassDir::East, CompassDir::South, CompassDir::West];
+
+/// A hundred values of a slice that has passed the table.
+fn hundred<T: Copy>(values: &[T]) -> [T; CELLS] {
+    values.try_into().expect("the table lets only a hundred pass")
+}
+
+fn cell(at: FieldCell) -> rust::fields::FieldCell {
+    rust::fields::FieldCell::new(at.column, at.row)
+}
+
+fn answered(at: &rust::fields::FieldCell) -> FieldCell {
+    FieldCell { column: at.get_column(), row: at.get_row() }
+}
+
+/// The Rust's step of eight bytes that have passed the table.
+pub fn route_step(step: &[u8]) -> rust::route::RouteStep {
+    let (sector, goal) = (i32::from(step[0]), usize::from(step[1]));
+    let portal = (step[2] == 1).then(|| {
+        let ends = [step[3], step[4]].map(|index| rust::fields::FieldCell::from_index(usize::from(index)));
+        rust::portal::PortalWindow::new(ends[0], ends[1], BOUNDARIES[usize::from(step[5])])
+    });
+    rust::route::RouteStep::new(&rust::sectors::SectorID::new(sector % 8, sector / 8), goal, portal)
+}
+
+pub fn cost_field(costs: &[u8]) -> rust::fields::cost_field::CostField {
+    rust::fields::cost_field::CostField::oracle_from(hundred(costs))
+}
+
+type RustField = rust::fields::integration_field::IntegrationField;
+
+fn rust_field(field: &IntegrationField) -> RustField {
+    RustField::oracle_from(field.field, field.corners().to_vec())
+}
+
+/// Flow calls do not look at the list, which may then be one that `build` refuses.
+fn rust_cells(field: [u32; CELLS]) -> RustField {
+    RustField::oracle_from(field, Vec::new())
+}
+
+fn from_rust(field: &RustField) -> IntegrationField {
+    IntegrationField::new(*field.get(), field.oracle_corners())
+}
+
+/// What the counted copy makes of a field.
+pub struct Counted {
+    pub cells: [u32; CELLS],
+    /// The calls of `propagate_integrated_wavefront` but the first.
+    pub waves: usize,
+    /// The entries of the longest wavefront.
+    pub longest: usize,
+}
+
+/// The counted copy's build.
+pub fn counted_build(costs: &[u8], field: &IntegrationField) -> Counted {
+    use counted::flowfields::fields::integration_field::{IntegrationField as Copied, ORACLE_WAVEFRONTS};
+    use counted::flowfields::fields::{Field, cost_field::CostField};
+    let mut copy = Copied::oracle_from(field.field, field.corners().to_vec());
+    ORACLE_WAVEFRONTS.with(|seen| seen.set((0, 0)));
+    copy.build(&CostField::oracle_from(hundred(costs)));
+    let (calls, longest) = ORACLE_WAVEFRONTS.with(|seen| seen.get());
+    Counted { cells: *copy.get(), waves: calls - 1, longest }
+}
+
+impl Oracle {
+    fn start(&self, costs: &[u8], step: &[u8]) -> IntegrationField {
+        from_rust(&RustField::init(&cost_field(costs), &route_step(step)))
+    }
+
+    fn built(&self, costs: &[u8], field: &IntegrationField) -> (IntegrationField, usize) {
+        let mut published = rust_field(field);
+        published.build(&cost_field(costs));
+        let counted = counted_build(costs, field);
+        assert_eq!(published.get(), &counted.cells, "the counted copy builds another field");
+        (from_rust(&published), counted.waves)
+    }
+
+    fn arrows(&self, step: &[u8], field: &IntegrationField, previous: Option<&[u32]>) -> flow_field::FlowField {
+        let previous = previous.map(|numbers| rust_cells(hundred(numbers)));
+        flow_field::FlowField::new(&route_step(step), &rust_cells(field.field), previous.as_ref())
+    }
+
+    /// The built field, its waves, and the flow bytes.
+    fn planned(&self, costs: &[u8], step: &[u8], previous: Option<&[u32]>) -> (IntegrationField, usize, [u8; CELLS]) {
+        let (field, waves) = self.built(costs, &self.start(costs, step));
+        let mut flow = self.arrows(step, &field, previous);
+        flow.build(&rust_cells(field.field));
+        (field, waves, *flow.get())
+    }
+}
+
+fn lent(previous: Previous<'_>) -> Option<&[u32]> {
+    previous.lent.then_some(previous.numbers)
+}
+
+impl Subject for Oracle {
+    fn offers(&self, _call: Call) -> bool {
+        true
+    }
+
+    fn line(&self, source: FieldCell, target: FieldCell) -> Line {
+        let coordinates = [source.column, source.row, target.column, target.row];
+        let number = refusals::number(&Given { coordinates: &coordinates, ..Given::default() });
+        if number != 0 {
+            return refused::line(number);
+        }
+        let walked = cell(source).get_cells_between_points(&cell(target));
+        let mut line = Line { count: walked.len(), ..Line::default() };
+        for (place, at) in line.cells.iter_mut().zip(&walked) {
+            *place = answered(at);
+        }
+        line
+    }
+
+    fn line_end(&self, corner: FieldCell, goal: FieldCell) -> LineEnd {
+        let coordinates = [corner.column, corner.row, goal.column, goal.row];
+        let number = refusals::number(&Given { coordinates: &coordinates, ..Given::default() });
+        if number != 0 {
+            return refused::line_end(number);
+        }
+        let end = rust::fields::integration_field::oracle_line_end(&cell(corner), &cell(goal));
+        LineEnd { number: 0, cell: answered(&end) }
+    }
+
+    fn readings(&self, byte: u8) -> Readings {
+        Readings {
+            is_pathable: flow_field::is_pathable(byte),
+            is_goal: flow_field::is_goal(byte),
+            is_portal_goal: flow_field::is_portal_goal(byte),
+            has_line_of_sight: flow_field::has_line_of_sight(byte),
+            is_wall: flow_field::is_wall(byte),
+            direction: flow_field::get_compass_dir_from_bits(byte) as u8,
+        }
+    }
+
+    fn init(&self, costs: &[u8], step: &[u8]) -> InitAnswer {
+        let given = Given { costs: Some(costs.len()), steps: Some(step), ..Given::default() };
+        match refusals::number(&given) {
+            0 => InitAnswer { number: 0, field: self.start(costs, step) },
+            number => refused::init(number),
+        }
+    }
+
+    fn build(&self, costs: &[u8], field: IntegrationField) -> BuildAnswer {
+        let given = Given { costs: Some(costs.len()), by_hand: Some(&field), ..Given::default() };
+        let number = refusals::number(&given);
+        if number != 0 {
+            return refused::build(number);
+        }
+        let (field, waves) = self.built(costs, &field);
+        BuildAnswer { number, field, waves }
+    }
+
+    fn flow_new(&self, step: &[u8], field: IntegrationField, previous: Previous, sheet: &mut [u8]) -> u8 {
+        let given = Given { sheet: Some(sheet.len()), steps: Some(step), previous: Some(previous), ..Given::default() };
+        let number = refusals::number(&given);
+        if number == 0 {
+            sheet.copy_from_slice(self.arrows(step, &field, lent(previous)).get());
+        }
+        number
+    }
+
+    fn flow_build(&self, field: IntegrationField, sheet: &mut [u8]) -> u8 {
+        let number = refusals::number(&Given { sheet: Some(sheet.len()), ..Given::default() });
+        if number == 0 {
+            let mut flow = flow_field::FlowField::oracle_from(hundred(sheet));
+            flow.build(&rust_cells(field.field));
+            sheet.copy_from_slice(flow.get());
+        }
+        number
+    }
+
+    fn sector(&self, costs: &[u8], step: &[u8], previous: Previous, sheet: &mut [u8]) -> BuildAnswer {
+        let given = Given {
+            costs: Some(costs.len()),
+            sheet: Some(sheet.len()),
+            steps: Some(step),
+            previous: Some(previous),
+            ..Given::default()
+        };
+        let number = refusals::number(&given);
+        if number != 0 {
+            return refused::build(number);
+        }
+        let (field, waves, bytes) = self.planned(costs, step, lent(previous));
+        sheet.copy_from_slice(&bytes);
+        BuildAnswer { number, field, waves }
+    }
+
+    fn leg(&self, floor: &[u8], steps: &[u8], sheet: &mut [u8]) -> u8 {
+        let given = Given {
+            leg: true,
+            costs: Some(floor.len()),
+            sheet: Some(sheet.len()),
+            steps: Some(steps),
+            ..Given::default()
+        };
+        let number = refusals::number(&given);
+        if number != 0 {
+            return number;
+        }
+        let mut before: Option<IntegrationField> = None;
+        for step in steps.chunks(8) {
+            let part = usize::from(step[0]) * CELLS..(usize::from(step[0]) + 1) * CELLS;
+            let previous = before.as_ref().map(|field| &field.field[..]);
+            let (field, _, bytes) = self.planned(&floor[part.clone()], step, previous);
+            sheet[part].copy_from_slice(&bytes);
+            before = Some(field);
+        }
+        0
+    }
+}

@@ -1,0 +1,489 @@
+//! The recorded sample: a file for each section, each a sequence of records of one length, input
+//! bytes first and expected bytes after them. Numbers of 16 and 32 bits stand lowest byte first.
+//!
+//! | file | bytes | input | expected |
+//! |---|---|---|---|
+//! | line | 16 | source column, source row, target column, target row | number, count, 10 cell indexes |
+//! | line_end | 8 | corner column, corner row, goal column, goal row | number, column, row, 0 |
+//! | readers | 8 | byte | is_pathable, is_goal, is_portal_goal, has_line_of_sight, is_wall, direction, 0 |
+//! | init | 610 | 100 costs, 8 step | number, count, 100 corners, 100 cells of 32 bits |
+//! | build | 1104 | 100 costs, 100 cells of 32 bits, count, 100 corners | number, waves, count, 100 corners, 100 cells of 32 bits |
+//! | flow_new | 910 | 8 step, 100 cells of 32 bits, has_previous, 100 previous of 32 bits | number, 100 sheet |
+//! | flow_build | 601 | 100 cells of 32 bits, 100 sheet | number, 100 sheet |
+//! | sector | 1112 | 100 costs, 8 step, has_previous, 100 previous of 32 bits | number, waves, count, 100 corners, 100 cells of 32 bits, 100 sheet |
+//! | leg | 3330 | step count, 128 steps, 16 times 100 costs | number, 16 times 100 sheet |
+//! | refusals | 160 | see below | number, 4 zeros |
+//!
+//! flow_new, flow_build, sector: the flow calls do not look at a field's list, so none is recorded
+//! (count 0). The sheet lent to `flow_new` and to the sector call holds 0x55 in every byte.
+//!
+//! leg: the k-th 100 costs and sheet bytes are those of the sector that step k names. Cost bytes of
+//! sectors not named are 1; every byte of the sheet is 0x55 before the call, and those of sectors not
+//! named still are after it. What stands beyond the last step is 0.
+//!
+//! refusals: call (0 init, 1 build, 2 flow_new, 3 flow_build, 4 sector, 5 leg, 6 line, 7 line_end), then
+//! in 16 bits each costs length, sheet length, step bytes' length; has_previous; in 16 bits each
+//! previous length, corner count; the place of one corner, and in 16 bits its value (every other
+//! corner is 0); 4 coordinates; 136 step bytes. What a call does not have is not read. All lent costs
+//! are 1, sheet bytes 0x55, previous numbers and cells 0. Where the number is 0 the call is accepted,
+//! and only its number is recorded.
+//!
+//! Nothing here comes from the program that replays it: fields, lists and bytes are the Rust's, wave
+//! counts those of the counted copy, refusal numbers those of the table reader (`refusals`).
+
+use crate::cases::Case;
+use crate::floors::{self, Costs, Rng, Step};
+use crate::model::{Model, Slip};
+use crate::oracle::Oracle;
+use crate::subject::*;
+
+/// The seed of what is drawn.
+const SEED: u64 = 20_261_022;
+
+/// A section of the sample.
+pub struct Section {
+    pub name: &'static str,
+    /// Bytes of a record.
+    pub length: usize,
+    pub records: Vec<Vec<u8>>,
+}
+
+/// All sections, in the order of the layers.
+pub fn sections() -> Vec<Section> {
+    let rng = || Rng::new(SEED);
+    vec![
+        Section { name: "line", length: 16, records: lines() },
+        Section { name: "line_end", length: 8, records: line_ends() },
+        Section { name: "readers", length: 8, records: readers() },
+        Section { name: "init", length: 610, records: inits(rng()) },
+        Section { name: "build", length: 1104, records: builds(rng()) },
+        Section { name: "flow_new", length: 910, records: flows_new(rng()) },
+        Section { name: "flow_build", length: 601, records: flows_build(rng()) },
+        Section { name: "sector", length: 1112, records: sectors(rng()) },
+        Section { name: "leg", length: 3330, records: legs(rng()) },
+        Section { name: "refusals", length: 160, records: refusals() },
+    ]
+}
+
+fn wide(values: &[u32]) -> impl Iterator<Item = u8> {
+    values.iter().flat_map(|value| value.to_le_bytes())
+}
+
+/// Count, then 100 corners of a byte each.
+fn list(field: &IntegrationField) -> impl Iterator<Item = u8> {
+    std::iter::once(field.count as u8).chain(field.los_corners.iter().map(|corner| *corner as u8))
+}
+
+/// Every seventh pair of cells: seven and a hundred share no factor, so all rows and columns meet.
+fn some_pairs() -> impl Iterator<Item = [FieldCell; 2]> {
+    (0..CELLS * CELLS).step_by(7).map(pair)
+}
+
+fn pair(number: usize) -> [FieldCell; 2] {
+    [FieldCell::from_index(number / CELLS), FieldCell::from_index(number % CELLS)]
+}
+
+fn coordinates([a, b]: [FieldCell; 2]) -> [u8; 4] {
+    [a.column, a.row, b.column, b.row].map(|x| x as u8)
+}
+
+fn line([source, target]: [FieldCell; 2]) -> Vec<u8> {
+    let line = Oracle.line(source, target);
+    let mut record = coordinates([source, target]).to_vec();
+    record.extend([line.number, line.count as u8]);
+    record.extend(line.cells.iter().map(|cell| (cell.row * 10 + cell.column) as u8));
+    record
+}
+
+/// The pairs of document 01, then a seventh of all.
+fn lines() -> Vec<Vec<u8>> {
+    let named = [pair(12), pair(1200), pair(13)];
+    named.into_iter().chain(some_pairs()).map(line).collect()
+}
+
+fn line_end([corner, goal]: [FieldCell; 2]) -> Vec<u8> {
+    let end = Oracle.line_end(corner, goal);
+    let mut record = coordinates([corner, goal]).to_vec();
+    record.extend([end.number, end.cell.column as u8, end.cell.row as u8, 0]);
+    record
+}
+
+/// The ends that an exact floor would put elsewhere, then a seventh of all.
+fn line_ends() -> Vec<Vec<u8>> {
+    let exact = Model { slip: Slip::ExactFloor };
+    let rounded = (0..CELLS * CELLS)
+        .map(pair)
+        .filter(|[corner, goal]| Oracle.line_end(*corner, *goal) != exact.line_end(*corner, *goal));
+    rounded.chain(some_pairs()).map(line_end).collect()
+}
+
+fn readers() -> Vec<Vec<u8>> {
+    let record = |byte: u8| {
+        let r = Oracle.readings(byte);
+        let flags = [r.is_pathable, r.is_goal, r.is_portal_goal, r.has_line_of_sight, r.is_wall];
+        let mut record = vec![byte];
+        record.extend(flags.map(u8::from));
+        record.extend([r.direction, 0]);
+        record
+    };
+    (0..=255).map(record).collect()
+}
+
+/// Floors and steps of every kind.
+fn inputs(rng: &mut Rng) -> Vec<(Costs, Step)> {
+    let east = floors::window_step(0, 1, 0, 9);
+    let goal = |cell| floors::goal_step(0, cell);
+    let mut list = vec![(floors::uniform(1), goal(44)), (floors::uniform(1), east), (floors::one_wall(55), goal(44))];
+    list.extend(
+        floors::COSTS.iter().flat_map(|cost| [(floors::uniform(*cost), goal(37)), (floors::uniform(*cost), east)]),
+    );
+    list.extend([54, 43, 33, 22, 0, 9, 90, 99, 40, 4].map(|wall| (floors::one_wall(wall), goal(44))));
+    list.extend([0, 9, 90, 99].map(|cell| (floors::few_walls(rng), goal(cell))));
+    for kind in 0..4 {
+        let costs = floors::snake(1, kind % 2 == 0, kind / 2 == 0);
+        list.push((costs, goal(kind * 9)));
+        list.push((costs, floors::window_step(0, kind, 3, 6)));
+    }
+    for percent in (0..=70).step_by(10) {
+        list.push((floors::walls(rng, percent, &[1]), goal(rng.below(CELLS))));
+        list.push((floors::walls(rng, percent, &floors::COSTS), any_window(rng)));
+    }
+    for _ in 0..4 {
+        list.push((floors::racks(rng), goal(rng.below(CELLS))));
+        list.push((floors::rooms(rng), goal(rng.below(CELLS))));
+        list.push((floors::racks(rng), any_window(rng)));
+    }
+    for boundary in 0..4 {
+        list.push((floors::few_walls(rng), floors::window_step(63, boundary, 5, 5)));
+        list.push((floors::few_walls(rng), floors::window_step(0, boundary, 2, 7)));
+    }
+    list.push((std::array::from_fn(|_| rng.below(256) as u8), goal(99)));
+    list
+}
+
+fn any_window(rng: &mut Rng) -> Step {
+    let (boundary, first, length) = (rng.below(4), rng.below(10), rng.below(10));
+    floors::window_step(rng.below(64), boundary, first, (first + length).min(9))
+}
+
+fn init((costs, step): (Costs, Step)) -> Vec<u8> {
+    let answer = Oracle.init(&costs, &step);
+    let mut record = costs.to_vec();
+    record.extend(step);
+    record.push(answer.number);
+    record.extend(list(&answer.field));
+    record.extend(wide(&answer.field.field));
+    record
+}
+
+fn inits(mut rng: Rng) -> Vec<Vec<u8>> {
+    inputs(&mut rng).into_iter().map(init).collect()
+}
+
+fn build(costs: Costs, field: IntegrationField) -> Vec<u8> {
+    let answer = Oracle.build(&costs, field);
+    let mut record = costs.to_vec();
+    record.extend(wide(&field.field));
+    record.extend(list(&field));
+    record.extend([answer.number, answer.waves as u8]);
+    record.extend(list(&answer.field));
+    record.extend(wide(&answer.field.field));
+    record
+}
+
+/// A list whose places beyond the count hold 0, each at most 99.
+fn by_hand(rng: &mut Rng) -> IntegrationField {
+    let field = floors::any_field(rng);
+    IntegrationField::new(field.field, field.corners())
+}
+
+/// Started fields, then fields given by hand.
+fn builds(mut rng: Rng) -> Vec<Vec<u8>> {
+    let started = inputs(&mut rng).into_iter().skip(1).step_by(4);
+    let mut records: Vec<Vec<u8>> =
+        started.map(|(costs, step)| build(costs, Oracle.init(&costs, &step).field)).collect();
+    records.extend((0..20).map(|_| build(floors::any(&mut rng), by_hand(&mut rng))));
+    records
+}
+
+/// The previous field of a record: what is not lent stands as zeros.
+fn previous(rng: &mut Rng) -> (bool, Vec<u32>) {
+    let (lent, numbers) = floors::any_previous(rng);
+    if lent { (true, numbers) } else { (false, vec![0; CELLS]) }
+}
+
+fn flow_new(step: Step, field: IntegrationField, (lent, numbers): (bool, Vec<u32>)) -> Vec<u8> {
+    let mut sheet = vec![0x55; CELLS];
+    let number = Oracle.flow_new(&step, field, Previous { lent, numbers: &numbers }, &mut sheet);
+    let mut record = step.to_vec();
+    record.extend(wide(&field.field));
+    record.push(u8::from(lent));
+    record.extend(wide(&numbers));
+    record.push(number);
+    record.extend(sheet);
+    record
+}
+
+/// A built field of a floor of any kind.
+fn built(rng: &mut Rng, step: &Step) -> IntegrationField {
+    let costs = floors::any(rng);
+    Oracle.build(&costs, Oracle.init(&costs, step).field).field
+}
+
+/// Each boundary with every kind of previous field, then goals, then fields given by hand.
+fn flows_new(mut rng: Rng) -> Vec<Vec<u8>> {
+    let mut records = Vec::new();
+    for boundary in 0..4 {
+        for (first, last) in [(0, 9), (3, 5), (4, 5), (7, 7), (0, 1), (2, 8)] {
+            let step = floors::window_step(0, boundary, first, last);
+            let field = built(&mut rng, &step);
+            records.push(flow_new(step, field, previous(&mut rng)));
+        }
+    }
+    for _ in 0..6 {
+        let step = floors::goal_step(0, rng.below(CELLS));
+        records.push(flow_new(step, built(&mut rng, &step), previous(&mut rng)));
+        records.push(flow_new(floors::any_step(&mut rng), by_hand(&mut rng), previous(&mut rng)));
+    }
+    records
+}
+
+fn flow_build(field: IntegrationField, old: Vec<u8>) -> Vec<u8> {
+    let mut sheet = old.clone();
+    let number = Oracle.flow_build(field, &mut sheet);
+    let mut record: Vec<u8> = wide(&field.field).collect();
+    record.extend(old);
+    record.push(number);
+    record.extend(sheet);
+    record
+}
+
+/// Every old byte value on built fields, sheets that are 0, fields given by hand.
+fn flows_build(mut rng: Rng) -> Vec<Vec<u8>> {
+    let mut records = Vec::new();
+    for k in 0..39usize {
+        let step = floors::any_step(&mut rng);
+        let field = if k % 3 == 2 { by_hand(&mut rng) } else { built(&mut rng, &step) };
+        let counted = |i: usize| (k * CELLS + i) as u8;
+        let old = (0..CELLS).map(|i| if k % 3 == 0 { counted(i) } else { 0 }).collect();
+        records.push(flow_build(field, old));
+    }
+    records
+}
+
+fn sector(costs: Costs, step: Step, (lent, numbers): (bool, Vec<u32>)) -> Vec<u8> {
+    let mut sheet = vec![0x55; CELLS];
+    let answer = Oracle.sector(&costs, &step, Previous { lent, numbers: &numbers }, &mut sheet);
+    let mut record = costs.to_vec();
+    record.extend(step);
+    record.push(u8::from(lent));
+    record.extend(wide(&numbers));
+    record.extend([answer.number, answer.waves as u8]);
+    record.extend(list(&answer.field));
+    record.extend(wide(&answer.field.field));
+    record.extend(sheet);
+    record
+}
+
+/// Goal 99 and sector 63, then a part of the floors.
+fn sectors(mut rng: Rng) -> Vec<Vec<u8>> {
+    let edges = [(floors::one_wall(44), floors::goal_step(0, 99)), (floors::uniform(1), floors::goal_step(63, 44))];
+    let some = inputs(&mut rng).into_iter().step_by(3);
+    let all: Vec<(Costs, Step)> = edges.into_iter().chain(some).collect();
+    all.into_iter().map(|(costs, step)| sector(costs, step, previous(&mut rng))).collect()
+}
+
+fn leg(rng: &mut Rng, steps: Vec<u8>) -> Vec<u8> {
+    let mut floor = vec![1; 64 * CELLS];
+    let part = |step: &[u8]| usize::from(step[0]) * CELLS..(usize::from(step[0]) + 1) * CELLS;
+    for step in steps.chunks(8) {
+        floor[part(step)].copy_from_slice(&floors::any(rng));
+    }
+    let mut sheet = vec![0x55; 64 * CELLS];
+    let number = Oracle.leg(&floor, &steps, &mut sheet);
+    let parts = |of: &[u8]| {
+        let mut bytes: Vec<u8> = steps.chunks(8).flat_map(|step| of[part(step)].to_vec()).collect();
+        bytes.resize(16 * CELLS, 0);
+        bytes
+    };
+    let mut record = vec![(steps.len() / 8) as u8];
+    record.extend(steps.iter().copied().chain(std::iter::repeat(0)).take(128));
+    record.extend(parts(&floor));
+    record.push(number);
+    record.extend(parts(&sheet));
+    record
+}
+
+/// Sixteen steps, then legs of any length.
+fn legs(mut rng: Rng) -> Vec<Vec<u8>> {
+    let mut records = vec![leg(&mut rng, floors::straight_leg(16))];
+    for most in [1, 2, 3, 5, 8, 12, 16] {
+        let steps = floors::any_leg(&mut rng, most);
+        records.push(leg(&mut rng, steps));
+    }
+    records
+}
+
+/// One thing that is refused, or only just taken.
+fn refusal(case: &Case) -> Vec<u8> {
+    let number = case.run(&Oracle).number;
+    let call = match case.call() {
+        Call::Init => 0,
+        Call::Build => 1,
+        Call::FlowNew => 2,
+        Call::FlowBuild => 3,
+        Call::Sector => 4,
+        Call::Leg => 5,
+        Call::Line => 6,
+        Call::LineEnd => 7,
+        Call::Readers => unreachable!("the readers refuse nothing"),
+    };
+    let short = |value: usize| (value as u16).to_le_bytes();
+    let place = case.field.los_corners.iter().position(|corner| *corner != 0).unwrap_or(0);
+    let mut record = vec![call];
+    record.extend([case.costs.len(), case.sheet.len(), case.steps.len()].map(short).concat());
+    record.push(u8::from(case.previous_lent));
+    record.extend([case.previous.len(), case.field.count].map(short).concat());
+    record.push(place as u8);
+    record.extend(short(case.field.los_corners[place]));
+    record.extend(coordinates(case.cells));
+    record.extend(case.steps.iter().copied().chain(std::iter::repeat(0)).take(136));
+    record.extend([number, 0, 0, 0, 0]);
+    record
+}
+
+/// A call with nothing wrong with it.
+fn sound(call: Call) -> Case {
+    let size = if call == Call::Leg { 64 * CELLS } else { CELLS };
+    let takes = |calls: &[Call]| calls.contains(&call);
+    let mut case = Case::of(call);
+    if takes(&[Call::Init, Call::Build, Call::Sector, Call::Leg]) {
+        case.costs = vec![1; size];
+    }
+    if takes(&[Call::FlowNew, Call::FlowBuild, Call::Sector, Call::Leg]) {
+        case.sheet = vec![0x55; size];
+    }
+    if takes(&[Call::Init, Call::FlowNew, Call::Sector, Call::Leg]) {
+        case.steps = floors::goal_step(0, 44).to_vec();
+    }
+    case
+}
+
+/// A step with some bytes made others.
+fn changed(step: Step, changes: &[(usize, u8)]) -> Step {
+    let mut step = step;
+    changes.iter().for_each(|(i, value)| step[*i] = *value);
+    step
+}
+
+/// Goal steps at the limits of 4 and 5, taken and refused, and with more than one thing wrong.
+fn goals_at_limits() -> Vec<Step> {
+    let single = [(0, 63), (0, 64), (1, 99), (1, 100), (1, 255), (2, 2), (6, 1), (7, 1), (2, 1)];
+    let several: [&[(usize, u8)]; 3] = [&[(0, 64), (1, 100)], &[(3, 100), (4, 255), (5, 4)], &[(2, 255), (1, 200)]];
+    let goal = floors::goal_step(0, 44);
+    let single = single.into_iter().map(|change| changed(goal, &[change]));
+    single.chain(several.into_iter().map(|changes| changed(goal, changes))).collect()
+}
+
+/// Window steps at the limits of 4 and 6 to 8, alike.
+fn windows_at_limits() -> Vec<Step> {
+    let single = [(0, 64), (1, 255), (3, 100), (4, 100), (5, 4), (5, 255), (3, 28), (4, 58), (5, 0), (5, 2), (5, 3)];
+    let several = [[(3, 59), (4, 29)], [(3, 58), (4, 29)], [(3, 59), (4, 59)], [(7, 9), (3, 100)]];
+    let east = floors::window_step(0, 1, 2, 5);
+    let single = single.into_iter().map(|change| changed(east, &[change]));
+    let several = several.into_iter().map(|changes| changed(east, &changes));
+    let boundaries = (0..4).flat_map(|side| {
+        let whole = floors::window_step(0, side, 0, 9);
+        let turned = changed(whole, &[(3, whole[4]), (4, whole[3])]);
+        [whole, turned, changed(whole, &[(5, (side as u8 + 1) % 4)])]
+    });
+    single.chain(several).chain(boundaries).collect()
+}
+
+/// Legs at the limits of 3, 9 and 10.
+fn legs_at_limits() -> Vec<Vec<u8>> {
+    let goal = |sector: usize| floors::goal_step(sector, 44);
+    let window = |sector: usize, boundary: usize| floors::window_step(sector, boundary, 2, 5);
+    let spoiled = |step: Step, i: usize, value: u8| changed(step, &[(i, value)]);
+    let mut legs = vec![Vec::new(), vec![0; 7], floors::straight_leg(16), floors::straight_leg(17), vec![0; 136]];
+    legs.extend([vec![0; 9], floors::straight_leg(2)]);
+    let of_steps: [&[Step]; 16] = [
+        &[goal(63)],
+        &[goal(64)],
+        &[window(0, 1)],
+        &[goal(0), goal(1)],
+        &[goal(0), window(0, 1)],
+        &[goal(0), window(1, 3)],
+        &[goal(0), window(1, 1)],
+        &[goal(0), window(8, 0)],
+        &[goal(0), window(8, 2)],
+        &[goal(7), window(8, 3)],
+        &[goal(8), window(7, 1)],
+        &[goal(0), window(0, 0)],
+        &[goal(0), window(9, 0)],
+        &[goal(0), window(1, 3), window(0, 1)],
+        &[goal(0), goal(1), spoiled(goal(2), 1, 100)],
+        &[spoiled(goal(0), 1, 100), spoiled(goal(1), 0, 64)],
+    ];
+    legs.extend(of_steps.iter().map(|steps| steps.concat()));
+    legs
+}
+
+fn refusals() -> Vec<Vec<u8>> {
+    let mut cases: Vec<Case> = Vec::new();
+    for call in [Call::Init, Call::Build, Call::FlowNew, Call::FlowBuild, Call::Sector, Call::Leg] {
+        let size = sound(call).costs.len().max(sound(call).sheet.len());
+        for length in [size, 0, size - 1, size + 1] {
+            if !sound(call).costs.is_empty() {
+                cases.push(Case { costs: vec![1; length], ..sound(call) });
+            }
+            if !sound(call).sheet.is_empty() {
+                cases.push(Case { sheet: vec![0x55; length], ..sound(call) });
+            }
+        }
+    }
+    for call in [Call::Init, Call::FlowNew, Call::Sector] {
+        cases.extend([0, 7, 9].map(|length| Case { steps: vec![0; length], ..sound(call) }));
+    }
+    let calls = [Call::Sector, Call::Init, Call::Sector, Call::FlowNew, Call::Sector, Call::Leg];
+    let steps = goals_at_limits().into_iter().chain(windows_at_limits()).enumerate();
+    cases.extend(steps.map(|(k, step)| Case { steps: step.to_vec(), ..sound(calls[k % 6]) }));
+    cases.extend(legs_at_limits().into_iter().map(|steps| Case { steps, ..sound(Call::Leg) }));
+    cases.extend(lists_at_limits());
+    cases.extend(previous_at_limits());
+    for call in [Call::Line, Call::LineEnd] {
+        let outside = [[10, 0, 0, 0], [0, 10, 0, 0], [0, 0, 10, 0], [0, 0, 0, 10], [255, 255, 255, 255], [9, 9, 9, 9]];
+        cases.extend(outside.map(|[a, b, c, d]| Case {
+            cells: [FieldCell { column: a, row: b }, FieldCell { column: c, row: d }],
+            ..Case::of(call)
+        }));
+    }
+    cases.iter().map(refusal).collect()
+}
+
+/// Corner lists at the limits of 11.
+fn lists_at_limits() -> Vec<Case> {
+    let limits =
+        [(0, 0, 0), (100, 99, 99), (100, 99, 100), (101, 0, 0), (65535, 0, 0), (1, 0, 100), (1, 1, 100), (3, 2, 99)];
+    let case = |(count, place, corner): (usize, usize, usize)| {
+        let mut case = sound(Call::Build);
+        case.field.count = count;
+        case.field.los_corners[place] = corner;
+        case
+    };
+    limits.into_iter().map(case).collect()
+}
+
+/// Previous fields at the limits of 12, with a goal and with a window.
+fn previous_at_limits() -> Vec<Case> {
+    let mut cases = Vec::new();
+    for call in [Call::FlowNew, Call::Sector] {
+        for (previous_lent, length) in [(true, 100), (true, 99), (true, 101), (true, 0), (false, 0), (false, 99)] {
+            for step in [floors::goal_step(0, 44), floors::window_step(0, 1, 2, 5)] {
+                let previous = vec![0; length];
+                cases.push(Case { steps: step.to_vec(), previous_lent, previous, ..sound(call) });
+            }
+        }
+    }
+    cases
+}

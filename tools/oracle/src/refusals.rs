@@ -1,0 +1,134 @@
+//! The table of document 01 ("A leg, the added entry"), read from that page alone: each row a number
+//! and a condition, in the page's order.
+
+use crate::subject::{IntegrationField, Previous};
+
+/// What a call was lent or given. What a call does not have stands as `None` or empty, and no row
+/// that speaks of it can hold.
+#[derive(Clone, Copy, Default)]
+pub struct Given<'a> {
+    /// The call is a leg: its floor and sheet hold 6,400 bytes, its steps are a list.
+    pub leg: bool,
+    pub costs: Option<usize>,
+    pub sheet: Option<usize>,
+    pub steps: Option<&'a [u8]>,
+    pub by_hand: Option<&'a IntegrationField>,
+    pub previous: Option<Previous<'a>>,
+    pub coordinates: &'a [usize],
+}
+
+/// A row of the table: its number, and whether its condition holds.
+pub struct Row<T: ?Sized> {
+    pub number: u8,
+    pub holds: fn(&T) -> bool,
+}
+
+/// The table, a field for each of its places.
+pub struct Table<'a> {
+    /// "lent memory" and "step list"
+    pub lent: [Row<Given<'a>>; 3],
+    /// "each step", a step being 8 bytes
+    pub each_step: [Row<[u8]>; 5],
+    /// "whole leg"
+    pub whole_leg: [Row<[u8]>; 2],
+    /// "building by hand", "flow by hand, sector call" and "line calls"
+    pub others: [Row<Given<'a>>; 3],
+}
+
+impl<'a> Table<'a> {
+    /// The table as document 01 has it.
+    pub fn document_01() -> Self {
+        Table {
+            lent: [
+                Row { number: 1, holds: |g| g.costs.is_some_and(|length| length != size(g)) },
+                Row { number: 2, holds: |g| g.sheet.is_some_and(|length| length != size(g)) },
+                Row { number: 3, holds: |g| g.steps.is_some_and(|steps| !step_list_fits(g.leg, steps.len())) },
+            ],
+            each_step: [
+                Row { number: 4, holds: |s| s[0] > 63 || s[2] > 1 || s[6] != 0 || s[7] != 0 },
+                Row { number: 5, holds: |s| s[2] == 0 && s[1] > 99 },
+                Row { number: 6, holds: |s| s[2] == 1 && (s[3] > 99 || s[4] > 99 || s[5] > 3) },
+                Row { number: 7, holds: |s| s[2] == 1 && !(on_edge(s[3], s[5]) && on_edge(s[4], s[5])) },
+                Row { number: 8, holds: |s| s[2] == 1 && s[3] > s[4] },
+            ],
+            whole_leg: [
+                Row { number: 9, holds: |steps| !goal_then_windows(steps) || named_twice(steps) },
+                Row { number: 10, holds: |steps| !each_faces_the_one_before(steps) },
+            ],
+            others: [
+                Row { number: 11, holds: |g| g.by_hand.is_some_and(|field| !corners_fit(field)) },
+                Row { number: 12, holds: |g| g.previous.is_some_and(|p| p.lent && p.numbers.len() != 100) },
+                Row { number: 13, holds: |g| g.coordinates.iter().any(|x| *x > 9) },
+            ],
+        }
+    }
+
+    /// The number that a call gets: of the first row that holds, down the table, 4 to 8 for one step
+    /// before the next step; 0 where none holds.
+    pub fn number(&self, given: &Given<'a>) -> u8 {
+        let steps = given.steps.unwrap_or(&[]);
+        first(&self.lent, given)
+            .or_else(|| steps.chunks(8).find_map(|step| first(&self.each_step, step)))
+            .or_else(|| if given.leg { first(&self.whole_leg, steps) } else { None })
+            .or_else(|| first(&self.others, given))
+            .unwrap_or(0)
+    }
+}
+
+/// The number of the first row that holds.
+pub fn first<T: ?Sized>(rows: &[Row<T>], of: &T) -> Option<u8> {
+    rows.iter().find(|row| (row.holds)(of)).map(|row| row.number)
+}
+
+/// The number that document 01 gives a call.
+pub fn number(given: &Given) -> u8 {
+    Table::document_01().number(given)
+}
+
+fn size(given: &Given) -> usize {
+    if given.leg { 6400 } else { 100 }
+}
+
+fn step_list_fits(leg: bool, length: usize) -> bool {
+    if leg { length != 0 && length <= 128 && length.is_multiple_of(8) } else { length == 8 }
+}
+
+/// North row 0, East column 9, South row 9, West column 0.
+fn on_edge(cell: u8, boundary: u8) -> bool {
+    match boundary {
+        0 => cell / 10 == 0,
+        1 => cell % 10 == 9,
+        2 => cell / 10 == 9,
+        _ => cell % 10 == 0,
+    }
+}
+
+fn goal_then_windows(steps: &[u8]) -> bool {
+    steps.chunks(8).enumerate().all(|(k, step)| (step[2] == 1) == (k > 0))
+}
+
+fn named_twice(steps: &[u8]) -> bool {
+    let sectors: Vec<u8> = steps.chunks(8).map(|step| step[0]).collect();
+    (0..sectors.len()).any(|k| sectors[..k].contains(&sectors[k]))
+}
+
+/// The sector across a boundary, sector s at column s % 8, row s / 8; none off the floor.
+pub fn across(sector: u8, boundary: u8) -> Option<u8> {
+    let (column, row) = (sector % 8, sector / 8);
+    match boundary {
+        0 if row > 0 => Some(sector - 8),
+        1 if column < 7 => Some(sector + 1),
+        2 if row < 7 => Some(sector + 8),
+        3 if column > 0 => Some(sector - 1),
+        _ => None,
+    }
+}
+
+fn each_faces_the_one_before(steps: &[u8]) -> bool {
+    let steps: Vec<&[u8]> = steps.chunks(8).collect();
+    steps.windows(2).all(|pair| across(pair[1][0], pair[1][5]) == Some(pair[0][0]))
+}
+
+fn corners_fit(field: &IntegrationField) -> bool {
+    field.count <= 100 && field.los_corners[..field.count].iter().all(|corner| *corner <= 99)
+}

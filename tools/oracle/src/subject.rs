@@ -1,0 +1,148 @@
+//! What is compared: the calls of document 01, in the library's own layout.
+
+/// The cells of a sector.
+pub const CELLS: usize = 100;
+
+pub const LOS: u32 = 0x10000;
+pub const GOAL: u32 = 0x20000;
+pub const BLOCKED: u32 = 0x40000;
+pub const PORTAL: u32 = 0x80000;
+pub const IMPASSABLE: u32 = 0x2000000;
+pub const CORNER: u32 = 0x4000000;
+
+/// An integration field: cells, corner list, count.
+#[repr(C)]
+#[derive(Clone, Copy, PartialEq, Eq, Debug)]
+pub struct IntegrationField {
+    pub field: [u32; CELLS],
+    pub los_corners: [usize; CELLS],
+    pub count: usize,
+}
+
+impl IntegrationField {
+    pub const ZERO: Self = IntegrationField { field: [0; CELLS], los_corners: [0; CELLS], count: 0 };
+
+    /// A field of these cells with these corners listed, at most 100.
+    pub fn new(field: [u32; CELLS], corners: &[usize]) -> Self {
+        let mut los_corners = [0; CELLS];
+        los_corners[..corners.len()].copy_from_slice(corners);
+        IntegrationField { field, los_corners, count: corners.len() }
+    }
+
+    /// The listed corners of a field whose count is at most 100.
+    pub fn corners(&self) -> &[usize] {
+        &self.los_corners[..self.count]
+    }
+}
+
+#[repr(C)]
+#[derive(Clone, Copy, PartialEq, Eq, Debug)]
+pub struct InitAnswer {
+    pub number: u8,
+    pub field: IntegrationField,
+}
+
+/// What `build` and the sector call answer.
+#[repr(C)]
+#[derive(Clone, Copy, PartialEq, Eq, Debug)]
+pub struct BuildAnswer {
+    pub number: u8,
+    pub field: IntegrationField,
+    pub waves: usize,
+}
+
+#[repr(C)]
+#[derive(Clone, Copy, PartialEq, Eq, Debug, Default)]
+pub struct FieldCell {
+    pub column: usize,
+    pub row: usize,
+}
+
+impl FieldCell {
+    pub fn from_index(index: usize) -> Self {
+        FieldCell { column: index % 10, row: index / 10 }
+    }
+}
+
+#[repr(C)]
+#[derive(Clone, Copy, PartialEq, Eq, Debug, Default)]
+pub struct Line {
+    pub number: u8,
+    pub cells: [FieldCell; 10],
+    pub count: usize,
+}
+
+#[repr(C)]
+#[derive(Clone, Copy, PartialEq, Eq, Debug, Default)]
+pub struct LineEnd {
+    pub number: u8,
+    pub cell: FieldCell,
+}
+
+/// A yes or no, and the numbers lent beside it.
+#[derive(Clone, Copy, Debug)]
+pub struct Previous<'a> {
+    pub lent: bool,
+    pub numbers: &'a [u32],
+}
+
+/// What the byte readers say of a byte; the direction by its place in the enum, 8 for `Zero`.
+#[derive(Clone, Copy, PartialEq, Eq, Debug)]
+pub struct Readings {
+    pub is_pathable: bool,
+    pub is_goal: bool,
+    pub is_portal_goal: bool,
+    pub has_line_of_sight: bool,
+    pub is_wall: bool,
+    pub direction: u8,
+}
+
+/// The calls, as the library exports them.
+#[derive(Clone, Copy, PartialEq, Eq, Debug)]
+pub enum Call {
+    Line,
+    LineEnd,
+    Readers,
+    Init,
+    Build,
+    FlowNew,
+    FlowBuild,
+    Sector,
+    Leg,
+}
+
+/// A side of the comparison. A refusal answers its number, zeros else, and writes nothing.
+pub trait Subject {
+    /// Whether the side has the call yet.
+    fn offers(&self, call: Call) -> bool;
+    fn line(&self, source: FieldCell, target: FieldCell) -> Line;
+    fn line_end(&self, corner: FieldCell, goal: FieldCell) -> LineEnd;
+    fn readings(&self, byte: u8) -> Readings;
+    fn init(&self, costs: &[u8], step: &[u8]) -> InitAnswer;
+    fn build(&self, costs: &[u8], field: IntegrationField) -> BuildAnswer;
+    fn flow_new(&self, step: &[u8], field: IntegrationField, previous: Previous, sheet: &mut [u8]) -> u8;
+    fn flow_build(&self, field: IntegrationField, sheet: &mut [u8]) -> u8;
+    fn sector(&self, costs: &[u8], step: &[u8], previous: Previous, sheet: &mut [u8]) -> BuildAnswer;
+    fn leg(&self, floor: &[u8], steps: &[u8], sheet: &mut [u8]) -> u8;
+}
+
+/// The answers of a refusal.
+pub mod refused {
+    use super::*;
+
+    pub fn init(number: u8) -> InitAnswer {
+        InitAnswer { number, field: IntegrationField::ZERO }
+    }
+
+    pub fn build(number: u8) -> BuildAnswer {
+        BuildAnswer { number, field: IntegrationField::ZERO, waves: 0 }
+    }
+
+    pub fn line(number: u8) -> Line {
+        Line { number, ..Line::default() }
+    }
+
+    pub fn line_end(number: u8) -> LineEnd {
+        LineEnd { number, ..LineEnd::default() }
+    }
+}

@@ -1,0 +1,210 @@
+//! Where the Rust and document 01 part, each shown on the Rust itself.
+
+use std::collections::BTreeMap;
+use std::panic::{AssertUnwindSafe, catch_unwind};
+
+use oracle::cases::Case;
+use oracle::floors::{Rng, any, any_step, goal_step, one_wall};
+use oracle::model::{Model, Slip};
+use oracle::oracle::{Oracle, counted_build, route_step};
+use oracle::shrink::smallest;
+use oracle::subject::*;
+use reference::flowfields::fields::FieldCell as RustCell;
+use reference::flowfields::fields::bresenham::{walk_bresenham_shallow, walk_bresenham_steep};
+use reference::flowfields::fields::cost_field::CostField;
+use reference::flowfields::fields::flow_field::FlowField;
+use reference::flowfields::fields::integration_field::IntegrationField as RustField;
+use reference::flowfields::portal::{PortalWindow, oracle_walk_sector_boundary};
+use reference::flowfields::route::RouteStep;
+use reference::flowfields::sectors::SectorID;
+use reference::flowfields::utilities::CompassDir;
+
+fn panics<T>(call: impl FnOnce() -> T) -> bool {
+    catch_unwind(AssertUnwindSafe(call)).is_err()
+}
+
+fn window(first: usize, last: usize, boundary: CompassDir) -> PortalWindow {
+    PortalWindow::new(RustCell::from_index(first), RustCell::from_index(last), boundary)
+}
+
+fn step_of(window: PortalWindow) -> RouteStep {
+    RouteStep::new(&SectorID::new(0, 0), 0, Some(window))
+}
+
+fn number_of(first: u8, last: u8, boundary: u8) -> u8 {
+    Oracle.init(&[1; CELLS], &[0, 0, 1, first, last, boundary, 0, 0]).number
+}
+
+#[test]
+fn windows_that_the_rust_takes() {
+    assert_eq!(window(5, 3, CompassDir::North).get_all_window_cells(), []);
+    assert_eq!(number_of(5, 3, 0), 8);
+    assert_eq!(window(13, 15, CompassDir::North).get_all_window_cells(), [13, 14, 15]);
+    assert_eq!(number_of(13, 15, 0), 7);
+    assert_eq!(window(3, 5, CompassDir::East).get_all_window_cells(), [3, 4, 5]);
+    assert_eq!(number_of(3, 5, 1), 7);
+    assert_eq!(window(3, 15, CompassDir::North).get_all_window_cells(), [3, 4, 5]);
+    assert_eq!(number_of(3, 15, 0), 7);
+    assert_eq!(number_of(3, 5, 4), 6);
+}
+
+#[test]
+fn diagonal_boundaries() {
+    for boundary in [CompassDir::NorthEast, CompassDir::Zero] {
+        let step = step_of(window(3, 5, boundary));
+        let field = RustField::init(&CostField::oracle_from([1; CELLS]), &step);
+        assert!(!panics(|| FlowField::new(&step, &field, None)));
+        assert!(panics(|| FlowField::new(&step, &field, Some(&field))));
+    }
+}
+
+#[test]
+fn panics_of_the_rust() {
+    assert!(panics(|| RustCell::new(10, 0)) && panics(|| RustCell::new(0, 10)));
+    assert!(panics(|| RustCell::from_index(100)));
+    let goal = RouteStep::new(&SectorID::new(0, 0), 100, None);
+    assert!(panics(|| RustField::init(&CostField::oracle_from([1; CELLS]), &goal)));
+    assert!(panics(|| RustField::oracle_from([0; CELLS], vec![100]).build(&CostField::oracle_from([1; CELLS]))));
+    assert!(panics(|| RustCell::new(0, 0).get_in_compass_direction(&CompassDir::Zero, 1)));
+    assert!(!panics(|| RustField::oracle_from([0; CELLS], vec![0; 101]).build(&CostField::oracle_from([1; CELLS]))));
+}
+
+/// A wavefront of the Rust may list a cell more than once, and so hold more than a hundred, in a started
+/// field too.
+#[test]
+fn wavefronts_longer_than_a_hundred() {
+    let long = |case: &Case| {
+        let field = Oracle.init(&case.costs, &case.steps).field;
+        counted_build(&case.costs, &field).longest > CELLS
+    };
+    let mut rng = Rng::new(1);
+    let mut drawn = std::iter::repeat_with(|| {
+        let (costs, step) = (any(&mut rng), any_step(&mut rng));
+        Case { costs: costs.to_vec(), steps: step.to_vec(), ..Case::of(Call::Init) }
+    });
+    let found = drawn.by_ref().take(20_000).find(long).expect("a wavefront of more than a hundred");
+    println!("a wavefront longer than a hundred:\n{}", smallest(&found, &long).pasted());
+}
+
+/// As commonly told, Bresenham's line takes the diagonal move at an exact half and is walked from its
+/// start: the model with both slips is that line.
+#[test]
+fn the_paper_as_told() {
+    let cells = (0..CELLS * CELLS).map(|k| (FieldCell::from_index(k / CELLS), FieldCell::from_index(k % CELLS)));
+    let told = |source: FieldCell, target: FieldCell| {
+        let (columns, rows) = (target.column as i32 - source.column as i32, target.row as i32 - source.row as i32);
+        let steps = columns.abs().max(rows.abs());
+        let along = |k: i32, span: i32| {
+            if steps == 0 { 0 } else { span.signum() * ((2 * k * span.abs() + steps) / (2 * steps)) }
+        };
+        let cell = |k: i32| (source.column as i32 + along(k, columns), source.row as i32 + along(k, rows));
+        (0..=steps).map(cell).collect::<Vec<_>>()
+    };
+    let walked = |source: FieldCell, target: FieldCell| {
+        let line = Oracle.line(source, target);
+        line.cells[..line.count].iter().map(|cell| (cell.column as i32, cell.row as i32)).collect::<Vec<_>>()
+    };
+    let differing = cells.filter(|(source, target)| told(*source, *target) != walked(*source, *target));
+    let differing: Vec<_> = differing.collect();
+    println!("{} pairs, the first {:?}", differing.len(), differing[0]);
+    assert_eq!(differing.len(), 1536);
+    assert_eq!(differing[0], (FieldCell { column: 0, row: 0 }, FieldCell { column: 2, row: 1 }));
+}
+
+/// How many of the 10,000 pairs a slip changes.
+fn changed(slip: Slip, ends: bool) -> usize {
+    let model = Model { slip };
+    let cells = (0..CELLS * CELLS).map(|k| (FieldCell::from_index(k / CELLS), FieldCell::from_index(k % CELLS)));
+    let differs = |(a, b): &(FieldCell, FieldCell)| {
+        if ends { model.line_end(*a, *b) != Oracle.line_end(*a, *b) } else { model.line(*a, *b) != Oracle.line(*a, *b) }
+    };
+    cells.filter(differs).count()
+}
+
+#[test]
+fn numbers_of_line_ends_and_lines() {
+    let counts = [Slip::ExactFloor, Slip::FusedMultiplyAdd, Slip::DoubleFloat].map(|slip| changed(slip, true));
+    println!("line ends changed by an exact floor, a fused multiply-add, f64: {counts:?}");
+    assert_eq!(counts, [16, 137, 31]);
+    let counts = [Slip::WalkedFromCorner, Slip::HalfOtherWay].map(|slip| changed(slip, false));
+    println!("lines changed by walking from the corner, by the other half: {counts:?}");
+    assert_eq!(counts, [1536, 3072]);
+}
+
+/// Each of the sixteen line ends that an exact floor changes is drawn by `init` on a floor of one wall.
+#[test]
+fn sixteen_line_ends_are_drawn() {
+    let exact = Model { slip: Slip::ExactFloor };
+    let pairs = (0..CELLS * CELLS).map(|k| (k / CELLS, k % CELLS)).filter(|(corner, goal)| {
+        let cells = [*corner, *goal].map(FieldCell::from_index);
+        exact.line_end(cells[0], cells[1]) != Oracle.line_end(cells[0], cells[1])
+    });
+    for (corner, goal) in pairs {
+        let drawn = (0..CELLS).find(|wall| {
+            let (costs, step) = (one_wall(*wall), goal_step(0, goal));
+            let field = Oracle.init(&costs, &step).field;
+            field != exact.init(&costs, &step).field && field.corners().contains(&corner)
+        });
+        println!("corner {corner}, goal {goal}, wall {drawn:?}");
+        assert!(drawn.is_some());
+    }
+}
+
+/// `walk_sector_boundary` builds whole runs of cells open on both sides, toward a sector that exists.
+#[test]
+fn windows_that_the_rust_finds() {
+    let sectors = [SectorID::new(0, 0), SectorID::new(1, 0)];
+    let costs = [one_wall(29), one_wall(50)].map(CostField::oracle_from);
+    let floor: BTreeMap<SectorID, CostField> = sectors.into_iter().zip(costs).collect();
+    let found = |side: CompassDir| oracle_walk_sector_boundary(&sectors[0], &floor, &side);
+    let runs = [(9, 19), (39, 49), (69, 99)].map(|(first, last)| window(first, last, CompassDir::East));
+    assert_eq!(found(CompassDir::East), Some(runs.to_vec()));
+    assert_eq!(found(CompassDir::West), None);
+    // Part of a run, a window over a wall, and one off the floor are taken here.
+    assert_eq!((number_of(19, 19, 1), number_of(9, 99, 1), number_of(0, 90, 3)), (0, 0, 0));
+}
+
+/// With equal spans the steep and the shallow walk are the same cells, so a slip there cannot be seen.
+#[test]
+fn equal_spans_have_one_line() {
+    for k in 0..CELLS * CELLS {
+        let (a, b) = (FieldCell::from_index(k / CELLS), FieldCell::from_index(k % CELLS));
+        let (columns, rows) = (b.column as i32 - a.column as i32, b.row as i32 - a.row as i32);
+        if columns == rows.abs() && rows != 0 {
+            let (low, high) = if rows > 0 { (a, b) } else { (b, a) };
+            let ends = |x: FieldCell, y: FieldCell| (x.column as i32, x.row as i32, y.column as i32, y.row as i32);
+            let (c0, r0, c1, r1) = ends(a, b);
+            let shallow = walk_bresenham_shallow(c0, r0, c1, r1);
+            let (c0, r0, c1, r1) = ends(low, high);
+            let mut steep = walk_bresenham_steep(c0, r0, c1, r1);
+            if rows < 0 {
+                steep.reverse();
+            }
+            assert_eq!(shallow, steep);
+        }
+    }
+}
+
+/// Arrows of a goal sector need not lead to the goal.
+#[test]
+fn arrows_that_turn_about() {
+    let mut sheet = [0; CELLS];
+    let none = Previous { lent: false, numbers: &[] };
+    Oracle.sector(&one_wall(55), &goal_step(0, 44), none, &mut sheet);
+    println!("56: {:#x}, 65: {:#x}", sheet[56], sheet[65]);
+    assert_eq!((sheet[56] % 16, sheet[65] % 16), (4 + 8, 1 + 2));
+}
+
+#[test]
+fn traps() {
+    // The live field read within a wave: wall 1, goal 10, six waves become two.
+    let waves = |side: &dyn Subject| {
+        side.sector(&one_wall(1), &goal_step(0, 10), Previous { lent: false, numbers: &[] }, &mut [0; CELLS]).waves
+    };
+    assert_eq!((waves(&Oracle), waves(&Model { slip: Slip::LiveField })), (6, 2));
+    // Build lowers a listed corner and drops its flags: goal 0, wall 22.
+    let started = Oracle.init(&one_wall(22), &goal_step(0, 0)).field;
+    let built = Oracle.build(&one_wall(22), started).field;
+    assert_eq!((started.field[53], built.field[53]), (0x4040008, 7));
+    assert_eq!(route_step(&goal_step(63, 0)).get_sector().get(), (7, 7));
+}

@@ -1,0 +1,165 @@
+//! The recorded sample, read back by its layout and asked of the model: the bytes mean what the README
+//! of the sample says.
+
+use oracle::model::Model;
+use oracle::records::sections;
+use oracle::subject::*;
+
+/// Reads a record from its start.
+struct Reader<'a>(&'a [u8]);
+
+impl<'a> Reader<'a> {
+    fn bytes(&mut self, length: usize) -> &'a [u8] {
+        let (taken, rest) = self.0.split_at(length);
+        self.0 = rest;
+        taken
+    }
+
+    fn byte(&mut self) -> u8 {
+        self.bytes(1)[0]
+    }
+
+    fn short(&mut self) -> usize {
+        let bytes = self.bytes(2);
+        usize::from(bytes[0]) + 256 * usize::from(bytes[1])
+    }
+
+    fn cells(&mut self) -> [u32; CELLS] {
+        std::array::from_fn(|_| u32::from_le_bytes(self.bytes(4).try_into().expect("four bytes")))
+    }
+
+    fn list(&mut self) -> (usize, [usize; CELLS]) {
+        (usize::from(self.byte()), std::array::from_fn(|_| usize::from(self.byte())))
+    }
+
+    fn cell(&mut self) -> FieldCell {
+        FieldCell { column: usize::from(self.byte()), row: usize::from(self.byte()) }
+    }
+}
+
+fn field(cells: [u32; CELLS], (count, los_corners): (usize, [usize; CELLS])) -> IntegrationField {
+    IntegrationField { field: cells, los_corners, count }
+}
+
+fn alone(cells: [u32; CELLS]) -> IntegrationField {
+    IntegrationField::new(cells, &[])
+}
+
+fn each(name: &str, check: impl Fn(&mut Reader)) {
+    let section = sections().into_iter().find(|section| section.name == name).expect("a section of that name");
+    assert!(!section.records.is_empty());
+    for record in &section.records {
+        let mut reader = Reader(record);
+        check(&mut reader);
+        assert!(reader.0.iter().all(|byte| *byte == 0), "{name}: zeros to the end");
+    }
+}
+
+const MODEL: Model = Model::PLAIN;
+
+#[test]
+fn lines() {
+    each("line", |r| {
+        let line = MODEL.line(r.cell(), r.cell());
+        let indexes: Vec<u8> = line.cells.iter().map(|cell| (cell.row * 10 + cell.column) as u8).collect();
+        assert_eq!((line.number, line.count as u8, &indexes[..]), (r.byte(), r.byte(), r.bytes(10)));
+    });
+    each("line_end", |r| {
+        let end = MODEL.line_end(r.cell(), r.cell());
+        assert_eq!((end.number, end.cell), (r.byte(), r.cell()));
+    });
+}
+
+#[test]
+fn readers() {
+    each("readers", |r| {
+        let read = MODEL.readings(r.byte());
+        let flags = [read.is_pathable, read.is_goal, read.is_portal_goal, read.has_line_of_sight, read.is_wall];
+        assert_eq!((&flags.map(u8::from)[..], read.direction), (r.bytes(5), r.byte()));
+    });
+}
+
+#[test]
+fn fields() {
+    each("init", |r| {
+        let answer = MODEL.init(r.bytes(100), r.bytes(8));
+        let (number, list, cells) = (r.byte(), r.list(), r.cells());
+        assert_eq!(answer, InitAnswer { number, field: field(cells, list) });
+    });
+    each("build", |r| {
+        let (costs, cells, list) = (r.bytes(100), r.cells(), r.list());
+        let answer = MODEL.build(costs, field(cells, list));
+        let (number, waves, list, cells) = (r.byte(), usize::from(r.byte()), r.list(), r.cells());
+        assert_eq!(answer, BuildAnswer { number, field: field(cells, list), waves });
+    });
+}
+
+#[test]
+fn flows() {
+    each("flow_new", |r| {
+        let (step, cells, lent, numbers) = (r.bytes(8), r.cells(), r.byte() == 1, r.cells());
+        let mut sheet = [0x55; CELLS];
+        let number = MODEL.flow_new(step, alone(cells), Previous { lent, numbers: &numbers }, &mut sheet);
+        assert_eq!((number, &sheet[..]), (r.byte(), r.bytes(100)));
+    });
+    each("flow_build", |r| {
+        let (cells, mut sheet) = (r.cells(), r.bytes(100).to_vec());
+        let number = MODEL.flow_build(alone(cells), &mut sheet);
+        assert_eq!((number, &sheet[..]), (r.byte(), r.bytes(100)));
+    });
+}
+
+#[test]
+fn sectors() {
+    each("sector", |r| {
+        let (costs, step, lent, numbers) = (r.bytes(100), r.bytes(8), r.byte() == 1, r.cells());
+        let mut sheet = [0x55; CELLS];
+        let answer = MODEL.sector(costs, step, Previous { lent, numbers: &numbers }, &mut sheet);
+        let (number, waves, list, cells) = (r.byte(), usize::from(r.byte()), r.list(), r.cells());
+        assert_eq!(answer, BuildAnswer { number, field: field(cells, list), waves });
+        assert_eq!(sheet, r.bytes(100));
+    });
+}
+
+#[test]
+fn legs() {
+    each("leg", |r| {
+        let (count, steps, costs) = (usize::from(r.byte()), r.bytes(128), r.bytes(1600));
+        let (number, due) = (r.byte(), r.bytes(1600));
+        let steps = &steps[..8 * count];
+        let (mut floor, mut sheet, mut expected) = (vec![1; 6400], vec![0x55; 6400], vec![0x55; 6400]);
+        for (k, step) in steps.chunks(8).enumerate() {
+            let at = usize::from(step[0]) * 100;
+            floor[at..at + 100].copy_from_slice(&costs[100 * k..100 * k + 100]);
+            expected[at..at + 100].copy_from_slice(&due[100 * k..100 * k + 100]);
+        }
+        assert_eq!(MODEL.leg(&floor, steps, &mut sheet), number);
+        assert_eq!(sheet, expected);
+    });
+}
+
+#[test]
+fn refusals() {
+    each("refusals", |r| {
+        let call = r.byte();
+        let (costs, mut sheet, length) = (vec![1; r.short()], vec![0x55; r.short()], r.short());
+        let (lent, numbers, count) = (r.byte() == 1, vec![0; r.short()], r.short());
+        let (place, corner) = (usize::from(r.byte()), r.short());
+        let (cells, steps, number) = ([r.cell(), r.cell()], &r.bytes(136)[..length], r.byte());
+        let mut given = IntegrationField { count, ..IntegrationField::ZERO };
+        given.los_corners[place] = corner;
+        let previous = Previous { lent, numbers: &numbers };
+        let answered = match call {
+            0 => MODEL.init(&costs, steps).number,
+            1 => MODEL.build(&costs, given).number,
+            2 => MODEL.flow_new(steps, given, previous, &mut sheet),
+            3 => MODEL.flow_build(given, &mut sheet),
+            4 => MODEL.sector(&costs, steps, previous, &mut sheet).number,
+            5 => MODEL.leg(&costs, steps, &mut sheet),
+            6 => MODEL.line(cells[0], cells[1]).number,
+            _ => MODEL.line_end(cells[0], cells[1]).number,
+        };
+        assert_eq!(answered, number);
+        assert!(number == 0 || sheet.iter().all(|byte| *byte == 0x55));
+    });
+}
