@@ -13,6 +13,7 @@ use borrow.Author.Tests.{eq-eqb, eqb-true}
 use lib.Dec.{eqb}
 use Rattle.utilities.specs.declared.CompassDir.{CompassDir}
 use Rattle.utilities.specs.declared.CompassDir.the-variants.{North, East, South, West, NorthEast, SouthEast, SouthWest, NorthWest, Zero}
+use Rattle.utilities.specs.Lists.{consIf}
 use Rattle.route.specs.Window.{below, select, onEdge, edge, between, cellsBetween, stride}
 use Rattle.flow_byte.specs.New.{isIn}
 
@@ -60,7 +61,7 @@ is-in-select p i (x ∷ l) = by-test (p x) (eqb x i) refl refl (is-in-select p i
     taken a b h = rw h
 
     by-test : (t u : Bool) → p x ≡ t → eqb x i ≡ u → isIn i (select p l) ≡ (p i && isIn i l)
-        → isIn i (cond t (x ∷ select p l) (select p l)) ≡ (p i && (u || isIn i l))
+        → isIn i (consIf t x (select p l)) ≡ (p i && (u || isIn i l))
     by-test true true h e r = rw (e, same true e h)
     by-test true false h e r = rw e r
     by-test false true h e r = rw (same false e h) (r ∙ rw (same false e h))

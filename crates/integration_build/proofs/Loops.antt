@@ -16,11 +16,12 @@ use lib.Dec.{eqb}
 use lib.ListN.{length, getD, set, take}
 use lib.Seq.{slice, slice-cons, slice-empty, take-suc, length-take-le}
 use borrow.Author.Tests.{eq-eqb, ne-eqb, lt-ltb, le-ltb}
+use Rattle.utilities.specs.Lists.{consIf}
 use Rattle.utilities.specs.Compass.{orthogonal}
 use Rattle.fields.specs.Cell.{cellAt}
 use Rattle.integration_field.specs.Word.{low}
 use Rattle.integration_field.specs.Listed.{padded}
-use Rattle.integration_field.specs.Wave.{offeredAround, offeredBy, consIf, changedFrom}
+use Rattle.integration_field.specs.Wave.{offeredAround, offeredBy, changedFrom}
 use Rattle.integration_field.specs.Answer.{allCells}
 use Rattle.integration_field.proofs.Lists.{padded-length, padded-push, padded-at}
 use Rattle.integration_build.specs.Wavefront.{Ready}

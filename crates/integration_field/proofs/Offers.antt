@@ -15,6 +15,7 @@ use lib.Dec.{ltb, eqb}
 use lib.ListN.{length, getD, set, length-set, List·getD-eq-default}
 use lib.Seq.{getD-set-same, getD-set-other}
 use borrow.Author.Tests.{ltb-true, ltb-false, eq-eqb, ne-eqb}
+use Rattle.utilities.specs.Lists.{consIf}
 use Rattle.utilities.specs.declared.CompassDir.{CompassDir}
 use Rattle.utilities.specs.Compass.{orthogonal}
 use Rattle.fields.specs.declared.FieldCell.{FieldCell}
@@ -22,7 +23,7 @@ use Rattle.fields.specs.declared.Stepped.{Stepped}
 use Rattle.fields.specs.declared.Stepped.the-variants.{Cell, Outside}
 use Rattle.fields.specs.Cell.{indexOf, cellAt, stepped}
 use Rattle.integration_field.specs.Word.{low, isOpen}
-use Rattle.integration_field.specs.Wave.{relaxed, offered, offeredAround, offeredBy, consIf, changedFrom}
+use Rattle.integration_field.specs.Wave.{relaxed, offered, offeredAround, offeredBy, changedFrom}
 use Rattle.integration_field.proofs.Flags.{small-flag}
 use Rattle.integration_field.proofs.Neighbours.{Neighbour, later}
 

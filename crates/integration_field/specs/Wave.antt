@@ -8,6 +8,7 @@ use lib.Dec.{ltb, eqb}
 use lib.ListN.{getD, set}
 use Rattle.utilities.specs.declared.CompassDir.{CompassDir}
 use Rattle.utilities.specs.Compass.{orthogonal}
+use Rattle.utilities.specs.Lists.{consIf}
 use Rattle.fields.specs.declared.FieldCell.{FieldCell}
 use Rattle.fields.specs.declared.Stepped.{Stepped}
 use Rattle.fields.specs.declared.Stepped.the-variants.{Cell, Outside}
@@ -36,11 +37,6 @@ offeredAround costs v c (d ∷ ds) cells = offeredAround costs v c ds (offered c
 unfoldable pub offeredBy : List ℕ → List ℕ → List ℕ → List ℕ → List ℕ
 offeredBy costs old [] cells = cells
 offeredBy costs old (i ∷ is) cells = offeredBy costs old is (offeredAround costs (low (getD old i 0)) (cellAt i) orthogonal cells)
-
--- x before the list, where the test holds
-abbrev pub consIf : Bool → ℕ → List ℕ → List ℕ
-consIf true x l = x ∷ l
-consIf false x l = l
 
 -- the indexes at which two lists of cells differ, where the lists begin at index i
 unfoldable pub changedFrom : ℕ → List ℕ → List ℕ → List ℕ

@@ -11,7 +11,7 @@
 use mathlib.Core.Path.{_≡_, refl, sym, ap, ap₂, subst, _∙_}
 use mathlib.Core.List.{List, []}
 use Prim.Native.Nat.{ℕ}
-use lib.ListN.{length, take}
+use lib.ListN.{take}
 use Rattle.integration_field.proofs.Lists.{padded-list}
 use Rattle.started_field.specs.Sight.{Sight}
 use Rattle.started_field.specs.Room.{Room}

@@ -23,7 +23,7 @@ use Rattle.integration_field.specs.Word.{isLos, isGoal, isBlocked, isImpassable
 use Rattle.integration_field.specs.Diagonal.{wallAt}
 use Rattle.started_field.specs.Sight.{Sight, unlessWall, seen, wallMet, neighbourLooked, lookedAround, waveLooked}
 use Rattle.started_field.proofs.Room.{room-queue, room-seen, room-begins}
-use Rattle.integration_init.specs.Held.{sightOf, Ready, ReadyAll, HoldsAll, Leaves, Applied}
+use Rattle.integration_init.specs.Held.{sightOf, Ready, ReadyAll, HoldsAll, Applied}
 
 module _ (line : ℕ → List ℕ) (wave from : ℕ) (d : CompassDir) (n : ℕ) (s : Sight) where
   abbrev word : ℕ

@@ -20,7 +20,7 @@ pub record Holds (s : Sight) (cells corners : List ℕ) (count : ℕ) : Type 0 w
   pub corners-held : corners ≡ padded (s .corners)
   pub count-held : count ≡ length (s .corners)
 
--- what a function that marks cells is given: its lists are held, and there is room
+-- what a function that marks cells is given: its cells and corners are held, and there is room
 pub record Ready (cells corners : List ℕ) (count : ℕ) : Type 0 where
   pub room : Room (sightOf cells corners count [])
   pub held : Holds (sightOf cells corners count []) cells corners count
@@ -44,8 +44,14 @@ pub record HoldsAll (s : Sight) (cells corners : List ℕ) (count : ℕ) (queue 
   pub queue-held : take queued queue ≡ s .queue
   pub queued-held : queued ≡ length (s .queue)
 
+-- what a look is given
 abbrev pub ReadyAll : List ℕ → List ℕ → ℕ → List ℕ → ℕ → Type 0
 ReadyAll cells corners count queue queued = HoldsAll (sightOf cells corners count (take queued queue)) cells corners count queue queued
+
+-- the arrays at entry go to those at exit as a definition says, with their queue
+abbrev pub AppliedAll : (Sight → Sight) → List ℕ → List ℕ → ℕ → List ℕ → ℕ → List ℕ → List ℕ → ℕ → List ℕ → ℕ → Type 0
+AppliedAll step cells corners count queue queued cells' corners' count' queue' queued' =
+    HoldsAll (step (sightOf cells corners count (take queued queue))) cells' corners' count' queue' queued'
 
 -- a wave's cost, the goal, and a cell of the wave
 pub record InWave (wave goal from : ℕ) : Type 0 where

@@ -26,12 +26,12 @@ ghost use Rattle.started_field.specs.Started.{startedAt, startedFrom, started, 
 ghost use Rattle.started_field.specs.CornerLine.{cornerLine};
 ghost use Rattle.started_field.specs.Sight.{wallOr, walls, withPortals, marked, stopped, lineMarked, extended, unlessWall, firstSide, sideTried, wallMet, neighbourLooked, looked, lookedAround, waveLooked, sightAfter};
 ghost use Rattle.least_walks.specs.Promise.{OnceBuilt};
-ghost use Rattle.integration_init.specs.Held.{sightOf, Holds, Ready, Applied, HoldsAll, ReadyAll, InWave, Wavefront, Drawn, Window};
+ghost use Rattle.integration_init.specs.Held.{sightOf, Holds, Ready, Applied, AppliedAll, HoldsAll, ReadyAll, InWave, Wavefront, Drawn, Window};
 
 // How many corners are listed, and how many cells the wave has queued.
-pub struct Counts {
-    pub corners: usize,
-    pub queued: usize,
+struct Counts {
+    corners: usize,
+    queued: usize,
 }
 
 // Whether the cell at an index is a wall.
@@ -246,7 +246,7 @@ fn look_at(
     wavefront_cost: u32,
 ) -> Counts
     requires { ⌜ (ReadyAll (now cells) (now corners) (counts .corners) (now queue) (counts .queued)) × ((InWave «wavefront_cost» goal from) × (n < 100)) ⌝ }
-    ensures { λ r. ⌜ HoldsAll (neighbourLooked (cornerLine goal) «wavefront_cost» from dir n (sightOf (now (cells .entry)) (now (corners .entry)) (counts .corners) (take (counts .queued) (now (queue .entry))))) (now (cells .exit)) (now (corners .exit)) (r .corners) (now (queue .exit)) (r .queued) ⌝ }
+    ensures { λ r. ⌜ AppliedAll (neighbourLooked (cornerLine goal) «wavefront_cost» from dir n) (now (cells .entry)) (now (corners .entry)) (counts .corners) (now (queue .entry)) (counts .queued) (now (cells .exit)) (now (corners .exit)) (r .corners) (now (queue .exit)) (r .queued) ⌝ }
 {
     let listed = counts.corners;
     let queued = counts.queued;
@@ -284,7 +284,7 @@ fn look(
     wavefront_cost: u32,
 ) -> Counts
     requires { ⌜ (ReadyAll (now cells) (now corners) (counts .corners) (now queue) (counts .queued)) × (InWave «wavefront_cost» goal from) ⌝ }
-    ensures { λ r. ⌜ HoldsAll (looked (cornerLine goal) «wavefront_cost» from dir (stepped (cellAt from) dir) (sightOf (now (cells .entry)) (now (corners .entry)) (counts .corners) (take (counts .queued) (now (queue .entry))))) (now (cells .exit)) (now (corners .exit)) (r .corners) (now (queue .exit)) (r .queued) ⌝ }
+    ensures { λ r. ⌜ AppliedAll (looked (cornerLine goal) «wavefront_cost» from dir (stepped (cellAt from) dir)) (now (cells .entry)) (now (corners .entry)) (counts .corners) (now (queue .entry)) (counts .queued) (now (cells .exit)) (now (corners .exit)) (r .corners) (now (queue .exit)) (r .queued) ⌝ }
 {
     let Stepped::Cell(neighbour) = FieldCell::from_index(from).get_in_compass_direction(dir) else {
         return counts;
@@ -314,7 +314,7 @@ fn look_around(
     wavefront_cost: u32,
 ) -> Counts
     requires { ⌜ (ReadyAll (now cells) (now corners) (counts .corners) (now queue) (counts .queued)) × (InWave «wavefront_cost» goal from) ⌝ }
-    ensures { λ r. ⌜ HoldsAll (lookedAround (cornerLine goal) «wavefront_cost» from orthogonal (sightOf (now (cells .entry)) (now (corners .entry)) (counts .corners) (take (counts .queued) (now (queue .entry))))) (now (cells .exit)) (now (corners .exit)) (r .corners) (now (queue .exit)) (r .queued) ⌝ }
+    ensures { λ r. ⌜ AppliedAll (lookedAround (cornerLine goal) «wavefront_cost» from orthogonal) (now (cells .entry)) (now (corners .entry)) (counts .corners) (now (queue .entry)) (counts .queued) (now (cells .exit)) (now (corners .exit)) (r .corners) (now (queue .exit)) (r .queued) ⌝ }
 {
     let mut counted = counts;
     let mut side: u8 = 0;

@@ -1,7 +1,7 @@
 -- The cells of an edge, and those of them that a loop has collected so far.
 -- Assumes nothing.
 use mathlib.Core.Path.{_≡_, refl, sym, ap, _∙_}
-use mathlib.Core.Bool.{Bool, true, false, cond}
+use mathlib.Core.Bool.{Bool, true, false}
 use mathlib.Core.List.{List, [], _∷_, _++_, append-assoc, append-nil}
 use Prim.Native.Nat.{ℕ, suc, _+_, _*_, _<_, _≤_}
 use native.Mathlib.Numerals.{add-one}
@@ -13,6 +13,7 @@ use Rattle.utilities.specs.declared.CompassDir.{CompassDir}
 use Rattle.utilities.specs.declared.CompassDir.the-variants.{North, East, South, West, NorthEast, SouthEast, SouthWest, NorthWest, Zero}
 use Rattle.utilities.specs.Padded.{padded}
 use Rattle.utilities.proofs.Padded.{padded-push}
+use Rattle.utilities.specs.Lists.{consIf}
 use Rattle.route.specs.Window.{select, onEdge, edge, listed}
 use Rattle.route.proofs.Below.{same-at}
 
@@ -63,7 +64,7 @@ module _ (p : ℕ → Bool) where
   select-append (x ∷ a) b = step (p x) (select-append a b)
     where
       step : (t : Bool) → select p (a ++ b) ≡ select p a ++ select p b
-          → cond t (x ∷ select p (a ++ b)) (select p (a ++ b)) ≡ cond t (x ∷ select p a) (select p a) ++ select p b
+          → consIf t x (select p (a ++ b)) ≡ consIf t x (select p a) ++ select p b
       step true e = ap (λ (l : List ℕ). x ∷ l) e
       step false e = e
 

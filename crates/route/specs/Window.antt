@@ -8,6 +8,7 @@ use lib.ListN.{length}
 use Rattle.utilities.specs.declared.CompassDir.{CompassDir}
 use Rattle.utilities.specs.declared.CompassDir.the-variants.{North, East, South, West, NorthEast, SouthEast, SouthWest, NorthWest, Zero}
 use Rattle.utilities.specs.Compass.{differences}
+use Rattle.utilities.specs.Lists.{consIf}
 use Rattle.utilities.specs.Padded.{padded}
 use Rattle.route.specs.declared.WindowCells.{WindowCells}
 
@@ -19,7 +20,7 @@ below (suc n) = below n ++ (n ∷ [])
 -- those of a list that pass a test, in its order
 abbrev pub select : (ℕ → Bool) → List ℕ → List ℕ
 select p [] = []
-select p (x ∷ l) = cond (p x) (x ∷ select p l) (select p l)
+select p (x ∷ l) = consIf (p x) x (select p l)
 
 -- cell i lies on the named edge (01, number 7: North row 0, East column 9, South row 9, West column 0); only sides have an edge
 unfoldable pub onEdge : CompassDir → ℕ → Bool

@@ -9,4 +9,3 @@ pub mod Waves
 pub mod Window
 pub mod Lines
 pub mod Started
-pub mod Examples

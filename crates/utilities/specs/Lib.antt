@@ -1,2 +1,3 @@
 pub mod Compass
 pub mod Padded
+pub mod Lists

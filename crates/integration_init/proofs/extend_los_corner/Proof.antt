@@ -1,12 +1,10 @@
 -- `integration_init::extend_los_corner` meets its contract: the end and the line are the definition's, and lie inside the sector.
 -- Assumes nothing.
-use mathlib.Core.Path.{_≡_, refl, sym, ap, ap₂, subst, _∙_}
-use mathlib.Core.List.{List, map}
-use Prim.Native.Nat.{ℕ}
+use mathlib.Core.Path.{_≡_, sym, ap₂, subst, _∙_}
+use mathlib.Core.List.{map}
 use borrow.Author.Needs.{needs}
 use denote.Ref.{now}
 use lib.ListN.{take}
-use Rattle.fields.specs.declared.FieldCell.{FieldCell}
 use Rattle.fields.specs.Cell.{Inside, cellAt, indexOf}
 use Rattle.fields.proofs.Steps.{cell-inside}
 use Rattle.line_end.specs.LineEnd.{lineEnd}

@@ -2,10 +2,8 @@
 -- Assumes nothing.
 use mathlib.Core.Path.{_≡_, sym, ap, ap₂, _∙_}
 use Prim.Native.Nat.{ℕ}
-use native.Mathlib.Omega.{arith}
 use borrow.Author.Needs.{needs}
 use denote.Ref.{now}
-use lib.ListN.{length}
 use Rattle.integration_field.specs.declared.IntegrationField.{IntegrationField}
 use Rattle.started_field.specs.Started.{initRefused}
 use Rattle.route.specs.Step.{stepNumber}

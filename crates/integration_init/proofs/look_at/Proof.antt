@@ -1,6 +1,6 @@
 -- `integration_init::look_at` meets its contract: case by case of what the neighbour is.
 -- Assumes nothing.
-use mathlib.Core.Path.{_≡_, refl, sym, ap, _∙_}
+use mathlib.Core.Path.{_≡_, sym, _∙_}
 use mathlib.Core.Bool.{false}
 use Prim.Native.Nat.{ℕ, _<_}
 use native.Mathlib.Omega.{arith}
@@ -8,7 +8,7 @@ use borrow.Author.Needs.{needs}
 use denote.Ref.{now}
 use lib.ListN.{getD, take}
 use Rattle.integration_field.specs.Word.{isLos, isGoal, isBlocked, isImpassable}
-use Rattle.started_field.specs.Sight.{Sight, seen, wallMet, neighbourLooked}
+use Rattle.started_field.specs.Sight.{Sight, seen, wallMet}
 use Rattle.started_field.specs.CornerLine.{cornerLine}
 use Rattle.integration_init.specs.Held.{sightOf}
 use Rattle.integration_init.proofs.Held.{all-same}

@@ -1,12 +1,12 @@
 -- `integration_init::look_wave` meets its contract: the invariant: what is left of the wave from place i on does what the whole wave does.
 -- Assumes nothing.
 use mathlib.Core.Path.{_≡_, refl, sym, ap, _∙_}
-use mathlib.Core.List.{List, []}
-use Prim.Native.Nat.{ℕ, _+_, _-_, _<_, _≤_}
+use mathlib.Core.List.{[]}
+use Prim.Native.Nat.{ℕ, _+_, _-_, _≤_}
 use native.Mathlib.Omega.{arith}
 use borrow.Author.Needs.{needs}
 use denote.Ref.{now}
-use lib.ListN.{length, getD, take}
+use lib.ListN.{length, take}
 use lib.Seq.{slice}
 use Rattle.started_field.specs.Sight.{Sight, waveLooked}
 use Rattle.started_field.specs.CornerLine.{cornerLine}

@@ -1,11 +1,9 @@
 -- `integration_init::mark_portals` meets its contract: the invariant: what is left of the window from place i on does what the whole window does, and the cells before it are listed.
 -- Assumes nothing.
 use mathlib.Core.Path.{_≡_, refl, sym, ap, _∙_}
-use mathlib.Core.List.{List}
 use Prim.Native.Nat.{ℕ, _-_, _<_, _≤_}
 use native.Mathlib.Omega.{arith}
 use borrow.Author.Needs.{needs}
-use denote.Ref.{now}
 use lib.ListN.{getD, take}
 use lib.Seq.{slice}
 use Rattle.integration_field.specs.Listed.{padded}

@@ -1,6 +1,6 @@
 -- `integration_init::meet_wall` meets its contract: one side after the other.
 -- Assumes nothing.
-use mathlib.Core.Path.{_≡_, refl, sym, ap, ap₂, _∙_}
+use mathlib.Core.Path.{_≡_, ap, _∙_}
 use borrow.Author.Needs.{needs}
 use denote.Ref.{now}
 use Rattle.utilities.specs.declared.CompassDir.{CompassDir}

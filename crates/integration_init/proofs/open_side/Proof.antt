@@ -1,14 +1,11 @@
 -- `integration_init::open_side` meets its contract: the side cell is where a step arrives.
 -- Assumes nothing.
-use mathlib.Core.Path.{_≡_, refl, sym, ap, _∙_}
-use mathlib.Core.Bool.{true, false, cond}
-use Prim.Native.Nat.{ℕ, _<_}
+use mathlib.Core.Path.{_≡_, sym, ap, _∙_}
 use native.Mathlib.Omega.{arith}
 use borrow.Author.Needs.{needs}
 use denote.Ref.{now}
 use Rattle.fields.specs.declared.FieldCell.{FieldCell}
-use Rattle.fields.specs.declared.Stepped.{Stepped}
-use Rattle.fields.specs.declared.Stepped.the-variants.{Cell, Outside}
+use Rattle.fields.specs.declared.Stepped.the-variants.{Cell}
 use Rattle.fields.specs.Cell.{stepped, cellAt, indexOf}
 use Rattle.fields.proofs.Steps.{stepped-cell, index-inside, index-below}
 use Rattle.integration_field.specs.Diagonal.{wallAt}

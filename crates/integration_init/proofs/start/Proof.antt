@@ -2,13 +2,9 @@
 -- Assumes nothing.
 use mathlib.Core.Path.{_≡_, sym, ap, _∙_}
 use mathlib.Core.Bool.{true, false}
-use Prim.Native.Nat.{ℕ, _<_}
 use borrow.Author.Needs.{needs}
 use denote.Ref.{now}
-use lib.ListN.{take}
 use Rattle.route.specs.declared.RouteStep.{RouteStep}
-use Rattle.route.specs.declared.PortalWindow.{PortalWindow}
-use Rattle.route.specs.declared.WindowCells.{WindowCells}
 use Rattle.route.specs.Step.{isWindow, goalOf, windowCells}
 use Rattle.route.specs.Window.{listed, cellsBetween}
 use Rattle.route.proofs.Accepted.{accepted-goal, accepted-window}

@@ -1,17 +1,14 @@
 -- `integration_init::try_side` meets its contract: both side cells are taken apart, and the corner is the cell beside the wall.
 -- Assumes nothing.
-use mathlib.Core.Path.{_≡_, refl, sym, ap, _∙_}
-use Prim.Native.Nat.{ℕ, _<_}
+use mathlib.Core.Path.{_≡_, sym, _∙_}
 use native.Mathlib.Omega.{arith}
 use borrow.Author.Needs.{needs}
 use denote.Ref.{now}
-use Rattle.fields.specs.declared.Stepped.{Stepped}
 use Rattle.fields.specs.declared.Stepped.the-variants.{Cell, Outside}
 use Rattle.fields.specs.Cell.{Inside, stepped, cellAt, indexOf}
 use Rattle.fields.proofs.Steps.{stepped-cell, index-inside, index-below}
 use Rattle.started_field.specs.Sight.{unlessWall, extended, sideTried}
 use Rattle.started_field.specs.CornerLine.{cornerLine}
-use Rattle.integration_init.specs.Held.{Ready}
 use Rattle.integration_init.proofs.Held.{applied-none, applied-same}
 use Rattle.integration_init.proofs.Looks.{open-cell}
 use Rattle.integration_init.proofs.try_side.Statement.{statement}
