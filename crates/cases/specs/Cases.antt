@@ -1,34 +1,118 @@
--- The starred cases of document 01 (01, "Cases"): one table, one proof by computation.
+-- The starred cases of document 01 (01, "Cases"): one table, one proof by computation from the definitions.
 -- Assumes nothing.
 use mathlib.Core.Path.{_≡_, refl}
-use mathlib.Core.List.{List, [], _∷_, map}
+use mathlib.Core.Bool.{Bool, true, false, cond}
+use mathlib.Core.List.{List, [], _∷_, _++_, map}
 use Prim.Native.Nat.{ℕ}
+use lib.Bits.{bitOr}
+use lib.Ieee.{add, sub, mul, div, neg, ofInt}
+use lib.ListN.{getD, set, replicate}
 use Rattle.fields.specs.declared.FieldCell.{FieldCell}
-use Rattle.fields.specs.Cell.{cell}
+use Rattle.fields.specs.Cell.{cell, stepped}
 use Rattle.bresenham.specs.Table.{table}
 use Rattle.bresenham.specs.Line.{toward, nearest, shallow, steep, line}
+use Rattle.line_end.specs.LineEnd.{gradient, intercept, floor, rowAt, firstEnding, slantedEnd, endBy, lineEnd}
+use Rattle.route.specs.Window.{onEdge, edge, cellsBetween}
+use Rattle.integration_field.specs.Diagonal.{betweenWalls}
+use Rattle.integration_field.specs.Listed.{listOf}
+use Rattle.integration_field.specs.Wave.{relaxed, offeredAround, offeredBy, changedFrom, next}
+use Rattle.integration_field.specs.Rest.{total}
+use Rattle.integration_field.specs.Build.{isEmpty, settle, build}
+use Rattle.started_field.specs.Sight.{walls, withPortals, withGoal, marked, lineMarked, seen, extended, sideTried, wallMet, neighbourLooked, lookedAround, waveLooked, sightAfter}
+use Rattle.started_field.specs.CornerLine.{cornerLine}
+use Rattle.started_field.specs.Started.{sightFrom, startedFrom, startedAt, started}
+use Rattle.flow_byte.specs.Byte.{isGoal, isPortalGoal, hasLineOfSight, isWall}
+use Rattle.flow_byte.specs.New.{startOf, facingBits, facingChoice, windowBits, inWindow, newByte, newBytes}
+use Rattle.flow_byte.specs.Look as look
+use Rattle.flow_byte.specs.Look.{lookAround, pointed, builtByte, flowBuild}
+use Rattle.sector.specs.Sector.{sectorBytes}
 
 -- a case: what the definitions give, and what document 01 expects, both as numbers
 pub record Case : Type 0 where
   pub given : List ℕ
   pub expected : List ℕ
 
+abbrev case : List ℕ → List ℕ → Case
+case g e = record { given = g; expected = e }
+
 -- cells as document 01 writes them, column before row
 abbrev coordinates : List FieldCell → List ℕ
 coordinates [] = []
 coordinates (c ∷ l) = c .column ∷ c .row ∷ coordinates l
 
--- the line from one cell to another
-abbrev lineCase : FieldCell → FieldCell → List ℕ → Case
-lineCase s t l = record { given = coordinates (line s t); expected = l }
+-- the costs of a floor, and steps: a goal, and a window from a first cell to a last at a boundary
+abbrev ones : List ℕ
+ones = replicate 100 1
+
+abbrev wallAnd : ℕ → List ℕ → List ℕ
+wallAnd i costs = set costs i 255
+
+abbrev goal : ℕ → List ℕ
+goal g = 0 ∷ g ∷ 0 ∷ 0 ∷ 0 ∷ 0 ∷ 0 ∷ 0 ∷ []
+
+abbrev window : ℕ → ℕ → ℕ → List ℕ
+window first last boundary = 0 ∷ 0 ∷ 1 ∷ first ∷ last ∷ boundary ∷ 0 ∷ 0 ∷ []
+
+-- cells' words in the started field; cells' words in the built one; the waves; cells' flow bytes, with no previous field
+abbrev words : List ℕ → List ℕ → List ℕ
+words cells is = map (λ (i : ℕ). getD cells i 0) is
+
+abbrev unbuilt : List ℕ → List ℕ → List ℕ → List ℕ
+unbuilt costs step is = words (started costs step .field) is
+
+abbrev built : List ℕ → List ℕ → List ℕ → List ℕ
+built costs step is =
+    let f = started costs step in
+    let b = build costs (f .field) (listOf f) in
+    words (b .cells) is
+
+abbrev waves : List ℕ → List ℕ → List ℕ
+waves costs step = let f = started costs step in build costs (f .field) (listOf f) .waves ∷ []
+
+abbrev flow : List ℕ → List ℕ → List ℕ → List ℕ
+flow costs step is = words (sectorBytes costs step false []) is
+
+-- the flow bytes of a North window 3 to 5, where the facing cells hold these
+abbrev facing : ℕ → ℕ → ℕ → List ℕ
+facing a b c =
+    let bytes = sectorBytes ones (window 3 5 0) true (set (set (set (replicate 100 0) 93 a) 94 b) 95 c) in
+    getD bytes 3 0 ∷ getD bytes 4 0 ∷ getD bytes 5 0 ∷ []
+
+-- what a byte reads as: goal, portal goal, in sight, wall
+abbrev number : Bool → ℕ
+number b = cond b 1 0
+
+abbrev read : ℕ → List ℕ
+read byte = number (isGoal byte) ∷ number (isPortalGoal byte) ∷ number (hasLineOfSight byte) ∷ number (isWall byte) ∷ []
 
 abbrev pub cases : List Case
 cases =
-    lineCase (cell 0 0) (cell 2 1) (0 ∷ 0 ∷ 1 ∷ 0 ∷ 2 ∷ 1 ∷ [])
-    ∷ lineCase (cell 2 1) (cell 0 0) (2 ∷ 1 ∷ 1 ∷ 0 ∷ 0 ∷ 0 ∷ [])
-    ∷ lineCase (cell 0 0) (cell 3 1) (0 ∷ 0 ∷ 1 ∷ 0 ∷ 2 ∷ 1 ∷ 3 ∷ 1 ∷ [])
+    -- All 1, goal 44: cell 45 0x10001, cell 0 0x10008, waves 0.
+    case (built ones (goal 44) (45 ∷ 0 ∷ []) ++ waves ones (goal 44)) (0x10001 ∷ 0x10008 ∷ 0 ∷ [])
+    -- Cell 55 wall, else 1, goal 44: cell 45 is 0x4040003, built and unbuilt; its flow 0x18.
+    ∷ case (
+    unbuilt (wallAnd 55 ones) (goal 44) (45 ∷ []) ++ built (wallAnd 55 ones) (goal 44) (45 ∷ []) ++ flow (wallAnd 55 ones) (goal 44) (45 ∷ [])
+    ) (0x4040003 ∷ 0x4040003 ∷ 0x18 ∷ [])
+    -- Goal on cost 255: 0x20000.
+    ∷ case (unbuilt (wallAnd 44 ones) (goal 44) (44 ∷ [])) (0x20000 ∷ [])
+    -- Walls 1 and 10, goal 44, else 1: cell 0 ends 65535, flow 0xE0.
+    ∷ case (built (wallAnd 1 (wallAnd 10 ones)) (goal 44) (0 ∷ []) ++ flow (wallAnd 1 (wallAnd 10 ones)) (goal 44) (0 ∷ [])) (65535 ∷ 0xE0 ∷ [])
+    -- All 1, East window 9 to 99: cell 0 holds 9; waves 9; flow 0x12; cell 9, no previous field, 0x92.
+    ∷ case (built ones (window 9 99 1) (0 ∷ []) ++ waves ones (window 9 99 1) ++ flow ones (window 9 99 1) (0 ∷ 9 ∷ [])) (9 ∷ 9 ∷ 0x12 ∷ 0x92 ∷ [])
+    -- North window 3 to 5, facing 9, 5, 9: 0x93, 0x91, 0x99; facing 7, 7, 7: 0x91 each.
+    ∷ case (facing 9 5 9 ++ facing 7 7 7) (0x93 ∷ 0x91 ∷ 0x99 ∷ 0x91 ∷ 0x91 ∷ 0x91 ∷ [])
+    -- (0,0) to (2,1): middle (1,0); from (2,1) back: also (1,0).
+    ∷ case (coordinates (line (cell 0 0) (cell 2 1))) (0 ∷ 0 ∷ 1 ∷ 0 ∷ 2 ∷ 1 ∷ [])
+    ∷ case (coordinates (line (cell 2 1) (cell 0 0))) (2 ∷ 1 ∷ 1 ∷ 0 ∷ 0 ∷ 0 ∷ [])
+    -- (0,0) to (3,1): (0,0), (1,0), (2,1), (3,1).
+    ∷ case (coordinates (line (cell 0 0) (cell 3 1))) (0 ∷ 0 ∷ 1 ∷ 0 ∷ 2 ∷ 1 ∷ 3 ∷ 1 ∷ [])
+    -- Line end of corner (5,3), goal (4,4): (9,0). Corner (4,3), goal (5,4): (1,0). Corner (9,7), goal (2,9): (9,6).
+    ∷ case (coordinates (lineEnd (cell 5 3) (cell 4 4) ∷ lineEnd (cell 4 3) (cell 5 4) ∷ lineEnd (cell 9 7) (cell 2 9) ∷ []))
+    (9 ∷ 0 ∷ 1 ∷ 0 ∷ 9 ∷ 6 ∷ [])
+    -- Byte 0xF3 reads as goal, portal goal and in sight, not wall.
+    ∷ case (read 0xF3) (1 ∷ 1 ∷ 1 ∷ 0 ∷ [])
     ∷ []
 
 pub as-expected : map (λ (c : Case). c .given) cases ≡ map (λ (c : Case). c .expected) cases
-unfolding table toward nearest shallow steep line
+unfolding onEdge stepped table toward nearest shallow steep line gradient intercept floor rowAt firstEnding slantedEnd endBy lineEnd add sub mul div neg ofInt edge cellsBetween betweenWalls relaxed offeredAround offeredBy changedFrom next total isEmpty settle build walls withPortals withGoal marked lineMarked seen extended sideTried wallMet neighbourLooked lookedAround waveLooked sightAfter cornerLine sightFrom startedFrom startedAt started startOf facingBits facingChoice windowBits inWindow newByte newBytes look.seen lookAround pointed builtByte flowBuild sectorBytes
 as-expected = refl
