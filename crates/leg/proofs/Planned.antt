@@ -1,0 +1,63 @@
+-- What is promised of a leg, of whatever equals the definitions.
+--     ready-floor      every step of a leg that is not refused names a sector of the floor
+--     leg-planned      each part of the sheet, and demand 3 for every sector that is written
+--     refuses, plans   all that is promised of a number and a sheet
+-- Assumes nothing.
+use mathlib.Core.Path.{_≡_, sym, ap, subst, _∙_}
+use mathlib.Core.List.{List}
+use Prim.Native.Nat.{ℕ, _/_, _<_}
+use native.Mathlib.Omega.{arith}
+use lib.ListN.{length, length-take, length-drop}
+use borrow.Author.Tests.{ne-eqb}
+use Rattle.route.specs.Step.{stepNumber}
+use Rattle.route.proofs.Accepted.{accepted-step}
+use Rattle.integration_field.specs.Build.{waveCount}
+use Rattle.started_field.specs.Started.{started}
+use Rattle.sector.specs.Promise as sector
+use Rattle.sector.proofs.Planned.{sector-planned}
+use Rattle.leg.specs.Leg.{part, stepsOf, legNumber, planned, legSheet}
+use Rattle.leg.specs.Plan.{LegReady}
+use Rattle.leg.specs.Promise.{stepOf, sectorAt, hasBefore, costsAt, builtAt, builtBefore, LegPlanned}
+use Rattle.leg.proofs.Steps.{steps-count, step-of}
+use Rattle.leg.proofs.Numbers.{accepted}
+use Rattle.leg.proofs.Sheet.{InFloor, planned-length, kept, written}
+
+pub part-hundred : (l : List ℕ) (sector : ℕ) → length l ≡ 6400 → sector < 64 → length (part l sector) ≡ 100
+part-hundred l sector e h = simp (length-take, length-drop) (omega arith)
+
+module _ (floor steps sheet : List ℕ) (ready : LegReady floor steps sheet) where
+  good : (k : ℕ) → k < length (stepsOf steps) → stepNumber (stepOf (stepsOf steps) k) ≡ 0
+  good k h =
+      let g : k < length steps / 8 = omega (arith, steps-count steps) in
+      ap stepNumber (step-of steps k g) ∙ ready .accepted k g
+
+  pub ready-floor : InFloor (stepsOf steps)
+  ready-floor k h = accepted-step (stepOf (stepsOf steps) k) (good k h) .sector-in
+
+  pub leg-planned : LegPlanned floor (stepsOf steps) sheet (planned floor (stepsOf steps) sheet)
+  leg-planned =
+      let wrote = written floor (stepsOf steps) sheet ready-floor (ready .named-once) (ready .sheet-full) in
+      record {
+        written = wrote;
+        kept = kept floor (stepsOf steps) sheet ready-floor (ready .named-once) (ready .sheet-full);
+        same-length = planned-length floor (stepsOf steps) sheet ready-floor (ready .named-once) (ready .sheet-full);
+        demand3 =
+            λ k h.
+            let costs = costsAt floor (stepsOf steps) k in
+            let step = stepOf (stepsOf steps) k in
+            subst (sector.Planned costs step (builtAt floor (stepsOf steps) k) (waveCount costs (started costs step))) (sym (wrote k h))
+            (sector-planned costs step (part-hundred floor (sectorAt (stepsOf steps) k) (ready .floor-full) (ready-floor k h)) (good k h) (hasBefore k) (builtBefore floor (stepsOf steps) k));
+      }
+
+module _ (floor steps sheet : List ℕ) where
+  -- a number, and the sheet that is left with it
+  abbrev Promised : ℕ → List ℕ → Type 0
+  Promised n after =
+      (n ≡ legNumber floor steps sheet) × ((after ≡ legSheet floor steps sheet) × (n ≡ 0 → LegPlanned floor (stepsOf steps) sheet after))
+
+  pub refuses : (n : ℕ) → n ≡ legNumber floor steps sheet → (n ≡ 0 → ⊥) → Promised n sheet
+  refuses n e h = (e, (rw (← e, ne-eqb n 0 h), λ z. absurd (h z)))
+
+  pub plans : legNumber floor steps sheet ≡ 0 → (after : List ℕ) → after ≡ planned floor (stepsOf steps) sheet → Promised 0 after
+  plans z after e =
+      (sym z, (rw z e, λ q. subst (LegPlanned floor (stepsOf steps) sheet) (sym e) (leg-planned floor steps sheet (accepted floor steps sheet z))))

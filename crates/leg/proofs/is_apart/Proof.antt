@@ -1,0 +1,80 @@
+-- `leg::is_apart` meets its contract. The loop's invariant: the steps from place k on decide, with the one before them.
+-- Assumes nothing.
+use borrow.Author.Tests.{not-true, not-false}
+use mathlib.Core.Path.{_≡_, sym, ap, _∙_}
+use Prim.Native.Nat.{_-_, _/_, _≤_}
+use native.Mathlib.Omega.{arith}
+use borrow.Author.Needs.{needs}
+use denote.Ref.{now}
+use lib.ListN.{length}
+use Rattle.leg.specs.Leg.{stepsOf, apartFrom, apart}
+use Rattle.leg.specs.Plan.{stepAt}
+use Rattle.leg.proofs.Steps.{stepsFrom, from-done}
+use Rattle.leg.proofs.Loops.{apart-first, apart-here, apart-on}
+use Rattle.leg.proofs.is_apart.Statement.{statement}
+use Rattle.leg.proofs.is_apart.Tie as tie
+
+abbrev Inv-loop : tie.InvT-loop
+Inv-loop steps count k₀ k = (1 ≤ k) × ((k ≤ length steps / 8) × (apart (stepsOf steps) ≡ apartFrom (stepAt steps (k - 1)) (stepsFrom steps k)))
+
+abbrev μ-loop : tie.MeasureT-loop
+μ-loop steps count k₀ k = length steps / 8 - k
+
+loop-holds : tie.Need-loop-holds Inv-loop μ-loop
+loop-holds c = (omega arith, (omega arith, apart-first (now (c .before .args .steps)) (omega arith)))
+
+mul-at : tie.Need-mul-at Inv-loop μ-loop
+mul-at c = omega arith
+
+shared-slice-read-faces : tie.Need-shared-slice-read-faces Inv-loop μ-loop
+shared-slice-read-faces c = omega arith
+
+add-faces : tie.Need-add-faces Inv-loop μ-loop
+add-faces c = omega arith
+
+shared-slice-read-faces-2 : tie.Need-shared-slice-read-faces-2 Inv-loop μ-loop
+shared-slice-read-faces-2 c = omega arith
+
+sub-faces : tie.Need-sub-faces Inv-loop μ-loop
+sub-faces c = omega arith
+
+shared-slice-read-faces-3 : tie.Need-shared-slice-read-faces-3 Inv-loop μ-loop
+shared-slice-read-faces-3 c = omega arith
+
+faces-requires : tie.Need-faces-requires Inv-loop μ-loop
+faces-requires c κs = search needs
+
+returns : tie.Need-returns Inv-loop μ-loop
+returns c = sym (c .before .before .before .before .before .before .loop .inv .1 .1 ∙ apart-here (now (c .before .before .before .before .before .before .before .before .args .steps)) (c .before .before .before .before .before .before .loop .k) (omega arith) (omega arith) (sym (c .before .faces .ensures) ∙ not-true _ (c .if1 .taken)))
+
+add-k : tie.Need-add-k Inv-loop μ-loop
+add-k c = omega arith
+
+loop-less : tie.Need-loop-less Inv-loop μ-loop
+loop-less c = omega arith
+
+loop-again : tie.Need-loop-again Inv-loop μ-loop
+loop-again c = (omega arith, (omega arith, c .before .before .before .before .before .before .loop .inv .1 .1 ∙ apart-on (now (c .before .before .before .before .before .before .before .before .args .steps)) (c .before .before .before .before .before .before .loop .k) (omega arith) (omega arith) (sym (c .before .faces .ensures) ∙ not-false _ (c .if1 .left))))
+
+returns-2 : tie.Need-returns-2 Inv-loop μ-loop
+returns-2 c = sym (c .before .loop .inv .1 .1 ∙ ap (apartFrom (stepAt (now (c .before .before .before .args .steps)) (c .before .loop .k - 1))) (from-done (now (c .before .before .before .args .steps)) (c .before .loop .k) (omega arith)))
+
+pub is-apart-spec : {M : Type 1} → statement M
+is-apart-spec =
+    tie.close
+    (tie.spec
+    Inv-loop
+    μ-loop
+    loop-holds
+    mul-at
+    shared-slice-read-faces
+    add-faces
+    shared-slice-read-faces-2
+    sub-faces
+    shared-slice-read-faces-3
+    faces-requires
+    returns
+    add-k
+    loop-less
+    loop-again
+    returns-2)

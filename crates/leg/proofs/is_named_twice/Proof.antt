@@ -1,0 +1,79 @@
+-- `leg::is_named_twice` meets its contract. The loop's invariant: the steps from place k on decide.
+-- Assumes nothing.
+use mathlib.Core.Path.{_≡_, sym, ap, _∙_}
+use mathlib.Core.List.{List}
+use Prim.Native.Nat.{ℕ, _+_, _-_, _*_, _/_, _≤_}
+use native.Mathlib.Omega.{arith}
+use borrow.Author.Needs.{needs}
+use denote.Ref.{now}
+use lib.ListN.{length, getD}
+use Rattle.leg.specs.Leg.{stepsOf, names, namesTwice}
+use Rattle.leg.proofs.Steps.{stepsFrom, from-start, from-done, lent-rest}
+use Rattle.leg.proofs.Loops.{twice-here, twice-on}
+use Rattle.leg.proofs.is_named_twice.Statement.{statement}
+use Rattle.leg.proofs.is_named_twice.Tie as tie
+
+abbrev Inv-loop : tie.InvT-loop
+Inv-loop steps count k₀ k = (k ≤ length steps / 8) × (namesTwice (stepsOf steps) ≡ namesTwice (stepsFrom steps k))
+
+abbrev μ-loop : tie.MeasureT-loop
+μ-loop steps count k₀ k = length steps / 8 - k
+
+loop-holds : tie.Need-loop-holds Inv-loop μ-loop
+loop-holds c = (omega arith, ap namesTwice (sym (from-start (now (c .before .args .steps)))))
+
+mul-at : tie.Need-mul-at Inv-loop μ-loop
+mul-at c = omega arith
+
+add-after : tie.Need-add-after Inv-loop μ-loop
+add-after c = omega arith
+
+sub-is-named : tie.Need-sub-is-named Inv-loop μ-loop
+sub-is-named c = omega arith
+
+part-is-named-start : tie.Need-part-is-named-start Inv-loop μ-loop
+part-is-named-start c = omega arith
+
+part-is-named-end : tie.Need-part-is-named-end Inv-loop μ-loop
+part-is-named-end c = omega arith
+
+shared-slice-read-is-named : tie.Need-shared-slice-read-is-named Inv-loop μ-loop
+shared-slice-read-is-named c = omega arith
+
+is-named-requires : tie.Need-is-named-requires Inv-loop μ-loop
+is-named-requires c κs = search needs
+
+returns : tie.Need-returns Inv-loop μ-loop
+returns c = sym (c .before .before .before .before .before .loop .inv .1 ∙ twice-here (now (c .before .before .before .before .before .before .before .args .steps)) (c .before .before .before .before .before .loop .k) (omega arith) (sym (c .before .is-named .ensures ∙ ap (λ (l : List ℕ). names (getD (now (c .before .before .before .before .before .before .before .args .steps)) (c .before .before .before .before .before .loop .k * 8) 0) (stepsOf l)) (lent-rest (now (c .before .before .before .before .before .before .before .args .steps)) (c .before .before .before .before .before .loop .k * 8 + 8))) ∙ c .if1 .taken))
+
+add-k : tie.Need-add-k Inv-loop μ-loop
+add-k c = omega arith
+
+loop-less : tie.Need-loop-less Inv-loop μ-loop
+loop-less c = omega arith
+
+loop-again : tie.Need-loop-again Inv-loop μ-loop
+loop-again c = (omega arith, c .before .before .before .before .before .loop .inv .1 ∙ twice-on (now (c .before .before .before .before .before .before .before .args .steps)) (c .before .before .before .before .before .loop .k) (omega arith) (sym (c .before .is-named .ensures ∙ ap (λ (l : List ℕ). names (getD (now (c .before .before .before .before .before .before .before .args .steps)) (c .before .before .before .before .before .loop .k * 8) 0) (stepsOf l)) (lent-rest (now (c .before .before .before .before .before .before .before .args .steps)) (c .before .before .before .before .before .loop .k * 8 + 8))) ∙ c .if1 .left))
+
+returns-2 : tie.Need-returns-2 Inv-loop μ-loop
+returns-2 c = sym (c .before .loop .inv .1 ∙ ap namesTwice (from-done (now (c .before .before .before .args .steps)) (c .before .loop .k) (omega arith)))
+
+pub is-named-twice-spec : {M : Type 1} → statement M
+is-named-twice-spec =
+    tie.close
+    (tie.spec
+    Inv-loop
+    μ-loop
+    loop-holds
+    mul-at
+    add-after
+    sub-is-named
+    part-is-named-start
+    part-is-named-end
+    shared-slice-read-is-named
+    is-named-requires
+    returns
+    add-k
+    loop-less
+    loop-again
+    returns-2)

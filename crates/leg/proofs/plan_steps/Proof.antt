@@ -1,0 +1,100 @@
+-- `leg::plan_steps` meets its contract. The loop's invariant: planning the steps from place k on, with the built field of the step before, leaves
+-- the sheet of the planned leg.
+-- Assumes nothing.
+use mathlib.Core.Path.{_≡_, sym, ap, _∙_}
+use Prim.Native.Nat.{_-_, _/_, _≤_}
+use native.Mathlib.Omega.{arith}
+use denote.Ref.{now}
+use lib.ListN.{length}
+use lib.Dec.{ltb}
+use borrow.Author.Needs.{needs}
+use Rattle.route.specs.Step.{stepNumber}
+use Rattle.leg.specs.Leg.{stepsOf, planned}
+use Rattle.leg.proofs.Steps.{stepsFrom, lent-step}
+use Rattle.leg.proofs.Sheet.{planFrom}
+use Rattle.leg.proofs.Step.{from-first, from-more, from-end}
+use Rattle.leg.proofs.plan_steps.Statement.{statement}
+use Rattle.leg.proofs.plan_steps.Tie as tie
+
+abbrev Inv-loop : tie.InvT-loop
+Inv-loop floor steps sheet₀ count previous₀ k₀ sheet previous k =
+    (k ≤ length steps / 8)
+    × ((length sheet ≡ 6400)
+    × ((length previous ≡ 100) × (planned floor (stepsOf steps) sheet₀ ≡ planFrom floor (stepsFrom steps k) (ltb 0 k) previous sheet)))
+
+abbrev μ-loop : tie.MeasureT-loop
+μ-loop floor steps sheet₀ count previous₀ k₀ sheet previous k = length steps / 8 - k
+
+loop-holds : tie.Need-loop-holds Inv-loop μ-loop
+loop-holds c = (omega arith, (c .before .before .before .pre .sheet-full, (search needs, from-first (now (c .before .before .before .args .floor)) (now (c .before .before .before .args .steps)) _ (now (c .before .before .before .args .sheet)) (c .before .before .before .pre))))
+
+mul-at : tie.Need-mul-at Inv-loop μ-loop
+mul-at c = omega arith
+
+add-plan-step : tie.Need-add-plan-step Inv-loop μ-loop
+add-plan-step c = omega arith
+
+sub-plan-step : tie.Need-sub-plan-step Inv-loop μ-loop
+sub-plan-step c = omega arith
+
+part-plan-step-start : tie.Need-part-plan-step-start Inv-loop μ-loop
+part-plan-step-start c = omega arith
+
+part-plan-step-end : tie.Need-part-plan-step-end Inv-loop μ-loop
+part-plan-step-end c = omega arith
+
+slice-aggregate-plan-step : tie.Need-slice-aggregate-plan-step Inv-loop μ-loop
+slice-aggregate-plan-step c = search needs
+
+plan-step-requires : tie.Need-plan-step-requires Inv-loop μ-loop
+plan-step-requires c κs = record {
+  floor-full = c .before .before .before .before .before .before .before .before .pre .floor-full;
+  sheet-full = c .before .before .before .before .loop .inv .1 .0;
+  accepted = ap stepNumber (lent-step (now (c .before .before .before .before .before .before .before .before .args .steps)) (c .before .before .before .before .loop .k)) ∙ c .before .before .before .before .before .before .before .before .pre .accepted (c .before .before .before .before .loop .k) (c .before .before .before .loop-test .taken);
+  previous-fits = λ h. c .before .before .before .before .loop .inv .1 .1 .0;
+}
+
+add-k : tie.Need-add-k Inv-loop μ-loop
+add-k c = omega arith
+
+loop-less : tie.Need-loop-less Inv-loop μ-loop
+loop-less c = omega arith
+
+loop-again : tie.Need-loop-again Inv-loop μ-loop
+loop-again c = (
+  omega arith,
+  (
+    omega arith,
+    (
+      search needs,
+      c .before .before .before .before .before .before .before .loop .inv .1 .1 .1
+          ∙ from-more (now (c .before .before .before .before .before .before .before .before .before .before .before .args .floor)) (now (c .before .before .before .before .before .before .before .before .before .before .before .args .steps)) (c .before .before .before .before .before .before .before .loop .k) (c .before .before .before .before .before .before .loop-test .taken) _ (lent-step (now (c .before .before .before .before .before .before .before .before .before .before .before .args .steps)) (c .before .before .before .before .before .before .before .loop .k)) (ltb 0 (c .before .before .before .before .before .before .before .loop .k)) (c .before .before .before .before .before .before .before .loop .previous) (c .before .before .before .before .before .before .before .loop .sheet) (c .before .before .plan-step .result) _ (c .before .before .plan-step .ensures),
+    ),
+  ),
+)
+
+same-length : tie.Need-same-length Inv-loop μ-loop
+same-length c = omega arith
+
+returns : tie.Need-returns Inv-loop μ-loop
+returns c = sym (c .before .loop .inv .1 .1 .1 ∙ from-end (now (c .before .before .before .before .before .args .floor)) (now (c .before .before .before .before .before .args .steps)) (c .before .loop .k) (omega arith) (ltb 0 (c .before .loop .k)) (c .before .loop .previous) (c .before .loop .sheet))
+
+pub plan-steps-spec : {M : Type 1} → statement M
+plan-steps-spec =
+    tie.close
+    (tie.spec
+    Inv-loop
+    μ-loop
+    loop-holds
+    mul-at
+    add-plan-step
+    sub-plan-step
+    part-plan-step-start
+    part-plan-step-end
+    slice-aggregate-plan-step
+    plan-step-requires
+    add-k
+    loop-less
+    loop-again
+    same-length
+    returns)

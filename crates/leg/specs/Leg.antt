@@ -1,0 +1,100 @@
+-- A leg (01, "A leg, the added entry"): its number, and the sheet that it leaves.
+-- Assumes nothing.
+use mathlib.Core.Bool.{Bool, true, false, cond, not, _||_}
+use mathlib.Core.List.{List, [], _∷_, _++_}
+use Prim.Native.Nat.{ℕ, zero, suc, _*_, _/_, _%_}
+use lib.Dec.{eqb, ltb}
+use lib.ListN.{length, take, drop}
+use Rattle.route.specs.Table.{Row, row, firstNumber}
+use Rattle.route.specs.Step.{sectorOf, isWindow, boundaryOf, eachStep}
+use Rattle.route.specs.Window.{below}
+use Rattle.sectors.specs.declared.Across.{Across}
+use Rattle.sectors.specs.declared.Across.the-variants.{Sector, OffFloor}
+use Rattle.sectors.specs.Floor.{across}
+use Rattle.sector.specs.Sector.{sectorField, sectorBytes}
+
+-- the 100 bytes of a sector, of a floor or of a sheet
+abbrev pub part : List ℕ → ℕ → List ℕ
+part bytes sector = take 100 (drop (sector * 100) bytes)
+
+-- the first n steps of a list of bytes, 8 bytes each
+unfoldable pub stepsIn : ℕ → List ℕ → List (List ℕ)
+stepsIn zero bytes = []
+stepsIn (suc n) bytes = take 8 bytes ∷ stepsIn n (drop 8 bytes)
+
+abbrev pub stepsOf : List ℕ → List (List ℕ)
+stepsOf bytes = stepsIn (length bytes / 8) bytes
+
+-- ---- the whole leg
+
+-- a step of the list names the sector
+abbrev pub names : ℕ → List (List ℕ) → Bool
+names sector [] = false
+names sector (s ∷ ss) = eqb (sectorOf s) sector || names sector ss
+
+-- a sector is named twice
+abbrev pub namesTwice : List (List ℕ) → Bool
+namesTwice [] = false
+namesTwice (s ∷ ss) = names (sectorOf s) ss || namesTwice ss
+
+-- a step of the list is without window
+abbrev pub someGoal : List (List ℕ) → Bool
+someGoal [] = false
+someGoal (s ∷ ss) = not (isWindow s) || someGoal ss
+
+-- 9: first step with window, later one without, or a sector named twice
+abbrev pub outOfOrder : List (List ℕ) → Bool
+outOfOrder [] = false
+outOfOrder (s ∷ ss) = isWindow s || someGoal ss || namesTwice (s ∷ ss)
+
+-- what lies across a boundary is this sector
+abbrev pub isSector : ℕ → Across → Bool
+isSector s (Sector t) = eqb t s
+isSector s OffFloor = false
+
+-- 10: the sector across the boundary is not that of the step before, or is off the floor
+abbrev pub apartFrom : List ℕ → List (List ℕ) → Bool
+apartFrom before [] = false
+apartFrom before (s ∷ ss) = not (isSector (sectorOf before) (across (sectorOf s) (boundaryOf s))) || apartFrom s ss
+
+abbrev pub apart : List (List ℕ) → Bool
+apart [] = false
+apart (s ∷ ss) = apartFrom s ss
+
+-- the table's lines for each step, one step before the next
+abbrev pub eachRows : List (List ℕ) → List Row
+eachRows [] = []
+eachRows (s ∷ ss) = row (eachStep s) (not (eqb (eachStep s) 0)) ∷ eachRows ss
+
+-- the table's lines for a leg: 1, 2, 3, each step's 4 to 8, 9, 10
+unfoldable pub legNumber : List ℕ → List ℕ → List ℕ → ℕ
+legNumber floor steps sheet =
+    firstNumber (
+    row 1 (not (eqb (length floor) 6400))
+    ∷ row 2 (not (eqb (length sheet) 6400))
+    ∷ row 3 (eqb (length steps) 0 || ltb 128 (length steps) || not (eqb (length steps % 8) 0))
+    ∷ (eachRows (stepsOf steps) ++ (row 9 (outOfOrder (stepsOf steps)) ∷ row 10 (apart (stepsOf steps)) ∷ []))
+    )
+
+-- ---- the sheet
+
+-- A sector's part of the sheet: where a step names the sector, what the sector call gives for that sector's costs, that step, and as previous
+-- field the built field of the step before (none for the first); else as it was. `has` and `previous` tell of the step before the list.
+unfoldable pub partAfter : List ℕ → List (List ℕ) → Bool → List ℕ → ℕ → List ℕ → List ℕ
+partAfter floor [] has previous sector old = old
+partAfter floor (s ∷ ss) has previous sector old =
+    cond (eqb (sectorOf s) sector) (sectorBytes (part floor sector) s has previous)
+    (partAfter floor ss true (sectorField (part floor (sectorOf s)) s .field) sector old)
+
+-- parts in the order of these sectors
+unfoldable pub partsAfter : List ℕ → List (List ℕ) → List ℕ → List ℕ → List ℕ
+partsAfter floor steps sheet [] = []
+partsAfter floor steps sheet (n ∷ ns) = partAfter floor steps false [] n (part sheet n) ++ partsAfter floor steps sheet ns
+
+-- the sheet of a planned leg
+unfoldable pub planned : List ℕ → List (List ℕ) → List ℕ → List ℕ
+planned floor steps sheet = partsAfter floor steps sheet (below 64)
+
+-- what a leg leaves of the sheet: a refused one writes nothing
+abbrev pub legSheet : List ℕ → List ℕ → List ℕ → List ℕ
+legSheet floor steps sheet = cond (eqb (legNumber floor steps sheet) 0) (planned floor (stepsOf steps) sheet) sheet

@@ -1,0 +1,51 @@
+-- What is promised of a planned leg: of each sector's part of the sheet, and demand 3 for every sector that it writes.
+-- Assumes nothing.
+use mathlib.Core.Path.{_≡_}
+use mathlib.Core.Bool.{Bool, true, false}
+use mathlib.Core.List.{List, []}
+use Prim.Native.Nat.{ℕ, zero, suc, _<_}
+use lib.ListN.{length, getD}
+use Rattle.route.specs.Step.{sectorOf}
+use Rattle.integration_field.specs.Build.{waveCount}
+use Rattle.started_field.specs.Started.{started}
+use Rattle.sector.specs.Sector.{sectorField, sectorBytes}
+use Rattle.sector.specs.Promise.{Planned}
+use Rattle.leg.specs.Leg.{part, names}
+
+-- the step at a place of the list, and the sector that it names
+abbrev pub stepOf : List (List ℕ) → ℕ → List ℕ
+stepOf steps k = getD steps k []
+
+abbrev pub sectorAt : List (List ℕ) → ℕ → ℕ
+sectorAt steps k = sectorOf (stepOf steps k)
+
+-- whether there is a step before it
+abbrev pub hasBefore : ℕ → Bool
+hasBefore zero = false
+hasBefore (suc k) = true
+
+module _ (floor : List ℕ) (steps : List (List ℕ)) where
+  -- its sector's costs, and the built costs that the sector call's definition gives for it
+  abbrev pub costsAt : ℕ → List ℕ
+  costsAt k = part floor (sectorAt steps k)
+
+  abbrev pub builtAt : ℕ → List ℕ
+  builtAt k = sectorField (costsAt k) (stepOf steps k) .field
+
+  -- the built field of the step before; none for the first
+  abbrev pub builtBefore : ℕ → List ℕ
+  builtBefore zero = []
+  builtBefore (suc k) = builtAt k
+
+  -- `before` and `after` are the sheet at entry and at exit
+  pub record LegPlanned (before after : List ℕ) : Type 0 where
+    -- each named sector's 100 bytes are what the sector call's definition gives for that sector's costs, that step, and as previous field
+    -- the built field that the definition gives for the step before (none for the first)
+    pub written : (k : ℕ) → k < length steps
+        → part after (sectorAt steps k) ≡ sectorBytes (costsAt k) (stepOf steps k) (hasBefore k) (builtBefore k)
+    -- every other byte is as it was
+    pub kept : (sector : ℕ) → names sector steps ≡ false → part after sector ≡ part before sector
+    pub same-length : length after ≡ length before
+    -- demand 3, for every sector that is written
+    pub demand3 : (k : ℕ) → k < length steps
+        → Planned (costsAt k) (stepOf steps k) (builtAt k) (waveCount (costsAt k) (started (costsAt k) (stepOf steps k))) (part after (sectorAt steps k))

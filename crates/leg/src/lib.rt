@@ -1,0 +1,212 @@
+// A leg: its number is decided before the first write; then each step is planned onto its own sector's part of the sheet.
+use sectors::Across;
+use utilities::CompassDir;
+ghost use mathlib.Core.Path.{_≡_};
+ghost use mathlib.Core.List.{List};
+ghost use Prim.Native.Nat.{ℕ, _≤_};
+ghost use lib.ListN.{length};
+ghost use Rattle.utilities.specs.Compass.{sideOf};
+ghost use Rattle.route.specs.Table.{firstNumber};
+ghost use Rattle.sectors.specs.Floor.{across};
+ghost use Rattle.leg.specs.Leg.{stepsOf, names, namesTwice, someGoal, outOfOrder, isSector, apart, eachRows, legNumber, planned, legSheet};
+ghost use Rattle.leg.specs.Plan.{StepPlanned, StepReady, LegReady};
+ghost use Rattle.leg.specs.Promise.{LegPlanned};
+
+fn wide(byte: u8) -> usize
+    ensures { λ r. ⌜ r ≡ byte ⌝ }
+{
+    byte as usize
+}
+
+// 4 to 8 for the first step that is refused, else 0.
+fn each_step(steps: &[u8]) -> u8
+    ensures { λ r. ⌜ r ≡ firstNumber (eachRows (stepsOf (now (steps .entry)))) ⌝ }
+{
+    let count = steps.len() / 8;
+    let mut k = 0;
+    while k < count {
+        let at = k * 8;
+        let number = route::step_number(&steps[at..at + 8]);
+        if number != 0 {
+            return number;
+        }
+        k += 1;
+    }
+    0
+}
+
+// Whether a step names the sector.
+fn is_named(steps: &[u8], sector: u8) -> bool
+    ensures { λ r. ⌜ r ≡ names sector (stepsOf (now (steps .entry))) ⌝ }
+{
+    let count = steps.len() / 8;
+    let mut k = 0;
+    while k < count {
+        if steps[k * 8] == sector {
+            return true;
+        }
+        k += 1;
+    }
+    false
+}
+
+// Whether a sector is named again by a later step.
+fn is_named_twice(steps: &[u8]) -> bool
+    ensures { λ r. ⌜ r ≡ namesTwice (stepsOf (now (steps .entry))) ⌝ }
+{
+    let count = steps.len() / 8;
+    let mut k = 0;
+    while k < count {
+        let at = k * 8;
+        let after = at + 8;
+        if is_named(&steps[after..], steps[at]) {
+            return true;
+        }
+        k += 1;
+    }
+    false
+}
+
+// Whether a step has no window.
+fn has_goal(steps: &[u8]) -> bool
+    ensures { λ r. ⌜ r ≡ someGoal (stepsOf (now (steps .entry))) ⌝ }
+{
+    let count = steps.len() / 8;
+    let mut k = 0;
+    while k < count {
+        if steps[k * 8 + 2] != 1 {
+            return true;
+        }
+        k += 1;
+    }
+    false
+}
+
+// Number 9's condition.
+fn is_out_of_order(steps: &[u8]) -> bool
+    requires { ⌜ 8 ≤ length (now steps) ⌝ }
+    ensures { λ r. ⌜ r ≡ outOfOrder (stepsOf (now (steps .entry))) ⌝ }
+{
+    if steps[2] == 1 {
+        return true;
+    }
+    if has_goal(&steps[8..]) {
+        return true;
+    }
+    is_named_twice(steps)
+}
+
+// Whether the sector across the boundary is this one.
+fn faces(sector: u8, boundary: u8, other: u8) -> bool
+    ensures { λ r. ⌜ r ≡ isSector other (across sector (sideOf boundary)) ⌝ }
+{
+    let side = CompassDir::from_boundary(boundary);
+    let Across::Sector(found) = sectors::get_in_compass_direction(wide(sector), side) else {
+        return false;
+    };
+    found == wide(other)
+}
+
+// Number 10's condition.
+fn is_apart(steps: &[u8]) -> bool
+    requires { ⌜ 8 ≤ length (now steps) ⌝ }
+    ensures { λ r. ⌜ r ≡ apart (stepsOf (now (steps .entry))) ⌝ }
+{
+    let count = steps.len() / 8;
+    let mut k = 1;
+    while k < count {
+        let at = k * 8;
+        if !faces(steps[at], steps[at + 5], steps[at - 8]) {
+            return true;
+        }
+        k += 1;
+    }
+    false
+}
+
+// The number of the table for a leg with a sheet of so many bytes.
+fn leg_number(floor: &[u8], steps: &[u8], sheet_length: usize) -> u8
+    ensures { λ r. ⌜ ((sheet : List ℕ) → length sheet ≡ «sheet_length» → r ≡ legNumber (now (floor .entry)) (now (steps .entry)) sheet) ⌝ }
+{
+    if floor.len() != 6400 {
+        return 1;
+    }
+    if sheet_length != 6400 {
+        return 2;
+    }
+    let length = steps.len();
+    if length == 0 {
+        return 3;
+    }
+    if 128 < length {
+        return 3;
+    }
+    if length % 8 != 0 {
+        return 3;
+    }
+    let number = each_step(steps);
+    if number != 0 {
+        return number;
+    }
+    if is_out_of_order(steps) {
+        return 9;
+    }
+    if is_apart(steps) {
+        return 10;
+    }
+    0
+}
+
+// Plans a step onto its sector's part of the sheet, and answers the built cells.
+fn plan_step(
+    floor: &[u8],
+    step: &[u8],
+    has_previous: bool,
+    previous: &[u32],
+    sheet: &mut [u8],
+) -> [u32; 100]
+    requires { ⌜ StepReady (now floor) (now step) «has_previous» (now previous) (now sheet) ⌝ }
+    ensures { λ r. ⌜ StepPlanned (now (floor .entry)) (now (step .entry)) «has_previous» (now (previous .entry)) (now (sheet .entry)) r (now (sheet .exit)) ⌝ }
+{
+    let at = wide(step[0]) * 100;
+    let costs = &floor[at..at + 100];
+    let answer = sector::plan_sector(
+        costs,
+        step,
+        has_previous,
+        previous,
+        &mut sheet[at..at + 100],
+    );
+    let built = answer.field;
+    built.field
+}
+
+// Plans the steps in order, each with the built field of the step before.
+fn plan_steps(floor: &[u8], steps: &[u8], sheet: &mut [u8])
+    requires { ⌜ LegReady (now floor) (now steps) (now sheet) ⌝ }
+    ensures { λ _. ⌜ now (sheet .exit) ≡ planned (now (floor .entry)) (stepsOf (now (steps .entry))) (now (sheet .entry)) ⌝ }
+{
+    let count = steps.len() / 8;
+    let mut previous = [0u32; 100];
+    let mut k = 0;
+    while k < count {
+        let at = k * 8;
+        let built = plan_step(floor, &steps[at..at + 8], 0 < k, &previous, sheet);
+        previous = built;
+        k += 1;
+    }
+}
+
+// The leg: 0 where it is planned, else the number with which it is refused.
+pub fn plan_leg(floor: &[u8], steps: &[u8], sheet: &mut [u8]) -> u8
+    ensures number { λ r. ⌜ r ≡ legNumber (now (floor .entry)) (now (steps .entry)) (now (sheet .entry)) ⌝ }
+    ensures sheet { λ _. ⌜ now (sheet .exit) ≡ legSheet (now (floor .entry)) (now (steps .entry)) (now (sheet .entry)) ⌝ }
+    ensures planned { λ r. ⌜ (r ≡ 0 → LegPlanned (now (floor .entry)) (stepsOf (now (steps .entry))) (now (sheet .entry)) (now (sheet .exit))) ⌝ }
+{
+    let number = leg_number(floor, steps, sheet.len());
+    if number != 0 {
+        return number;
+    }
+    plan_steps(floor, steps, sheet);
+    0
+}
