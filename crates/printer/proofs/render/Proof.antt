@@ -1,0 +1,30 @@
+use native.Mathlib.Omega.{arith}
+use denote.Ref.{now}
+use mathlib.Core.Path.{sym}
+use Rattle.printer.proofs.Laws.{rows-length}
+use borrow.Author.Tests.{eq-eqb, ne-eqb}
+use Rattle.printer.specs.Text.{rendered}
+use borrow.Author.Needs.{needs}
+use Rattle.printer.proofs.render.Statement.{statement}
+use Rattle.printer.proofs.render.Tie as tie
+
+put-no-requires : tie.Need-put-no-requires
+put-no-requires c κs = search needs
+
+returns : tie.Need-returns
+unfolding rendered
+returns c =
+    let e = ne-eqb _ _ (c .before .before .if1 .taken) in
+    ((c .put-no .ensures .0, rw e (c .put-no .ensures .1)), rw e (c .put-no .ensures .2))
+
+put-sheet-requires : tie.Need-put-sheet-requires
+put-sheet-requires c κs = search needs
+
+returns-2 : tie.Need-returns-2
+unfolding rendered
+returns-2 c =
+    let e = eq-eqb _ _ (c .before .before .if1 .left) in
+    ((omega arith, rw e (sym (rows-length (now (c .before .before .before .args .sheet)) 10))), rw e (c .put-sheet .ensures))
+
+pub render-spec : {M : Type 1} → statement M
+render-spec = tie.close (tie.spec put-no-requires returns put-sheet-requires returns-2)

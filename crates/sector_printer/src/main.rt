@@ -1,0 +1,9 @@
+// Reads 100 cost bytes and a step from standard input, and prints the flow bytes, or `no` and the number of the refusal.
+// An input longer than 108 bytes is refused whatever follows, so 109 bytes decide what is printed.
+fn main() {
+    let mut input = [0u8; 109];
+    let count = io::read_full(0, &mut input);
+    let mut out = [0u8; 210];
+    let length = printer::report(&input[..count], &mut out);
+    io::write_all(1, &out[..length]);
+}
