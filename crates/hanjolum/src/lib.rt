@@ -1,10 +1,88 @@
-// The library that others link.
+// The library that others link. Each export hands on to the call of its name, and promises the same.
 use bresenham::Line;
 use fields::FieldCell;
+use integration_field::BuildAnswer;
+use integration_field::IntegrationField;
+use line_end::LineEnd;
+use started_field::InitAnswer;
 ghost use mathlib.Core.Path.{_≡_};
+ghost use Rattle.utilities.specs.Compass.{numberOf};
 ghost use Rattle.fields.specs.Cell.{cell};
 ghost use Rattle.bresenham.specs.Line.{lineCall};
 ghost use Rattle.bresenham.specs.Nearest.{HoldsNearestLine};
+ghost use Rattle.line_end.specs.LineEnd.{lineEndAnswer};
+ghost use Rattle.integration_field.specs.Listed.{listOf};
+ghost use Rattle.integration_field.specs.Answer.{buildAnswer};
+ghost use Rattle.integration_field.specs.Promise.{LeastWalks, Counted};
+ghost use Rattle.started_field.specs.Started.{initAnswer, StartedField};
+ghost use Rattle.least_walks.specs.Promise.{OnceBuilt, BuildsStarted};
+ghost use Rattle.flow_byte.specs.Byte.{dirOf, isPathable, hasLineOfSight, isGoal, isPortalGoal, isWall};
+ghost use Rattle.arrows.specs.Promise.{BuildArrows};
+ghost use Rattle.flow_field.specs.Flow.{newNumber, newSheet, buildNumber, buildSheet};
+ghost use Rattle.sector.specs.Sector.{sectorAnswer, sectorSheet};
+ghost use Rattle.sector.specs.Promise.{Planned};
+
+// The sector call: the field that a step starts, built, and its flow bytes, or number 1, 2, 3, 4 to 8, or 12.
+#[no_mangle]
+pub extern "C" fn hanjolum_sector(
+    costs: &[u8],
+    step: &[u8],
+    has_previous: bool,
+    previous: &[u32],
+    sheet: &mut [u8],
+) -> BuildAnswer
+    ensures answer { λ r. ⌜ r ≡ sectorAnswer (now (costs .entry)) (now (step .entry)) «has_previous» (now (previous .entry)) (now (sheet .entry)) ⌝ }
+    ensures sheet { λ _. ⌜ now (sheet .exit) ≡ sectorSheet (now (costs .entry)) (now (step .entry)) «has_previous» (now (previous .entry)) (now (sheet .entry)) ⌝ }
+    ensures planned { λ r. ⌜ (r .number ≡ 0 → Planned (now (costs .entry)) (now (step .entry)) (r .field .field) (r .waves) (now (sheet .exit))) ⌝ }
+{
+    sector::plan_sector(costs, step, has_previous, previous, sheet)
+}
+
+// The field that a step starts on a sector's costs, or number 1, 3, or 4 to 8.
+#[no_mangle]
+pub extern "C" fn hanjolum_init(costs: &[u8], step: &[u8]) -> InitAnswer
+    ensures answer { λ r. ⌜ r ≡ initAnswer (now (costs .entry)) (now (step .entry)) ⌝ }
+    ensures started { λ r. ⌜ (r .number ≡ 0 → StartedField (now (costs .entry)) (now (step .entry)) (r .field)) ⌝ }
+    ensures built { λ r. ⌜ (r .number ≡ 0 → OnceBuilt (now (costs .entry)) (now (step .entry)) (r .field)) ⌝ }
+{
+    integration_init::init(costs, step)
+}
+
+// A field given by hand, built on a sector's costs, or number 1 or 11.
+#[no_mangle]
+pub extern "C" fn hanjolum_build(costs: &[u8], field: IntegrationField) -> BuildAnswer
+    ensures answer { λ r. ⌜ r ≡ buildAnswer (now (costs .entry)) field ⌝ }
+    ensures least { λ r. ⌜ (r .number ≡ 0 → LeastWalks (now (costs .entry)) (field .field) (listOf field) (r .field .field)) ⌝ }
+    ensures counted { λ r. ⌜ (r .number ≡ 0 → Counted (now (costs .entry)) (field .field) (listOf field) (r .field .field) (r .waves)) ⌝ }
+    ensures started { λ r. ⌜ BuildsStarted (now (costs .entry)) field r ⌝ }
+{
+    integration_build::build(costs, field)
+}
+
+// The flow field of a step, by hand: starting flags and the window's directions, or number 2, 3, 4 to 8, or 12.
+#[no_mangle]
+pub extern "C" fn hanjolum_flow_new(
+    step: &[u8],
+    field: IntegrationField,
+    has_previous: bool,
+    previous: &[u32],
+    sheet: &mut [u8],
+) -> u8
+    ensures number { λ r. ⌜ r ≡ newNumber (now (step .entry)) «has_previous» (now (previous .entry)) (now (sheet .entry)) ⌝ }
+    ensures sheet { λ _. ⌜ now (sheet .exit) ≡ newSheet (now (step .entry)) (field .field) «has_previous» (now (previous .entry)) (now (sheet .entry)) ⌝ }
+{
+    flow_field::new(step, field, has_previous, previous, sheet)
+}
+
+// The flow field of an integration field, by hand, from the bytes of the sheet, or number 2.
+#[no_mangle]
+pub extern "C" fn hanjolum_flow_build(field: IntegrationField, sheet: &mut [u8]) -> u8
+    ensures number { λ r. ⌜ r ≡ buildNumber (now (sheet .entry)) ⌝ }
+    ensures sheet { λ _. ⌜ now (sheet .exit) ≡ buildSheet (field .field) (now (sheet .entry)) ⌝ }
+    ensures arrows { λ _. ⌜ BuildArrows (field .field) (now (sheet .entry)) (now (sheet .exit)) ⌝ }
+{
+    flow_field::build(field, sheet)
+}
 
 // The line from one cell to another: its cells and their count, or number 13.
 #[no_mangle]
@@ -26,4 +104,74 @@ pub extern "C" fn hanjolum_line(
         row: target_row,
     };
     bresenham::get_cells_between_points(source, target)
+}
+
+// Where the line of a corner ends, away from the goal, or number 13.
+#[no_mangle]
+pub extern "C" fn hanjolum_line_end(
+    corner_column: usize,
+    corner_row: usize,
+    goal_column: usize,
+    goal_row: usize,
+) -> LineEnd
+    ensures { λ r. ⌜ r ≡ lineEndAnswer (cell «corner_column» «corner_row») (cell «goal_column» «goal_row») ⌝ }
+{
+    let corner = FieldCell {
+        column: corner_column,
+        row: corner_row,
+    };
+    let goal = FieldCell {
+        column: goal_column,
+        row: goal_row,
+    };
+    line_end::check_los_corner_propagation(corner, goal)
+}
+
+// A cell can be walked.
+#[no_mangle]
+pub extern "C" fn hanjolum_is_pathable(byte: u8) -> bool
+    ensures { λ r. ⌜ r ≡ isPathable byte ⌝ }
+{
+    flow_byte::is_pathable(byte)
+}
+
+// A cell is the goal.
+#[no_mangle]
+pub extern "C" fn hanjolum_is_goal(byte: u8) -> bool
+    ensures { λ r. ⌜ r ≡ isGoal byte ⌝ }
+{
+    flow_byte::is_goal(byte)
+}
+
+// A cell leads into the next sector.
+#[no_mangle]
+pub extern "C" fn hanjolum_is_portal_goal(byte: u8) -> bool
+    ensures { λ r. ⌜ r ≡ isPortalGoal byte ⌝ }
+{
+    flow_byte::is_portal_goal(byte)
+}
+
+// A cell has the goal in sight.
+#[no_mangle]
+pub extern "C" fn hanjolum_has_line_of_sight(byte: u8) -> bool
+    ensures { λ r. ⌜ r ≡ hasLineOfSight byte ⌝ }
+{
+    flow_byte::has_line_of_sight(byte)
+}
+
+// A cell is a wall.
+#[no_mangle]
+pub extern "C" fn hanjolum_is_wall(byte: u8) -> bool
+    ensures { λ r. ⌜ r ≡ isWall byte ⌝ }
+{
+    flow_byte::is_wall(byte)
+}
+
+// The number of the direction that a byte names: 0 North to 7 NorthWest, 8 none.
+#[no_mangle]
+pub extern "C" fn hanjolum_get_compass_dir_from_bits(byte: u8) -> u8
+    ensures { λ r. ⌜ r ≡ numberOf (dirOf byte) ⌝ }
+{
+    let dir = flow_byte::get_compass_dir_from_bits(byte);
+    dir.number()
 }

@@ -1,0 +1,92 @@
+/*
+ * Plans a leg over three sectors and prints the arrows of each, from the goal's sector back to the cart's.
+ *
+ *     rt staticlib hanjolum && cc -Iinclude examples/leg.c target/staticlib/libhanjolum.a -o target/leg && target/leg
+ */
+#include <stdio.h>
+#include <string.h>
+
+#include "hanjolum.h"
+
+enum { SECTORS = 3 };
+
+/* The goal is in sector 9. Sector 10, east of it, is left by its west window; sector 18, south of 10, by its north. */
+static const uint8_t STEPS[SECTORS][HANJOLUM_STEP] = {
+    {9, 44, 0, 0, 0, 0, 0, 0},
+    {10, 0, 1, 30, 60, 3, 0, 0},
+    {18, 0, 1, 3, 6, 0, 0, 0},
+};
+
+/* Their cells, a row a line: '#' a wall, '.' a cost of 1. */
+static const char *const DRAWN[SECTORS] = {
+    ".........."
+    ".........."
+    "..####...."
+    ".....#...."
+    ".....#...."
+    ".....#...."
+    ".........."
+    ".........."
+    "...####..."
+    "..........",
+    "#........."
+    "#........."
+    "#...##...."
+    "....##...."
+    "....##...."
+    ".........."
+    ".........."
+    "#........."
+    "#....###.."
+    "#.........",
+    "###....###"
+    ".........."
+    ".........."
+    "..######.."
+    ".......#.."
+    ".......#.."
+    "..######.."
+    ".........."
+    ".........."
+    "..........",
+};
+
+static const char *const ARROWS[] = {"↑", "→", "↓", "←", "↗", "↘", "↙", "↖"};
+
+static const char *shown(uint8_t byte)
+{
+    uint8_t direction = hanjolum_get_compass_dir_from_bits(byte);
+    if (direction != HANJOLUM_ZERO)
+        return ARROWS[direction];
+    if (hanjolum_is_wall(byte))
+        return "█";
+    return hanjolum_is_goal(byte) ? "G" : "*";
+}
+
+static void print_sector(const uint8_t *sheet, int sector)
+{
+    printf("sector %d\n", sector);
+    for (int cell = 0; cell < HANJOLUM_CELLS; cell++)
+        printf("%s%s", shown(sheet[sector * HANJOLUM_CELLS + cell]), cell % 10 == 9 ? "\n" : " ");
+    printf("\n");
+}
+
+int main(void)
+{
+    static uint8_t floor[HANJOLUM_FLOOR];
+    static uint8_t sheet[HANJOLUM_FLOOR];
+    memset(floor, 1, sizeof floor);
+    for (int i = 0; i < SECTORS; i++)
+        for (int cell = 0; cell < HANJOLUM_CELLS; cell++)
+            if (DRAWN[i][cell] == '#')
+                floor[STEPS[i][0] * HANJOLUM_CELLS + cell] = HANJOLUM_WALL;
+
+    uint8_t number = hanjolum_leg(floor, sizeof floor, &STEPS[0][0], sizeof STEPS, sheet, sizeof sheet);
+    if (number != 0) {
+        fprintf(stderr, "refused with number %d\n", number);
+        return 1;
+    }
+    for (int i = 0; i < SECTORS; i++)
+        print_sector(sheet, STEPS[i][0]);
+    return 0;
+}

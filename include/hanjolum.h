@@ -1,0 +1,251 @@
+/*
+ * Hanjolum: integration fields and flow fields of a sector, and legs over several sectors.
+ *
+ * Link libhanjolum.a (x86-64; it needs memcpy, memmove and memset, and nothing else).
+ *
+ * Memory.  All memory is the caller's and is lent for the time of the call: no pointer is kept, nothing is allocated,
+ * there are no globals. Every function may be called from several threads at once, each with a sheet of its own.
+ * Read-only memory (`const`) may be shared between arguments and between threads; it must not change during the call.
+ * A sheet must not overlap any other argument.
+ *
+ * Slices.  A pointer and behind it its length, in elements. A length other than the one that a function asks for is
+ * refused, never read past. Where the length is 0 the pointer may be anything, NULL too. Pointers are aligned as in C.
+ *
+ * Fields and answers pass by value: a field is 1,208 bytes, and the compiler copies it to the stack. Padding between the
+ * parts of an answer is not set: compare its parts, not its bytes.
+ *
+ * Floating point.  Sight uses single precision, rounded to nearest: leave the processor's mode as a C program starts.
+ *
+ * Cells.  A sector is ten by ten cells; the cell at a column and a row has the index row * 10 + column, row 0 is north.
+ * A cost field is 100 cost bytes by index; 255 is a wall. A sheet of a sector is 100 flow bytes by index.
+ * A floor is 64 sectors of 100 cost bytes one after the other, sector s at column s % 8 and row s / 8 of the floor;
+ * a floor's sheet is laid out alike.
+ *
+ * Steps.  A step is 8 bytes:
+ *     0      sector, 0 to 63
+ *     1      goal cell, 0 to 99 (not read where the mark is 1)
+ *     2      mark: 0 a goal, 1 a window
+ *     3, 4   first and last cell of the window, on the edge that byte 5 names (not read where the mark is 0)
+ *     5      boundary that the window leads across: 0 North, 1 East, 2 South, 3 West (not read where the mark is 0)
+ *     6, 7   0
+ *
+ * Refusals.  An accepted call answers 0. A refused one answers the number of the first line below that holds, writes not
+ * one byte of the sheet, and has every other part of its answer zero.
+ *     1   cost bytes not 100 (leg: 6,400)
+ *     2   sheet not 100 bytes (leg: 6,400)
+ *     3   step not 8 bytes (leg: none, over 128, or no multiple of 8)
+ *     4   sector over 63, mark over 1, or byte 6 or 7 not 0
+ *     5   mark 0: goal over 99
+ *     6   mark 1: a window cell over 99, or boundary over 3
+ *     7   mark 1: a window cell off the named edge (North row 0, East column 9, South row 9, West column 0)
+ *     8   mark 1: first cell after last
+ *     9   leg: first step with a window, later one without, or a sector named twice
+ *     10  leg: the sector across the boundary is not that of the step before, or is off the floor
+ *     11  building by hand: corner count over 100, or a listed corner over 99
+ *     12  a previous field lent as other than 100 numbers
+ *     13  a column or row outside 0 to 9
+ * In a leg 4 to 8 are judged for one step before the next.
+ *
+ * Time and stack.  Every call ends, on all input. Each wave is one call on the stack, of 5,728 bytes in the compiled
+ * archive; there are at most 101 at a time, so that a leg stays below 600,000 bytes. Deepest stack measured: 354,472
+ * bytes, in legs of sixteen steps over floors searched for many waves (59 in the worst sector), on a painted stack
+ * (tools/stack/stack.c). Give a thread that calls sector, leg, init or build 1 MB.
+ */
+#ifndef HANJOLUM_H
+#define HANJOLUM_H
+
+#include <stdbool.h>
+#include <stddef.h>
+#include <stdint.h>
+
+#if SIZE_MAX != UINT64_MAX
+#error "libhanjolum.a is for x86-64: size_t has 64 bits there"
+#endif
+
+#ifdef __cplusplus
+extern "C" {
+#endif
+
+enum {
+    HANJOLUM_CELLS = 100,      /* cells of a sector: its cost bytes, and the bytes of its sheet */
+    HANJOLUM_STEP = 8,         /* bytes of a step */
+    HANJOLUM_STEPS = 16,       /* steps of a leg, at most */
+    HANJOLUM_SECTORS = 64,     /* sectors of a floor */
+    HANJOLUM_FLOOR = 6400,     /* bytes of a floor, and of its sheet */
+    HANJOLUM_WALL = 255        /* the cost byte of a wall */
+};
+
+/* A cell of an integration field: its cost in the low 16 bits (65535: not reached), flags above. */
+#define HANJOLUM_FIELD_COST 0xffffu
+#define HANJOLUM_FIELD_LOS 0x10000u         /* the goal is in sight */
+#define HANJOLUM_FIELD_GOAL 0x20000u
+#define HANJOLUM_FIELD_BLOCKED 0x40000u     /* sight does not pass */
+#define HANJOLUM_FIELD_PORTAL 0x80000u      /* a window cell */
+#define HANJOLUM_FIELD_IMPASSABLE 0x2000000u
+#define HANJOLUM_FIELD_CORNER 0x4000000u
+
+/* A flow byte: the direction to walk in below, flags above. Diagonals are sums: north-east is 3. */
+#define HANJOLUM_FLOW_NORTH 0x01u
+#define HANJOLUM_FLOW_EAST 0x02u
+#define HANJOLUM_FLOW_SOUTH 0x04u
+#define HANJOLUM_FLOW_WEST 0x08u
+#define HANJOLUM_FLOW_PATHABLE 0x10u
+#define HANJOLUM_FLOW_HAS_LOS 0x20u
+#define HANJOLUM_FLOW_GOAL 0x40u
+#define HANJOLUM_FLOW_PORTAL_GOAL 0x80u
+#define HANJOLUM_FLOW_IMPASSABLE 0xe0u      /* all three, and no PATHABLE: a wall, or a cell that nothing reaches */
+
+/* What hanjolum_get_compass_dir_from_bits answers. */
+enum {
+    HANJOLUM_NORTH = 0,
+    HANJOLUM_EAST = 1,
+    HANJOLUM_SOUTH = 2,
+    HANJOLUM_WEST = 3,
+    HANJOLUM_NORTH_EAST = 4,
+    HANJOLUM_SOUTH_EAST = 5,
+    HANJOLUM_SOUTH_WEST = 6,
+    HANJOLUM_NORTH_WEST = 7,
+    HANJOLUM_ZERO = 8
+};
+
+/* 100 cells by index, and the indexes of the corners that building starts from: `count` of them, 0 beyond. */
+typedef struct {
+    uint32_t field[100];
+    size_t los_corners[100];
+    size_t count;
+} HanjolumIntegrationField;
+
+typedef struct {
+    uint8_t number;
+    HanjolumIntegrationField field;     /* the started field */
+} HanjolumInitAnswer;
+
+typedef struct {
+    uint8_t number;
+    HanjolumIntegrationField field;     /* the built field */
+    size_t waves;                       /* how many waves changed a cell */
+} HanjolumBuildAnswer;
+
+typedef struct {
+    size_t column;
+    size_t row;
+} HanjolumFieldCell;
+
+typedef struct {
+    uint8_t number;
+    HanjolumFieldCell cells[10];        /* `count` cells from source to target, 0 in the places beyond */
+    size_t count;
+} HanjolumLine;
+
+typedef struct {
+    uint8_t number;
+    HanjolumFieldCell cell;
+} HanjolumLineEnd;
+
+/*
+ * Plans one sector: starts the field of a step on 100 cost bytes, builds it, and writes its 100 flow bytes to the sheet,
+ * whatever they were before. Answers the built field and its wave count.
+ * With has_previous, previous is the 100 cells of the built field of the sector across the window; each window cell then
+ * points at the cheapest of the cells that it faces. Without, previous is not read and each window cell points straight
+ * across the boundary.
+ * With a window, and no cost of 0, the arrows lead from every reached cell into the window in at most 99 moves, over no
+ * wall and between no two walls. With a goal that is not promised: behind a wall two arrows may point at each other.
+ * Numbers 1, 2, 3, 4 to 8, 12.
+ */
+HanjolumBuildAnswer hanjolum_sector(
+    const uint8_t *costs, size_t costs_length,
+    const uint8_t *step, size_t step_length,
+    bool has_previous,
+    const uint32_t *previous, size_t previous_length,
+    uint8_t *sheet, size_t sheet_length);
+
+/*
+ * Plans a leg of 1 to 16 steps over a floor, from the goal back: the first step has the goal, each later one a window
+ * that faces the sector of the step before it in the list. Writes the 100 bytes of each named sector to the sheet, at
+ * sector * 100; all other bytes of the sheet stay as they were. All refusals come before the first write.
+ * Answers its number: 0, or 1 to 10.
+ */
+uint8_t hanjolum_leg(
+    const uint8_t *floor, size_t floor_length,
+    const uint8_t *steps, size_t steps_length,
+    uint8_t *sheet, size_t sheet_length);
+
+/*
+ * The field that a step starts on 100 cost bytes: walls, and the goal with what is in its sight, or the window cells.
+ * Numbers 1, 3, 4 to 8.
+ */
+HanjolumInitAnswer hanjolum_init(
+    const uint8_t *costs, size_t costs_length,
+    const uint8_t *step, size_t step_length);
+
+/*
+ * A field, started by hanjolum_init or given by hand, built on 100 cost bytes. Walls are the cells with IMPASSABLE,
+ * whatever they cost. Places of the corner list beyond the count are not read.
+ * Numbers 1, 11.
+ */
+HanjolumBuildAnswer hanjolum_build(
+    const uint8_t *costs, size_t costs_length,
+    HanjolumIntegrationField field);
+
+/*
+ * Writes the first flow bytes of a built field to a sheet of 100, whatever it held: each cell's flags, and the
+ * directions of the step's window cells. previous is as in hanjolum_sector. The field's corner list is not read.
+ * Answers its number: 0, or 2, 3, 4 to 8, 12.
+ */
+uint8_t hanjolum_flow_new(
+    const uint8_t *step, size_t step_length,
+    HanjolumIntegrationField field,
+    bool has_previous,
+    const uint32_t *previous, size_t previous_length,
+    uint8_t *sheet, size_t sheet_length);
+
+/*
+ * Gives each cell of a sheet of 100 that has neither PATHABLE nor all of IMPASSABLE its direction in a built field.
+ * Other bytes stay: the sheet is read, so let hanjolum_flow_new write it first. The field's corner list is not read.
+ * Answers its number: 0, or 2.
+ */
+uint8_t hanjolum_flow_build(
+    HanjolumIntegrationField field,
+    uint8_t *sheet, size_t sheet_length);
+
+/*
+ * The cells of the line from a source to a target, both among them: 1 to 10 cells.
+ * Number 13.
+ */
+HanjolumLine hanjolum_line(size_t source_column, size_t source_row, size_t target_column, size_t target_row);
+
+/*
+ * The cell at the edge of the sector in which the line of a corner, away from the goal, ends.
+ * Number 13.
+ */
+HanjolumLineEnd hanjolum_line_end(size_t corner_column, size_t corner_row, size_t goal_column, size_t goal_row);
+
+/*
+ * The readers of a flow byte, for any byte. In the sector of a goal a cell beside one that nothing reaches may hold 0xF0
+ * plus a direction: it reads as goal, portal goal and in sight, as it does in the reference. Read the direction first:
+ * a goal and a cell in sight have none.
+ */
+
+/* The cell can be walked. */
+bool hanjolum_is_pathable(uint8_t byte);
+
+/* The cell is the goal. */
+bool hanjolum_is_goal(uint8_t byte);
+
+/* The cell leads into the next sector. */
+bool hanjolum_is_portal_goal(uint8_t byte);
+
+/* The goal is in sight: a cart heads straight for it. */
+bool hanjolum_has_line_of_sight(uint8_t byte);
+
+/* The cell is a wall, or nothing reaches it. */
+bool hanjolum_is_wall(uint8_t byte);
+
+/* The direction to walk in, HANJOLUM_NORTH to HANJOLUM_NORTH_WEST; HANJOLUM_ZERO where the byte has none. */
+uint8_t hanjolum_get_compass_dir_from_bits(uint8_t byte);
+
+#ifdef __cplusplus
+}
+#endif
+
+#endif

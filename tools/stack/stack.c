@@ -1,0 +1,115 @@
+/*
+ * The deepest stack of a leg: plans legs of sixteen steps on a painted stack and looks how far down the paint is gone.
+ * The floors are hard: sectors are changed cell by cell, and a change is kept where the waves do not become fewer.
+ *
+ *     rt staticlib hanjolum
+ *     cc -pthread -Iinclude tools/stack/stack.c target/staticlib/libhanjolum.a -o target/stack && target/stack
+ */
+#define _XOPEN_SOURCE 700
+#include <pthread.h>
+#include <stdio.h>
+#include <stdlib.h>
+#include <string.h>
+
+#include "hanjolum.h"
+
+enum { STACK = 8 << 20, PAINT = 0xa5, CHANGES = 20000, LEGS = 30 };
+
+static uint8_t floor_costs[HANJOLUM_FLOOR];
+static uint8_t sheet[HANJOLUM_FLOOR];
+static uint8_t steps[HANJOLUM_STEPS * HANJOLUM_STEP];
+static uintptr_t before;
+static uint8_t number;
+
+/* A walk over the first two rows of sectors, out and back: each step leaves for the sector before it. */
+static void make_steps(void)
+{
+    static const uint8_t EDGES[4][2] = {{0, 9}, {9, 99}, {90, 99}, {0, 90}};
+    memset(steps, 0, sizeof steps);
+    steps[1] = (uint8_t)(rand() % 100);
+    for (int i = 0; i < HANJOLUM_STEPS; i++) {
+        uint8_t *step = steps + i * HANJOLUM_STEP;
+        uint8_t boundary = i < 8 ? 3 : i == 8 ? 0 : 1;
+        int stride = boundary % 2 == 0 ? 1 : 10;
+        int at = rand() % 10;
+        step[0] = (uint8_t)(i < 8 ? i : 23 - i);
+        if (i == 0)
+            continue;
+        step[2] = 1;
+        step[3] = (uint8_t)(EDGES[boundary][0] + at * stride);
+        step[4] = (uint8_t)(step[3] + rand() % (10 - at) * (rand() % 2) * stride);
+        step[5] = boundary;
+    }
+}
+
+static size_t waves_of(const uint8_t *costs, const uint8_t *step)
+{
+    uint8_t scratch[HANJOLUM_CELLS];
+    return hanjolum_sector(costs, HANJOLUM_CELLS, step, HANJOLUM_STEP, false, NULL, 0, scratch, sizeof scratch).waves;
+}
+
+/* Changes a sector's costs until its field takes many waves; answers how many. */
+static size_t harden(uint8_t *costs, const uint8_t *step)
+{
+    static const uint8_t COSTS[4] = {1, HANJOLUM_WALL, 254, 2};
+    size_t most = waves_of(costs, step);
+    for (int i = 0; i < CHANGES; i++) {
+        uint8_t *cell = costs + rand() % HANJOLUM_CELLS;
+        uint8_t old = *cell;
+        *cell = COSTS[rand() % 4];
+        size_t waves = waves_of(costs, step);
+        if (waves < most)
+            *cell = old;
+        else
+            most = waves;
+    }
+    return most;
+}
+
+static void *plan(void *unused)
+{
+    before = (uintptr_t)__builtin_frame_address(0);
+    number = hanjolum_leg(floor_costs, sizeof floor_costs, steps, sizeof steps, sheet, sizeof sheet);
+    return unused;
+}
+
+/* How many bytes of its stack a leg uses. */
+static size_t depth(uint8_t *stack)
+{
+    pthread_t thread;
+    pthread_attr_t attributes;
+    size_t paint = 0;
+    memset(stack, PAINT, STACK);
+    pthread_attr_init(&attributes);
+    pthread_attr_setstack(&attributes, stack, STACK);
+    if (pthread_create(&thread, &attributes, plan, NULL) != 0)
+        exit(1);
+    pthread_join(thread, NULL);
+    pthread_attr_destroy(&attributes);
+    while (stack[paint] == PAINT)
+        paint++;
+    return before - (uintptr_t)(stack + paint);
+}
+
+int main(void)
+{
+    uint8_t *stack = aligned_alloc(4096, STACK);
+    size_t deepest = 0;
+    size_t most = 0;
+    srand(1);
+    for (int leg = 0; stack != NULL && leg < LEGS; leg++) {
+        make_steps();
+        memset(floor_costs, 1, sizeof floor_costs);
+        for (int i = leg % 2; i < HANJOLUM_STEPS; i += 4) {
+            size_t waves = harden(floor_costs + steps[i * 8] * HANJOLUM_CELLS, steps + i * HANJOLUM_STEP);
+            most = waves > most ? waves : most;
+        }
+        size_t used = depth(stack);
+        deepest = used > deepest ? used : deepest;
+        if (number != 0)
+            printf("refused with number %d\n", number);
+    }
+    printf("%zu bytes of stack at most, with %zu waves\n", deepest, most);
+    free(stack);
+    return stack == NULL;
+}
