@@ -1,0 +1,47 @@
+use native.Mathlib.Omega.{arith}
+use Prim.Native.Nat.{_≤_, _<_, _-_}
+use mathlib.Core.Path.{_≡_, refl, _∙_}
+use lib.ListN.{length, length-set}
+use Rattle.replay.proofs.bytes.hundred.Statement.{statement}
+use Rattle.replay.proofs.bytes.hundred.Tie as tie
+
+abbrev Inv-loop : tie.InvT-loop
+Inv-loop bytes list₀ i₀ list i = (i ≤ 100) × (length list ≡ 100)
+
+abbrev μ-loop : tie.MeasureT-loop
+μ-loop bytes list₀ i₀ list i = 100 - i
+
+loop-holds : tie.Need-loop-holds Inv-loop μ-loop
+loop-holds c = (omega arith, refl)
+
+shared-slice-read-list : tie.Need-shared-slice-read-list Inv-loop μ-loop
+shared-slice-read-list c = omega arith
+
+array-write-list : tie.Need-array-write-list Inv-loop μ-loop
+array-write-list c = omega arith
+
+add-i : tie.Need-add-i Inv-loop μ-loop
+add-i c = omega arith
+
+loop-less : tie.Need-loop-less Inv-loop μ-loop
+loop-less c = omega arith
+
+loop-again : tie.Need-loop-again Inv-loop μ-loop
+loop-again c = (omega arith, simp length-set (c .before .before .loop .inv .1))
+
+returns : tie.Need-returns Inv-loop μ-loop
+returns c = c .before .loop .inv .1
+
+pub hundred-spec : {M : Type 1} → statement M
+hundred-spec =
+    tie.close
+    (tie.spec
+    Inv-loop
+    μ-loop
+    loop-holds
+    shared-slice-read-list
+    array-write-list
+    add-i
+    loop-less
+    loop-again
+    returns)

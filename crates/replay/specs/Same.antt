@@ -1,0 +1,18 @@
+-- What it is for a list to agree with recorded bytes.
+-- Assumes nothing.
+use mathlib.Core.Path.{_≡_}
+use mathlib.Core.List.{List}
+use Prim.Native.Nat.{ℕ, _+_, _*_, _<_}
+use lib.ListN.{getD}
+
+-- the number of 32 bits at a place, its lowest byte first
+unfoldable pub wordAt : List ℕ → ℕ → ℕ
+wordAt bytes at = getD bytes at 0 + 256 * getD bytes (at + 1) 0 + 65536 * getD bytes (at + 2) 0 + 16777216 * getD bytes (at + 3) 0
+
+-- the first numbers of a list are those that stand as bytes
+abbrev pub SameBytes : ℕ → List ℕ → List ℕ → Type 0
+SameBytes n list bytes = (i : ℕ) → i < n → getD list i 0 ≡ getD bytes i 0
+
+-- the first numbers of a list are those that stand as four bytes each
+abbrev pub SameWords : ℕ → List ℕ → List ℕ → Type 0
+SameWords n list bytes = (i : ℕ) → i < n → getD list i 0 ≡ wordAt bytes (4 * i)

@@ -1,0 +1,99 @@
+// Compares our calls with recorded answers of the Rust, a file for each section: prints how many records agree and a sum
+// of all their bytes, or the first record that differs.
+mod bytes;
+mod flow;
+mod integration;
+mod lines;
+
+ghost use Prim.Native.Nat.{_≤_, _<_};
+
+// How many records agree, a sum of their bytes, and whether the next one differs.
+struct Tally {
+    agreed: u64,
+    sum: u64,
+    differs: bool,
+}
+
+// Whether the calls answer what a record of a section says.
+fn agrees(section: u8, record: &[u8]) -> bool {
+    match section {
+        0 => lines::line_agrees(record),
+        1 => lines::line_end_agrees(record),
+        2 => flow::readers_agree(record),
+        3 => integration::init_agrees(record),
+        4 => integration::build_agrees(record),
+        5 => flow::new_agrees(record),
+        6 => flow::build_agrees(record),
+        7 => integration::sector_agrees(record),
+        _ => false,
+    }
+}
+
+// Compares record after record. No file has a million, and a proved loop has to end.
+fn compare(section: u8, file: i32, record: &mut [u8]) -> Tally {
+    let mut agreed: u64 = 0;
+    let mut sum: u64 = 0;
+    while agreed < 1000000 {
+        let read = io::read_full(file, record);
+        if read == 0 {
+            return Tally {
+                agreed,
+                sum,
+                differs: false,
+            };
+        }
+        if read != record.len() {
+            break;
+        }
+        sum = bytes::summed(sum, record);
+        if !agrees(section, record) {
+            break;
+        }
+        agreed += 1;
+    }
+    Tally {
+        agreed,
+        sum,
+        differs: true,
+    }
+}
+
+fn print_tally(name: &[u8], counted: Tally) {
+    io::write_all(1, name);
+    if counted.differs {
+        io::write_all(1, b": the record after these differs: ");
+    } else {
+        io::write_all(1, b": records that agree: ");
+    }
+    io::print_decimal(1, counted.agreed);
+    io::write_all(1, b", sum of their bytes: ");
+    io::print_decimal(1, counted.sum);
+    io::write_all(1, b"\n");
+}
+
+// A section, whose records are as long as `record`.
+fn replay(section: u8, name: &[u8], record: &mut [u8]) {
+    let file = os::open_read(name);
+    let counted = compare(section, file, record);
+    libc::close(file);
+    print_tally(name, counted);
+}
+
+fn main() {
+    let mut line = [0u8; 16];
+    replay(0, b"line", &mut line);
+    let mut line_end = [0u8; 8];
+    replay(1, b"line_end", &mut line_end);
+    let mut readers = [0u8; 8];
+    replay(2, b"readers", &mut readers);
+    let mut init = [0u8; 610];
+    replay(3, b"init", &mut init);
+    let mut build = [0u8; 1104];
+    replay(4, b"build", &mut build);
+    let mut flow_new = [0u8; 910];
+    replay(5, b"flow_new", &mut flow_new);
+    let mut flow_build = [0u8; 601];
+    replay(6, b"flow_build", &mut flow_build);
+    let mut sector = [0u8; 1112];
+    replay(7, b"sector", &mut sector);
+}
