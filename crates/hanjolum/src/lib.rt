@@ -21,6 +21,8 @@ ghost use Rattle.arrows.specs.Promise.{BuildArrows};
 ghost use Rattle.flow_field.specs.Flow.{newNumber, newSheet, buildNumber, buildSheet};
 ghost use Rattle.sector.specs.Sector.{sectorAnswer, sectorSheet};
 ghost use Rattle.sector.specs.Promise.{Planned};
+ghost use Rattle.leg.specs.Leg.{stepsOf, legNumber, legSheet};
+ghost use Rattle.leg.specs.Promise.{LegPlanned};
 
 // The sector call: the field that a step starts, built, and its flow bytes, or number 1, 2, 3, 4 to 8, or 12.
 #[no_mangle]
@@ -36,6 +38,16 @@ pub extern "C" fn hanjolum_sector(
     ensures planned { λ r. ⌜ (r .number ≡ 0 → Planned (now (costs .entry)) (now (step .entry)) (r .field .field) (r .waves) (now (sheet .exit))) ⌝ }
 {
     sector::plan_sector(costs, step, has_previous, previous, sheet)
+}
+
+// A leg of one to sixteen steps, planned onto the sheet of a floor: 0, or number 1 to 10.
+#[no_mangle]
+pub extern "C" fn hanjolum_leg(floor: &[u8], steps: &[u8], sheet: &mut [u8]) -> u8
+    ensures number { λ r. ⌜ r ≡ legNumber (now (floor .entry)) (now (steps .entry)) (now (sheet .entry)) ⌝ }
+    ensures sheet { λ _. ⌜ now (sheet .exit) ≡ legSheet (now (floor .entry)) (now (steps .entry)) (now (sheet .entry)) ⌝ }
+    ensures planned { λ r. ⌜ (r ≡ 0 → LegPlanned (now (floor .entry)) (stepsOf (now (steps .entry))) (now (sheet .entry)) (now (sheet .exit))) ⌝ }
+{
+    leg::plan_leg(floor, steps, sheet)
 }
 
 // The field that a step starts on a sector's costs, or number 1, 3, or 4 to 8.
