@@ -18,6 +18,16 @@ pub fn size(byte: u8) -> usize
     byte as usize
 }
 
+// The number of 16 bits at a place, its lowest byte first.
+pub fn short(bytes: &[u8], at: usize) -> usize
+    requires { ⌜ at + 2 ≤ length (now bytes) ⌝ }
+    ensures { λ r. ⌜ r < 65536 ⌝ }
+{
+    let first = size(bytes[at]);
+    let second = size(bytes[at + 1]);
+    first + 256 * second
+}
+
 // A sum of bytes that the change of any one of them changes: 257 and the modulus, a prime, share no factor.
 pub fn summed(before: u64, bytes: &[u8]) -> u64 {
     let mut sum = before % 4294967291;

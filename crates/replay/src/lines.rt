@@ -15,7 +15,7 @@ pub fn cell_at(bytes: &[u8], at: usize) -> FieldCell
 }
 
 // The cells of a line and the indexes recorded for it.
-fn same_cells(cells: [FieldCell; 10], indexes: &[u8]) -> bool
+pub fn same_cells(cells: [FieldCell; 10], indexes: &[u8]) -> bool
     requires { ⌜ length (now indexes) ≡ 10 ⌝ }
 {
     let mut i = 0;

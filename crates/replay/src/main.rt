@@ -3,11 +3,13 @@
 mod bytes;
 mod flow;
 mod integration;
+mod legs;
 mod lines;
+mod refusals;
 
 ghost use Prim.Native.Nat.{_≤_, _<_};
 
-// How many records agree, a sum of their bytes, and whether the next one differs.
+// How many records agree, a sum of the bytes that were read, and whether the next record differs.
 struct Tally {
     agreed: u64,
     sum: u64,
@@ -25,6 +27,8 @@ fn agrees(section: u8, record: &[u8]) -> bool {
         5 => flow::new_agrees(record),
         6 => flow::build_agrees(record),
         7 => integration::sector_agrees(record),
+        8 => legs::leg_agrees(record),
+        9 => refusals::refusal_agrees(record),
         _ => false,
     }
 }
@@ -61,12 +65,12 @@ fn compare(section: u8, file: i32, record: &mut [u8]) -> Tally {
 fn print_tally(name: &[u8], counted: Tally) {
     io::write_all(1, name);
     if counted.differs {
-        io::write_all(1, b": the record after these differs: ");
+        io::write_all(1, b": records that agree before one that differs: ");
     } else {
         io::write_all(1, b": records that agree: ");
     }
     io::print_decimal(1, counted.agreed);
-    io::write_all(1, b", sum of their bytes: ");
+    io::write_all(1, b", sum of the bytes: ");
     io::print_decimal(1, counted.sum);
     io::write_all(1, b"\n");
 }
@@ -96,4 +100,8 @@ fn main() {
     replay(6, b"flow_build", &mut flow_build);
     let mut sector = [0u8; 1112];
     replay(7, b"sector", &mut sector);
+    let mut leg = [0u8; 3330];
+    replay(8, b"leg", &mut leg);
+    let mut refusals = [0u8; 160];
+    replay(9, b"refusals", &mut refusals);
 }

@@ -1,0 +1,42 @@
+use lib.ListN.{length-take, length-replicate}
+use native.Mathlib.Omega.{arith}
+use borrow.Author.Needs.{needs}
+use Rattle.replay.proofs.refusals.new_refuses.Statement.{statement}
+use Rattle.replay.proofs.refusals.new_refuses.Tie as tie
+
+returns : tie.Need-returns
+returns c = search needs
+
+zeros-requires : tie.Need-zeros-requires
+zeros-requires c κs = search needs
+
+array-borrow-prefix-sheet : tie.Need-array-borrow-prefix-sheet
+array-borrow-prefix-sheet c = search needs
+
+slice-aggregate-new : tie.Need-slice-aggregate-new
+slice-aggregate-new c = simp (length-take, length-replicate) (omega arith)
+
+new-requires : tie.Need-new-requires
+new-requires c κs = search needs
+
+untouched-requires : tie.Need-untouched-requires
+untouched-requires c κs = search needs
+
+settled-requires : tie.Need-settled-requires
+settled-requires c κs = search needs
+
+returns-2 : tie.Need-returns-2
+returns-2 c = search needs
+
+pub new-refuses-spec : {M : Type 1} → statement M
+new-refuses-spec =
+    tie.close
+    (tie.spec
+    returns
+    zeros-requires
+    array-borrow-prefix-sheet
+    slice-aggregate-new
+    new-requires
+    untouched-requires
+    settled-requires
+    returns-2)
