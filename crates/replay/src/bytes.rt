@@ -3,7 +3,7 @@ ghost use Prim.Native.Nat.{_+_, _*_, _≤_, _<_};
 ghost use mathlib.Core.Path.{_≡_};
 ghost use mathlib.Core.Bool.{true};
 ghost use lib.ListN.{length};
-ghost use Rattle.replay.specs.Same.{wordAt, SameBytes, SameWords};
+ghost use Rattle.replay.specs.Same.{wordAt, SameBytes, SameWords, SameField};
 use integration_field::IntegrationField;
 
 fn wide(byte: u8) -> u32
@@ -137,6 +137,7 @@ pub fn same_sheet(sheet: &[u8; 100], bytes: &[u8]) -> bool
 // Count, corners and cells of a field.
 pub fn same_field(field: IntegrationField, bytes: &[u8]) -> bool
     requires { ⌜ length (now bytes) ≡ 501 ⌝ }
+    ensures { λ r. ⌜ (r ≡ true → SameField field (now (bytes .entry))) ⌝ }
 {
     let count = field.count;
     if count != size(bytes[0]) {
