@@ -1,10 +1,11 @@
 -- The cells of a line (01, "Line"), and what the line calls answer.
 -- Assumes nothing.
 use mathlib.Core.Bool.{Bool, true, false, cond, _&&_}
-use mathlib.Core.List.{List, [], _∷_, _++_, reverse}
+use mathlib.Core.List.{List, [], _∷_, reverse}
 use Prim.Native.Nat.{ℕ, _+_, _-_, _*_, _/_, min}
 use lib.Dec.{leb, ltb}
 use lib.ListN.{length, replicate}
+use Rattle.utilities.specs.Padded.{padded as paddedTo}
 use Rattle.fields.specs.declared.FieldCell.{FieldCell}
 use Rattle.fields.specs.Cell.{cell, inside}
 use Rattle.bresenham.specs.declared.Line.{Line}
@@ -49,7 +50,7 @@ line s t =
 
 -- an answer of these cells; the places beyond their count hold 0
 abbrev pub padded : List FieldCell → List FieldCell
-padded l = l ++ replicate (10 - length l) (cell 0 0)
+padded l = paddedTo 10 (cell 0 0) l
 
 abbrev pub answered : List FieldCell → Line
 answered l = record { number = 0; cells = padded l; count = length l }

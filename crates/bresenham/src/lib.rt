@@ -28,20 +28,11 @@ fn empty(number: u8) -> Line
     }
 }
 
-fn is_inside(cell: FieldCell) -> bool
-    ensures { λ r. ⌜ r ≡ inside cell ⌝ }
-{
-    if cell.column < 10 {
-        return cell.row < 10;
-    }
-    false
-}
-
 fn both_inside(source: FieldCell, target: FieldCell) -> bool
     ensures { λ r. ⌜ r ≡ (inside source && inside target) ⌝ }
 {
-    if is_inside(source) {
-        return is_inside(target);
+    if source.is_inside() {
+        return target.is_inside();
     }
     false
 }

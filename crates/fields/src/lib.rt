@@ -3,7 +3,7 @@ use utilities::CompassDir;
 ghost use mathlib.Core.Path.{_≡_};
 ghost use Prim.Native.Nat.{_+_, _<_, _≤_};
 ghost use Rattle.utilities.specs.Compass.{orthogonal, all};
-ghost use Rattle.fields.specs.Cell.{cellAt, indexOr, cellIn, sumIn, coordinateAt, bothIn, stepped};
+ghost use Rattle.fields.specs.Cell.{inside, cellAt, indexOr, cellIn, sumIn, coordinateAt, bothIn, stepped};
 ghost use Rattle.fields.specs.Neighbours.{neighbours, listed, pushed};
 
 // ID of a cell within a field.
@@ -118,6 +118,18 @@ impl FieldCell {
             column: index % 10,
             row: index / 10,
         }
+    }
+
+    // Whether a cell lies in the sector.
+    pub fn is_inside(self) -> bool
+        ensures { λ r. ⌜ r ≡ inside self ⌝ }
+    {
+        let column = self.column;
+        let row = self.row;
+        if column < 10 {
+            return row < 10;
+        }
+        false
     }
 
     // The index of a cell; 100, which no cell has, for one outside the sector.

@@ -2,7 +2,7 @@
 use fields::FieldCell;
 ghost use mathlib.Core.Path.{_≡_};
 ghost use Prim.Native.Nat.{_<_};
-ghost use Rattle.fields.specs.Cell.{Inside, inside};
+ghost use Rattle.fields.specs.Cell.{Inside};
 ghost use Rattle.line_end.specs.LineEnd.{floor, rowAt, rowOf, rightward, leftward, endAt, lineEnd, lineEndAnswer};
 
 // What the call answers: 0 and the cell that the line ends in, or the number of a refusal.
@@ -141,24 +141,12 @@ pub fn corner_line_end(corner: FieldCell, goal: FieldCell) -> FieldCell
     end_leftward(gradient, intercept, column)
 }
 
-// Whether a cell lies in the sector.
-fn is_inside(cell: FieldCell) -> bool
-    ensures { λ r. ⌜ r ≡ inside cell ⌝ }
-{
-    let column = cell.column;
-    let row = cell.row;
-    if column < 10 {
-        return row < 10;
-    }
-    false
-}
-
 // Where the line of a corner ends, or 13 for a column or row outside 0 to 9.
 pub fn check_los_corner_propagation(corner: FieldCell, goal: FieldCell) -> LineEnd
     ensures { λ r. ⌜ r ≡ lineEndAnswer corner goal ⌝ }
 {
-    if is_inside(corner) {
-        if is_inside(goal) {
+    if corner.is_inside() {
+        if goal.is_inside() {
             let cell = corner_line_end(corner, goal);
             return LineEnd { number: 0, cell };
         }
