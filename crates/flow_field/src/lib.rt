@@ -20,7 +20,6 @@ ghost use lib.Dec.{eqb, leb};
 ghost use lib.ListN.{length};
 ghost use Rattle.fields.specs.Cell.{Inside, indexOf};
 ghost use Rattle.route.specs.Window.{stride, cellsBetween};
-ghost use Rattle.integration_field.specs.Diagonal.{betweenWalls};
 ghost use Rattle.flow_byte.specs.Byte.{bitsOf};
 ghost use Rattle.flow_byte.specs.New.{startOf, towardsLower, facingBits, facingValue, unlessEnd, facingChoice, windowBits, isIn, newByte, newBytes};
 ghost use Rattle.flow_byte.specs.Look.{seen, lookAt, lookAlong, lookAround, pointed, lookedByte, builtByte, flowBuild};
@@ -257,27 +256,6 @@ pub fn new(
     0
 }
 
-// Whether a move between two cells is diagonal, with walls on both sides of it.
-fn between_walls(cells: &[u32; 100], from: FieldCell, to: FieldCell) -> bool
-    requires { ⌜ Inside from × Inside to ⌝ }
-    ensures { λ r. ⌜ r ≡ betweenWalls (now (cells .entry)) (indexOf from) (indexOf to) ⌝ }
-{
-    let from_column = from.column;
-    let from_row = from.row;
-    let to_column = to.column;
-    let to_row = to.row;
-    if from_row == to_row {
-        return false;
-    }
-    if from_column == to_column {
-        return false;
-    }
-    if !integration_field::is_impassable(cells[from_row * 10 + to_column]) {
-        return false;
-    }
-    integration_field::is_impassable(cells[to_row * 10 + from_column])
-}
-
 // What a look makes of a neighbour, with the best direction so far and its cost.
 fn see(
     cells: &[u32; 100],
@@ -294,7 +272,7 @@ fn see(
     if integration_field::is_impassable(cost) {
         return Look::Looking(best, value);
     }
-    if between_walls(cells, from, to) {
+    if integration_field::is_between_walls(cells, from, to) {
         return Look::Looking(best, value);
     }
     if integration_field::is_goal(cost) {

@@ -7,3 +7,4 @@ pub mod Least
 pub mod Answers
 pub mod Decided
 pub mod Examples
+pub mod Diagonal

@@ -1,6 +1,10 @@
 // The integration field: 100 cells of 32 bits, the cost in the low 16 and flags above, and the list of its corners.
+use fields::FieldCell;
 ghost use mathlib.Core.Path.{_≡_};
+ghost use Prim.Native.Nat.{_<_};
+ghost use Rattle.fields.specs.Cell.{Inside, indexOf};
 ghost use Rattle.integration_field.specs.Word.{low, isLos, isGoal, isBlocked, isPortal, isImpassable};
+ghost use Rattle.integration_field.specs.Diagonal.{wallAt, betweenWalls};
 ghost use Rattle.integration_field.specs.Listed.{zeroField};
 ghost use Rattle.integration_field.specs.Answer.{refusal};
 
@@ -76,6 +80,36 @@ pub fn low_bits(cost: u32) -> u32
     ensures { λ r. ⌜ r ≡ low cost ⌝ }
 {
     cost & INT_FILTER_BITS_COST
+}
+
+// Whether the cell at an index is a wall.
+pub fn is_wall_at(cells: &[u32; 100], n: usize) -> bool
+    requires { ⌜ n < 100 ⌝ }
+    ensures { λ r. ⌜ r ≡ wallAt (now (cells .entry)) n ⌝ }
+{
+    let value = cells[n];
+    is_impassable(value)
+}
+
+// Whether a move between two cells is diagonal, with both cells beside it walls.
+pub fn is_between_walls(cells: &[u32; 100], from: FieldCell, to: FieldCell) -> bool
+    requires { ⌜ Inside from × Inside to ⌝ }
+    ensures { λ r. ⌜ r ≡ betweenWalls (now (cells .entry)) (indexOf from) (indexOf to) ⌝ }
+{
+    let from_column = from.column;
+    let from_row = from.row;
+    let to_column = to.column;
+    let to_row = to.row;
+    if from_row == to_row {
+        return false;
+    }
+    if from_column == to_column {
+        return false;
+    }
+    if !is_wall_at(cells, from_row * 10 + to_column) {
+        return false;
+    }
+    is_wall_at(cells, to_row * 10 + from_column)
 }
 
 impl IntegrationField {

@@ -19,7 +19,6 @@ ghost use Prim.Native.Nat.{ℕ, suc, _+_, _<_, _≤_};
 ghost use lib.ListN.{length, take};
 ghost use Rattle.utilities.specs.Compass.{orthogonal};
 ghost use Rattle.fields.specs.Cell.{cellAt, indexOf, stepped};
-ghost use Rattle.integration_field.specs.Diagonal.{wallAt, betweenWalls};
 ghost use Rattle.integration_field.specs.Listed.{padded};
 ghost use Rattle.route.specs.Step.{stepNumber};
 ghost use Rattle.started_field.specs.Started.{startedAt, startedFrom, started, initRefused, initAnswer, StartedField};
@@ -34,41 +33,17 @@ struct Counts {
     queued: usize,
 }
 
-// Whether the cell at an index is a wall.
-fn is_wall_at(cells: &[u32; 100], n: usize) -> bool
-    requires { ⌜ n < 100 ⌝ }
-    ensures { λ r. ⌜ r ≡ wallAt (now (cells .entry)) n ⌝ }
-{
-    let value = cells[n];
-    integration_field::is_impassable(value)
-}
-
-// Whether a move is diagonal, with both cells beside it walls.
-fn is_between_walls(cells: &[u32; 100], a: usize, b: usize) -> bool
-    requires { ⌜ (a < 100) × (b < 100) ⌝ }
-    ensures { λ r. ⌜ r ≡ betweenWalls (now (cells .entry)) a b ⌝ }
-{
-    if a / 10 == b / 10 {
-        return false;
-    }
-    if a % 10 == b % 10 {
-        return false;
-    }
-    if is_wall_at(cells, a / 10 * 10 + b % 10) {
-        return is_wall_at(cells, b / 10 * 10 + a % 10);
-    }
-    false
-}
-
 // Whether a line stops before cell n, which it enters from `previous`.
 fn is_stopped(cells: &[u32; 100], previous: usize, n: usize) -> bool
     requires { ⌜ (previous < 100) × (n < 100) ⌝ }
     ensures { λ r. ⌜ r ≡ stopped (now (cells .entry)) previous n ⌝ }
 {
-    if is_wall_at(cells, n) {
+    if integration_field::is_wall_at(cells, n) {
         return true;
     }
-    is_between_walls(cells, previous, n)
+    let from = FieldCell::from_index(previous);
+    let to = FieldCell::from_index(n);
+    integration_field::is_between_walls(cells, from, to)
 }
 
 // A cell of a line, if not yet blocked, is marked and listed. Answers how many are listed.
@@ -99,7 +74,7 @@ fn open_side(cells: &[u32; 100], from: usize, side: CompassDir) -> Stepped
     let Stepped::Cell(n) = FieldCell::from_index(from).get_in_compass_direction(side) else {
         return Stepped::Outside;
     };
-    if is_wall_at(cells, n.as_1d_index()) {
+    if integration_field::is_wall_at(cells, n.as_1d_index()) {
         return Stepped::Outside;
     }
     Stepped::Cell(n)

@@ -1,7 +1,10 @@
 -- `integration_init::is_stopped` meets its contract: a line stops before a wall, or by the diagonal rule.
 -- Assumes nothing.
-use mathlib.Core.Path.{sym, _∙_}
+use mathlib.Core.Path.{_≡_, sym, ap, _∙_}
+use native.Mathlib.Omega.{arith}
 use borrow.Author.Needs.{needs}
+use Rattle.fields.specs.Cell.{indexOf}
+use Rattle.fields.proofs.Steps.{cell-inside, index-of-cell}
 use Rattle.integration_init.proofs.is_stopped.Statement.{statement}
 use Rattle.integration_init.proofs.is_stopped.Tie as tie
 
@@ -11,12 +14,30 @@ is-wall-at-requires c κs = search needs
 returns : tie.Need-returns
 returns c = rw (sym (c .before .is-wall-at .ensures) ∙ c .if1 .taken)
 
+from-index-requires : tie.Need-from-index-requires
+from-index-requires c κs = search needs
+
+from-index-requires-2 : tie.Need-from-index-requires-2
+from-index-requires-2 c κs = search needs
+
 is-between-walls-requires : tie.Need-is-between-walls-requires
-is-between-walls-requires c κs = search needs
+is-between-walls-requires c κs =
+    (rw (c .before .from-index .ensures) (cell-inside _ (omega arith)), rw (c .from-index2 .ensures) (cell-inside _ (omega arith)))
 
 returns-2 : tie.Need-returns-2
-returns-2 c = rw (sym (c .before .before .is-wall-at .ensures) ∙ c .before .if1 .left) (c .is-between-walls .ensures)
+returns-2 c =
+    let b = c .before .before .before .before in
+    let from : indexOf (c .before .before .from-index .result) ≡ b .before .args .previous = ap indexOf (c .before .before .from-index .ensures) ∙ index-of-cell _ in
+    let to : indexOf (c .before .from-index2 .result) ≡ b .before .args .n = ap indexOf (c .before .from-index2 .ensures) ∙ index-of-cell _ in
+    rw (sym (b .is-wall-at .ensures) ∙ c .before .before .before .if1 .left, ← from, ← to) (c .is-between-walls .ensures)
 
 pub is-stopped-spec : {M : Type 1} → statement M
 is-stopped-spec =
-    tie.close (tie.spec is-wall-at-requires returns is-between-walls-requires returns-2)
+    tie.close
+    (tie.spec
+    is-wall-at-requires
+    returns
+    from-index-requires
+    from-index-requires-2
+    is-between-walls-requires
+    returns-2)
