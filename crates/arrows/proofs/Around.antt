@@ -8,8 +8,8 @@
 use mathlib.Core.Path.{_≡_, refl, sym}
 use mathlib.Core.Bool.{Bool, true, false, true≢false, not, _&&_}
 use mathlib.Core.Logic.{_⊎_, inl, inr}
-use mathlib.Core.List.{List, [], _∷_, List·Memᴰ, Memᴰ·append-left}
-use Prim.Native.Nat.{ℕ, _+_, _-_, _*_, _/_, _%_, _<_}
+use mathlib.Core.List.{List, [], _∷_, List·Memᴰ, List·Memᴰ·head, List·Memᴰ·tail, Memᴰ·append-left}
+use Prim.Native.Nat.{ℕ, _+_, _*_, _/_, _%_, _<_}
 use native.Mathlib.Omega.{arith}
 use lib.Dec.{eqb}
 use borrow.Author.Tests.{eq-eqb, ne-eqb}
@@ -18,27 +18,27 @@ use Rattle.utilities.specs.declared.CompassDir.the-variants.{North, East, South
 use Rattle.utilities.specs.Compass.{orthogonal, all}
 use Rattle.fields.specs.declared.FieldCell.{FieldCell}
 use Rattle.fields.specs.declared.Stepped.the-variants.{Cell}
-use Rattle.fields.specs.Cell.{cell, indexOf, cellAt, stepped}
-use Rattle.fields.proofs.Steps.{Arrives, stepped-cell, cell-of-index}
+use Rattle.fields.specs.Cell.{indexOf, cellAt, stepped}
+use Rattle.fields.specs.Neighbours.{ByOne, BesideAt}
+use Rattle.fields.proofs.Steps.{Arrives, stepped-cell, steps-to, cell-inside, cell-of-index}
+use Rattle.fields.proofs.Beside.{step-beside, beside-step, beside-flip, beside-below}
 use Rattle.integration_field.specs.Diagonal.{wallAt, diagonal, betweenWalls}
-use Rattle.integration_field.specs.Walks.{Beside, in-row, in-column}
-use Rattle.integration_field.proofs.Neighbours.{Neighbour, beside-neighbour}
-use Rattle.arrows.proofs.Fall.{Sector, value, NoWall, spreads, beside-back, beside-to}
-
--- two numbers are one apart
-abbrev OneApart : ℕ → ℕ → Type 0
-OneApart a b = (b ≡ a + 1) ⊎ (a ≡ b + 1)
+use Rattle.arrows.proofs.Fall.{Sector, value, NoWall, spreads}
 
 -- n is a cell beside i, or one row and one column away
 pub data Near (i n : ℕ) : Type 0 where
-  beside : Beside i n → Near i n
-  corner : i < 100 → n < 100 → OneApart (i % 10) (n % 10) → OneApart (i / 10) (n / 10) → Near i n
+  beside : BesideAt i n → Near i n
+  corner : i < 100 → n < 100 → ByOne (i % 10) (n % 10) → ByOne (i / 10) (n / 10) → Near i n
+
+-- an orthogonal step arrives beside the cell
+across : (i : ℕ) → i < 100 → (d : CompassDir) (c : FieldCell) → List·Memᴰ d orthogonal → Arrives (cellAt i) d c → Near i (indexOf c)
+across i h d c m a = beside (rw (cell-of-index c (a .within)) (step-beside (cellAt i) c (cell-inside i h) d m (steps-to (cellAt i) d c a)))
 
 near : (i : ℕ) → i < 100 → (d : CompassDir) (c : FieldCell) → Arrives (cellAt i) d c → Near i (indexOf c)
-near i h North c a = let w = a .within in beside (in-column h (omega arith) (omega arith) (inr (omega arith)))
-near i h East c a = let w = a .within in beside (in-row h (omega arith) (omega arith) (inl (omega arith)))
-near i h South c a = let w = a .within in beside (in-column h (omega arith) (omega arith) (inl (omega arith)))
-near i h West c a = let w = a .within in beside (in-row h (omega arith) (omega arith) (inr (omega arith)))
+near i h North c a = across i h North c (List·Memᴰ·head refl) a
+near i h East c a = across i h East c (List·Memᴰ·tail (List·Memᴰ·head refl)) a
+near i h South c a = across i h South c (List·Memᴰ·tail (List·Memᴰ·tail (List·Memᴰ·head refl))) a
+near i h West c a = across i h West c (List·Memᴰ·tail (List·Memᴰ·tail (List·Memᴰ·tail (List·Memᴰ·head refl)))) a
 near i h NorthEast c a = let w = a .within in corner h (omega arith) (inl (omega arith)) (inr (omega arith))
 near i h SouthEast c a = let w = a .within in corner h (omega arith) (inl (omega arith)) (inl (omega arith))
 near i h SouthWest c a = let w = a .within in corner h (omega arith) (inr (omega arith)) (inl (omega arith))
@@ -46,7 +46,7 @@ near i h NorthWest c a = let w = a .within in corner h (omega arith) (inr (omega
 near i h Zero c a = absurd (true≢false (sym (a .pointing)))
 
 pub near-in : {i n : ℕ} → Near i n → n < 100
-near-in (beside b) = beside-to b
+near-in {i = i} {n = n} (beside b) = beside-below i n b .1
 near-in (corner h l c r) = l
 
 -- from i the step in direction d arrives at n, and the look does not pass n over
@@ -56,9 +56,9 @@ pub record Sees (cells : List ℕ) (i : ℕ) (d : CompassDir) (n : ℕ) : Type 0
   pub no-wall : wallAt cells n ≡ false
   pub open-way : betweenWalls cells i n ≡ false
 
-one-apart : {a b : ℕ} → OneApart a b → a ≡ b → ⊥
-one-apart (inl e) q = omega arith
-one-apart (inr e) q = omega arith
+by-one : {a b : ℕ} → ByOne a b → a ≡ b → ⊥
+by-one (inl e) q = omega arith
+by-one (inr e) q = omega arith
 
 -- ---- the cells beside a diagonal move
 
@@ -66,13 +66,21 @@ one-apart (inr e) q = omega arith
 abbrev aside : ℕ → ℕ → ℕ
 aside i n = i / 10 * 10 + n % 10
 
-beside-row : (i n : ℕ) → i < 100 → OneApart (i % 10) (n % 10) → Beside i (aside i n)
-beside-row i n h c = in-row h (omega arith) (omega arith) (let e : aside i n % 10 ≡ n % 10 = omega arith in rw e c)
+beside-row : (i n : ℕ) → i < 100 → ByOne (i % 10) (n % 10) → BesideAt i (aside i n)
+beside-row i n h c = record {
+  this-in = cell-inside i h;
+  other-in = cell-inside (aside i n) (omega arith);
+  one-apart = inr (omega arith, let e : aside i n % 10 ≡ n % 10 = omega arith in rw e c);
+}
 
-beside-column : (i n : ℕ) → i < 100 → n < 100 → OneApart (i / 10) (n / 10) → Beside (aside i n) n
-beside-column i n h l r = in-column (omega arith) l (omega arith) (let e : aside i n / 10 ≡ i / 10 = omega arith in rw e r)
+beside-column : (i n : ℕ) → i < 100 → n < 100 → ByOne (i / 10) (n / 10) → BesideAt (aside i n) n
+beside-column i n h l r = record {
+  this-in = cell-inside (aside i n) (omega arith);
+  other-in = cell-inside n l;
+  one-apart = inl (omega arith, let e : aside i n / 10 ≡ i / 10 = omega arith in rw e r);
+}
 
-turned : {a b : ℕ} → OneApart a b → OneApart b a
+turned : {a b : ℕ} → ByOne a b → ByOne b a
 turned (inl e) = inr e
 turned (inr e) = inl e
 
@@ -86,15 +94,15 @@ differ a b h = rw (ne-eqb a b h)
 module _ (cells : List ℕ) (i n : ℕ) where
   -- a way from i to n past no wall
   data Way : Type 0 where
-    direct : Beside i n → Way
-    around : (m : ℕ) → Beside i m → Beside m n → wallAt cells m ≡ false → Way
+    direct : BesideAt i n → Way
+    around : (m : ℕ) → BesideAt i m → BesideAt m n → wallAt cells m ≡ false → Way
 
-  open-sides : OneApart (i % 10) (n % 10) → OneApart (i / 10) (n / 10) → betweenWalls cells i n ≡ false
+  open-sides : ByOne (i % 10) (n % 10) → ByOne (i / 10) (n / 10) → betweenWalls cells i n ≡ false
       → (wallAt cells (aside i n) ≡ false) ⊎ (wallAt cells (aside n i) ≡ false)
   unfolding betweenWalls
   open-sides c r e =
       and-false (wallAt cells (aside i n)) (wallAt cells (aside n i))
-      (rw (differ (i / 10) (n / 10) (one-apart r), differ (i % 10) (n % 10) (one-apart c)) at e)
+      (rw (differ (i / 10) (n / 10) (by-one r), differ (i % 10) (n % 10) (by-one c)) at e)
 
   way : Near i n → betweenWalls cells i n ≡ false → Way
   way (beside b) e = direct b
@@ -102,7 +110,8 @@ module _ (cells : List ℕ) (i n : ℕ) where
     where
       go : (wallAt cells (aside i n) ≡ false) ⊎ (wallAt cells (aside n i) ≡ false) → Way
       go (inl w) = around (aside i n) (beside-row i n h c) (beside-column i n h l r) w
-      go (inr w) = around (aside n i) (beside-back (beside-column n i l h (turned r))) (beside-back (beside-row n i l (turned c))) w
+      go (inr w) = around (aside n i) (beside-flip (cellAt (aside n i)) (cellAt i) (beside-column n i l h (turned r)))
+          (beside-flip (cellAt n) (cellAt (aside n i)) (beside-row n i l (turned c))) w
 
 module _ {costs window cells corners built : List ℕ} (s : Sector costs window cells corners built) (i : ℕ) where
   -- a neighbour that the look does not pass over is reached where the cell is, and the cell where it is
@@ -117,8 +126,8 @@ module _ {costs window cells corners built : List ℕ} (s : Sector costs window 
   reached-back d n e o v = go (way built i n (e .to) (e .open-way))
     where
       go : Way built i n → value s i < 65535
-      go (direct b) = spreads s n i (beside-back b) v o
-      go (around m a b w) = spreads s m i (beside-back a) (spreads s n m (beside-back b) v w) o
+      go (direct b) = spreads s n i (beside-flip (cellAt i) (cellAt n) b) v o
+      go (around m a b w) = spreads s m i (beside-flip (cellAt i) (cellAt m) a) (spreads s n m (beside-flip (cellAt m) (cellAt n) b) v w) o
 
 -- ---- what is seen
 
@@ -133,26 +142,16 @@ module _ (cells : List ℕ) (i : ℕ) (h : i < 100) where
   in-all d m = Memᴰ·append-left (NorthEast ∷ SouthEast ∷ SouthWest ∷ NorthWest ∷ []) m
 
   -- a cell beside i that is no wall is seen in some direction
-  pub sees-beside : (n : ℕ) → Beside i n → wallAt cells n ≡ false → (d : CompassDir) × List·Memᴰ d all × Sees cells i d n
+  pub sees-beside : (n : ℕ) → BesideAt i n → wallAt cells n ≡ false → (d : CompassDir) × List·Memᴰ d all × Sees cells i d n
   unfolding betweenWalls
-  sees-beside n b w = go b (beside-neighbour i n b)
+  sees-beside n b w =
+      let r = beside-step (cellAt i) (cellAt n) b in
+      (r .0, in-all (r .0) (r .1), record { steps = r .2; to = beside b; no-wall = w; open-way = rw (no-diagonal (b .one-apart)) })
     where
-      no-diagonal : Beside i n → diagonal i n ≡ false
-      no-diagonal (in-row p q r o) = rw (eq-eqb (i / 10) (n / 10) (sym r))
-      no-diagonal (in-column p q r o) = rw (eq-eqb (i % 10) (n % 10) (sym r)) (and-none (not (eqb (i / 10) (n / 10))))
+      no-diagonal : ((i % 10 ≡ n % 10) × ByOne (i / 10) (n / 10)) ⊎ ((i / 10 ≡ n / 10) × ByOne (i % 10) (n % 10)) → diagonal i n ≡ false
+      no-diagonal (inl (c, o)) = rw (eq-eqb (i % 10) (n % 10) c) (and-none (not (eqb (i / 10) (n / 10))))
         where
           and-none : (t : Bool) → (t && false) ≡ false
           and-none true = refl
           and-none false = refl
-
-      go : Beside i n → Neighbour (cellAt i) orthogonal n → (d : CompassDir) × List·Memᴰ d all × Sees cells i d n
-      go b m = (
-        m .way,
-        in-all (m .way) (m .listed),
-        record {
-          steps = rw (m .index, cell-of-index (m .cell) (stepped-cell (cellAt i) (m .way) (m .cell) (m .step) .within)) (m .step);
-          to = beside b;
-          no-wall = w;
-          open-way = rw (no-diagonal b);
-        },
-      )
+      no-diagonal (inr (r, o)) = rw (eq-eqb (i / 10) (n / 10) r)

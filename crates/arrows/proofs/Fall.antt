@@ -14,10 +14,12 @@ use native.Mathlib.Omega.{arith}
 use lib.Dec.{leb, eqb}
 use lib.ListN.{getD}
 use borrow.Author.Tests.{le-leb, lt-leb, eqb-true, eq-eqb}
+use Rattle.fields.specs.Neighbours.{BesideAt}
+use Rattle.fields.proofs.Beside.{beside-below}
 use Rattle.waves.specs.Walks.{start, move}
 use Rattle.waves.proofs.Count.{bit, count, count-le, count-more, leb-grows}
 use Rattle.integration_field.specs.Word.{low, isLos, isImpassable}
-use Rattle.integration_field.specs.Walks.{Beside, in-row, in-column, Permitted}
+use Rattle.integration_field.specs.Walks.{Permitted}
 use Rattle.integration_field.specs.Promise.{Walked, LeastWalks}
 use Rattle.started_field.specs.StartedCell.{Among, WindowStarted}
 use Rattle.least_walks.proofs.Ground.{among-mem, mem-among}
@@ -41,22 +43,6 @@ in-among x (y ∷ l) e = go (eqb y x) refl e (λ t. in-among x l t)
     go : (b : Bool) → eqb y x ≡ b → (b || isIn x l) ≡ true → (isIn x l ≡ true → Among x l) → Among x (y ∷ l)
     go true q t f = (0, omega arith, eqb-true y x q)
     go false q t f = let r = f t in (suc (r .0), omega (arith, r .1), r .2)
-
--- ---- cells beside each other
-
-pub beside-back : {y x : ℕ} → Beside y x → Beside x y
-beside-back (in-row h l r (inl e)) = in-row l h (sym r) (inr e)
-beside-back (in-row h l r (inr e)) = in-row l h (sym r) (inl e)
-beside-back (in-column h l c (inl e)) = in-column l h (sym c) (inr e)
-beside-back (in-column h l c (inr e)) = in-column l h (sym c) (inl e)
-
-pub beside-to : {y x : ℕ} → Beside y x → x < 100
-beside-to (in-row h l r e) = l
-beside-to (in-column h l c e) = l
-
-pub beside-from : {y x : ℕ} → Beside y x → y < 100
-beside-from (in-row h l r e) = h
-beside-from (in-column h l c e) = h
 
 -- ---- a window sector, started and built
 
@@ -134,7 +120,7 @@ module _ {costs window cells corners built : List ℕ} (s : Sector costs window 
       go (a-plain p l) (inr w) = let e : value x ≡ getD built x 0 = omega arith in (w .moves, rw e (w .walk))
 
   -- one move more
-  enters : (y x : ℕ) → Arrived y → Beside y x → Plain x → value y + getD costs x 0 < 65535 → value x ≤ value y + getD costs x 0
+  enters : (y x : ℕ) → Arrived y → BesideAt y x → Plain x → value y + getD costs x 0 < 65535 → value x ≤ value y + getD costs x 0
   enters y x w b p l =
       let e = plain-word x p in
       s .least .none-below (suc (w .0)) x (value y + getD costs x 0) (move (w .1) b (record {
@@ -148,7 +134,7 @@ module _ {costs window cells corners built : List ℕ} (s : Sector costs window 
   -- a cell of lower cost beside x
   pub record Lower (x : ℕ) : Type 0 where
     pub cell : ℕ
-    pub beside : Beside cell x
+    pub beside : BesideAt cell x
     pub lower : value cell < value x
     pub exact : value x ≤ value cell + getD costs x 0
 
@@ -165,7 +151,7 @@ module _ {costs window cells corners built : List ℕ} (s : Sector costs window 
             cell = y;
             beside = b;
             lower = l;
-            exact = enters y x (walk-into y (beside-from b) (omega arith)) b p (omega arith);
+            exact = enters y x (walk-into y (beside-below y x b .0) (omega arith)) b p (omega arith);
           }
 
       go : Arrived x → Lower x
@@ -203,7 +189,7 @@ module _ {costs window cells corners built : List ℕ} (s : Sector costs window 
       go : Kind x (getD built x 0) → value x ≤ 254 * 0
       go (a-window a e) = omega (arith, ap low e)
       go (a-wall c a e) = absurd (omega (arith, ap low e))
-      go (a-plain p q) = let f = falls x p v in absurd (omega (arith, rank-less x (f .cell) (beside-from (f .beside)) (f .lower)))
+      go (a-plain p q) = let f = falls x p v in absurd (omega (arith, rank-less x (f .cell) (beside-below (f .cell) x (f .beside) .0) (f .lower)))
   bounded (suc r) x h l v = go (kind x h) (λ y. bounded r y)
     where
       go : Kind x (getD built x 0) → ((y : ℕ) → y < 100 → rank y ≤ r → value y < 65535 → value y ≤ 254 * r) → value x ≤ 254 * suc r
@@ -211,7 +197,8 @@ module _ {costs window cells corners built : List ℕ} (s : Sector costs window 
       go (a-wall c a e) ih = absurd (omega (arith, ap low e))
       go (a-plain p q) ih =
           let f = falls x p v in
-          let b = ih (f .cell) (beside-from (f .beside)) (omega (arith, rank-less x (f .cell) (beside-from (f .beside)) (f .lower))) (omega (arith, f .lower)) in
+          let i = beside-below (f .cell) x (f .beside) .0 in
+          let b = ih (f .cell) i (omega (arith, rank-less x (f .cell) i (f .lower))) (omega (arith, f .lower)) in
           let c : getD costs x 0 ≤ 254 = omega (arith, s .cost-to x h, p .no-wall) in
           omega (arith, f .exact)
 
@@ -219,14 +206,14 @@ module _ {costs window cells corners built : List ℕ} (s : Sector costs window 
   abbrev pub NoWall : ℕ → Type 0
   NoWall x = isImpassable (getD built x 0) ≡ false
 
-  pub spreads : (y x : ℕ) → Beside y x → value y < 65535 → NoWall x → value x < 65535
-  spreads y x b v n = go (kind x (beside-to b))
+  pub spreads : (y x : ℕ) → BesideAt y x → value y < 65535 → NoWall x → value x < 65535
+  spreads y x b v n = go (kind x (beside-below y x b .1))
     where
       go : Kind x (getD built x 0) → value x < 65535
       go (a-window a e) = omega (arith, ap low e)
       go (a-wall c a e) = absurd (true≢false (sym (ap isImpassable e) ∙ n))
       go (a-plain p q) =
-          let y-in = beside-from b in
+          let y-in = beside-below y x b .0 in
           let c : getD costs x 0 ≤ 254 = omega (arith, s .cost-to x (p .inside), p .no-wall) in
           let m : value y ≤ 254 * 99 = bounded 99 y y-in (rank-few y y-in) v in
           omega (arith, enters y x (walk-into y y-in v) b p (omega arith))

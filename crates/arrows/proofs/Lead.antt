@@ -17,6 +17,7 @@ use Rattle.utilities.specs.Compass.{all}
 use Rattle.fields.specs.declared.Stepped.the-variants.{Cell}
 use Rattle.fields.specs.Cell.{cell, indexOf, cellAt, stepped}
 use Rattle.fields.proofs.Steps.{stepped-cell, index-of-cell}
+use Rattle.fields.proofs.Beside.{beside-flip, beside-below}
 use Rattle.route.specs.Step.{isWindow, windowCells, boundaryByte, routeStep}
 use Rattle.route.proofs.Accepted.{accepted-window}
 use Rattle.integration_field.specs.Word.{low, isGoal, isPortal}
@@ -37,7 +38,7 @@ use Rattle.flow_byte.specs.New.{isIn, inWindow, startOf, windowBits, newByte, f
 use Rattle.flow_byte.specs.Look.{lookedByte, lookAround, pointed, builtByte, flowBuild}
 use Rattle.arrows.specs.Arrows.{Reached, Away, Cuts, Move, Leads, ends, moves, ArrowsLead}
 use Rattle.arrows.specs.Promise.{WindowSector, builtCells, BuildArrows}
-use Rattle.arrows.proofs.Fall.{is-in, in-among, beside-back, beside-from, Sector, value, Plain, Kind, a-window, a-wall, a-plain, wall-word, kind, Lower, falls, rank, rank-less, rank-few}
+use Rattle.arrows.proofs.Fall.{is-in, in-among, Sector, value, Plain, Kind, a-window, a-wall, a-plain, wall-word, kind, Lower, falls, rank, rank-less, rank-few}
 use Rattle.arrows.proofs.Around.{Sees, differ, near-in, reached-there, reached-back, sees-beside}
 use Rattle.arrows.proofs.Look.{Found, found, Nothing, nothing}
 use Rattle.arrows.proofs.Bytes.{built-byte, new-byte, new-length, Pointed, pointed-is, Kept, portal-kept, window-bits}
@@ -151,7 +152,7 @@ module _ (costs step cells corners built : List ℕ) (s : Sector costs (windowCe
       reached d n e = reached-there s x d n e r
 
       open-cell : wallAt built (f .cell) ≡ false
-      open-cell = at (kind s (f .cell) (beside-from (f .beside)))
+      open-cell = at (kind s (f .cell) (beside-below (f .cell) x (f .beside) .0))
         where
           at : Kind s (f .cell) (getD built (f .cell) 0) → wallAt built (f .cell) ≡ false
           at (a-window a e) = ap word.isImpassable e
@@ -159,7 +160,7 @@ module _ (costs step cells corners built : List ℕ) (s : Sector costs (windowCe
           at (a-plain q m) = small-flag (getD built (f .cell) 0) 25 (omega arith)
 
       d : (d : CompassDir) × List·Memᴰ d all × Sees built x d (f .cell)
-      d = sees-beside built x (p .inside) (f .cell) (beside-back (f .beside)) open-cell
+      d = sees-beside built x (p .inside) (f .cell) (beside-flip (cellAt (f .cell)) (cellAt x) (f .beside)) open-cell
 
       go : (look : Look) → getD bytes x 0 ≡ lookedByte 0 look → Found built x (p .inside) reached (value s x) look → Next x
       go (Looking best v) e q = record { way = best; next = q .0; sees = q .1; lower = q .2; byte = e }

@@ -13,6 +13,7 @@ use native.Mathlib.Omega.{arith}
 use native.Mathlib.Decide.{decLt}
 use lib.ListN.{length, getD, List·getD-eq-default}
 use lib.Seq.{ext-getD}
+use Rattle.fields.specs.Neighbours.{BesideAt}
 use Rattle.waves.specs.Walks.{start, move, Below}
 use Rattle.waves.specs.Waves.{Changed, Waves, Ends}
 use Rattle.waves.proofs.Least.{walk-into, fallen-walk}
@@ -21,7 +22,7 @@ use Rattle.integration_field.specs.Word.{low, isOpen, isLos, isImpassabl
 use Rattle.integration_field.specs.Wave.{changedFrom, Wave, next, waveAt}
 use Rattle.integration_field.specs.Rest.{Rests}
 use Rattle.integration_field.specs.Build.{isEmpty, build}
-use Rattle.integration_field.specs.Walks.{Beside, grid, MayEnter, Permitted}
+use Rattle.integration_field.specs.Walks.{grid, MayEnter, Permitted}
 use Rattle.integration_field.specs.Promise.{Walked, LeastWalks, Changes, Counted}
 use Rattle.integration_field.proofs.Neighbours.{neighbour-beside, beside-neighbour}
 use Rattle.integration_field.proofs.Offers.{Held, kept, written, held-le, held-open, Made, Offer, offers-made, offers-taken, differs-changed, changed-differs}
@@ -121,12 +122,12 @@ module _ (costs cells corners : List ℕ) where
     fell-inside (suc k) x c =
         elim (decLt x 100) [ yes h ↦ h | no h ↦ absurd (omega (arith, ap low (List·getD-eq-default (at k) 0 {n = x} (omega (arith, as-long k))))) ]
 
-    relaxes : (k y x : ℕ) → Fell k y → Beside y x → Open x → value (suc k) x ≤ value k y + getD costs x 0
+    relaxes : (k y x : ℕ) → Fell k y → BesideAt y x → Open x → value (suc k) x ≤ value k y + getD costs x 0
     unfolding waveAt next
     relaxes k y x c b o = offers-taken costs (at k) (changed k) (at k) y x (fell-changed k y c) (beside-neighbour y x b) (open-on k x ∙ o)
 
     abbrev From : ℕ → ℕ → Type 0
-    From k x = (y : ℕ) × Fell k y × Beside y x × Open x × (value (suc k) x ≡ value k y + getD costs x 0)
+    From k x = (y : ℕ) × Fell k y × BesideAt y x × Open x × (value (suc k) x ≡ value k y + getD costs x 0)
 
     from : (k x : ℕ) → Fell (suc k) x → From k x
     from k x c = go (made k .cell x)

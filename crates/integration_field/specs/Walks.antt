@@ -2,27 +2,18 @@
 -- Assumes nothing.
 use mathlib.Core.Path.{_≡_}
 use mathlib.Core.Bool.{false}
-use mathlib.Core.Logic.{_⊎_}
 use mathlib.Core.List.{List, List·Memᴰ}
-use Prim.Native.Nat.{ℕ, _+_, _/_, _%_, _<_}
+use Prim.Native.Nat.{ℕ, _<_}
 use lib.ListN.{getD}
+use Rattle.fields.specs.Neighbours.{BesideAt}
 use Rattle.waves.specs.Walks.{Grid, Walk}
 use Rattle.integration_field.specs.Word.{low, isLos, isImpassable}
 
--- two numbers are one apart
-abbrev OneApart : ℕ → ℕ → Type 0
-OneApart a b = (b ≡ a + 1) ⊎ (a ≡ b + 1)
-
--- x is an orthogonal neighbour of y inside the sector: in its row and one column away, or in its column and one row away
-pub data Beside (y x : ℕ) : Type 0 where
-  in-row : y < 100 → x < 100 → x / 10 ≡ y / 10 → OneApart (y % 10) (x % 10) → Beside y x
-  in-column : y < 100 → x < 100 → x % 10 ≡ y % 10 → OneApart (y / 10) (x / 10) → Beside y x
-
 module _ (costs cells corners : List ℕ) where
-  -- walks begin in the listed corners, at their values, and pay the cost of each cell they enter
+  -- walks begin in the listed corners, at their values, move to cells beside, and pay the cost of each cell they enter
   abbrev pub grid : Grid
   grid = record {
-    Beside = Beside;
+    Beside = BesideAt;
     Corner = λ x. List·Memᴰ x corners;
     cost = λ x. getD costs x 0;
     before = λ x. low (getD cells x 0);

@@ -8,9 +8,11 @@ use Prim.Native.Nat.{ℕ, zero, suc, _+_, _<_, _≤_}
 use native.Mathlib.Omega.{arith}
 use native.Mathlib.Decide.{decLt}
 use lib.ListN.{getD, length}
+use Rattle.fields.specs.Neighbours.{BesideAt}
+use Rattle.fields.proofs.Beside.{beside-below}
 use Rattle.waves.specs.Walks.{Walk, start, move}
 use Rattle.integration_field.specs.Word.{low, isLos, isImpassable}
-use Rattle.integration_field.specs.Walks.{Beside, in-row, in-column, grid, MayEnter, Permitted}
+use Rattle.integration_field.specs.Walks.{grid, MayEnter, Permitted}
 use Rattle.integration_field.specs.Promise.{LeastWalks, Walked}
 use Rattle.least_walks.specs.Walks.{InSight, Enterable, StartedWalk, before, StartedLeast}
 
@@ -29,16 +31,12 @@ module _ (costs cells corners : List ℕ) (Wall Goal : ℕ → Type 0) where
     unset true h = absurd (h refl)
     unset false h = refl
 
-    beside-inside : {y x : ℕ} → Beside y x → x < 100
-    beside-inside (in-row p q r o) = q
-    beside-inside (in-column p q r o) = q
-
     -- a walk by hand is a walk of the started field
     as-started : {k x s : ℕ} → Permitted costs cells corners k x s → StartedWalk costs cells corners Wall Goal k x s
     as-started (start c e) = start c e
-    as-started (move {x = x} {s = s} p b m e) =
+    as-started (move {y = y} {x = x} {s = s} p b m e) =
         move (as-started p) b (record {
-          inside = beside-inside b;
+          inside = beside-below y x b .1;
           no-wall = λ w. true≢false (sym (g .wall-flag x w) ∙ m .no-wall);
           not-in-sight = λ l. true≢false (sym l ∙ m .not-in-sight);
           no-goal = λ h. absurd (omega (arith, g .goal-zero x h, m .below));
@@ -49,7 +47,7 @@ module _ (costs cells corners : List ℕ) (Wall Goal : ℕ → Type 0) where
     NoMore x s = ((k : ℕ) × (t : ℕ) × Permitted costs cells corners k x t × (t ≤ s)) ⊎ (65535 ≤ s)
 
     -- one more move: from a walk by hand into y that comes to t, into the cell x beside it
-    moved : (k y x t : ℕ) → Permitted costs cells corners k y t → Beside y x → Enterable costs cells corners Wall Goal x → NoMore x (t + getD costs x 0)
+    moved : (k y x t : ℕ) → Permitted costs cells corners k y t → BesideAt y x → Enterable costs cells corners Wall Goal x → NoMore x (t + getD costs x 0)
     moved k y x t p b o = go (decLt (t + getD costs x 0) (low (getD cells x 0))) (g .listed-or-unset x o)
       where
         enters : t + getD costs x 0 < low (getD cells x 0) → MayEnter costs cells corners x (t + getD costs x 0)
