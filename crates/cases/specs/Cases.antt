@@ -4,7 +4,6 @@ use mathlib.Core.Path.{_≡_, refl}
 use mathlib.Core.Bool.{Bool, true, false, cond}
 use mathlib.Core.List.{List, [], _∷_, _++_, map}
 use Prim.Native.Nat.{ℕ}
-use lib.Bits.{bitOr}
 use lib.Ieee.{add, sub, mul, div, neg, ofInt}
 use lib.ListN.{getD, set, replicate}
 use Rattle.fields.specs.declared.FieldCell.{FieldCell}

@@ -5,17 +5,16 @@
 -- Assumes nothing.
 use mathlib.Core.Path.{_≡_, refl, subst, ap, _∙_}
 use mathlib.Core.Bool.{Bool, true, false, _&&_}
-use Prim.Native.Nat.{ℕ, _+_, _-_, _*_, _<_, _≤_, _/_, _%_}
+use Prim.Native.Nat.{ℕ, _+_, _-_, _<_, _≤_, _/_, _%_}
 use native.Mathlib.Omega.{arith}
-use lib.Dec.{leb, ltb}
+use lib.Dec.{leb}
 use borrow.Author.Tests.{lt-ltb, leb-true}
 use Rattle.utilities.specs.declared.CompassDir.{CompassDir}
 use Rattle.utilities.specs.declared.CompassDir.the-variants.{North, East, South, West, NorthEast, SouthEast, SouthWest, NorthWest, Zero}
 use Rattle.utilities.specs.Compass.{Differences, differences, points, opposite}
 use Rattle.fields.specs.declared.FieldCell.{FieldCell}
-use Rattle.fields.specs.declared.Stepped.{Stepped}
-use Rattle.fields.specs.declared.Stepped.the-variants.{Cell, Outside}
-use Rattle.fields.specs.Cell.{cell, Inside, inside, indexOf, cellAt, indexOr, cellIf, sumIn, stepped}
+use Rattle.fields.specs.declared.Stepped.the-variants.{Cell}
+use Rattle.fields.specs.Cell.{cell, Inside, indexOf, cellAt, indexOr, cellIf, sumIn, stepped}
 use Rattle.fields.proofs.Coordinates.{sum-in}
 
 pub cell-inside : (i : ℕ) → i < 100 → Inside (cellAt i)

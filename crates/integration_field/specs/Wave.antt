@@ -1,7 +1,7 @@
 -- Wave after wave (01, "Integration: build"): wave 0 is the listed corners. Wave k offers, from each cell that wave k - 1 changed, the low
 -- 16 bits that wave left plus the neighbour's cost to orthogonal neighbours neither wall nor LOS; strictly smaller is written, without flags.
 -- Assumes nothing.
-use mathlib.Core.Bool.{Bool, true, false, not, cond, _&&_}
+use mathlib.Core.Bool.{Bool, not, cond, _&&_}
 use mathlib.Core.List.{List, [], _∷_}
 use Prim.Native.Nat.{ℕ, zero, suc, _+_}
 use lib.Dec.{ltb, eqb}

@@ -1,18 +1,18 @@
 -- What a started cell is, as far as walks go.
 --     goal-ground, window-ground    of a field started with a goal, and with a window
 -- Assumes nothing.
-use mathlib.Core.Path.{_≡_, refl, sym, ap, _∙_}
-use mathlib.Core.Bool.{Bool, true, false, true≢false}
+use mathlib.Core.Path.{_≡_, sym, _∙_}
+use mathlib.Core.Bool.{true, false, true≢false}
 use mathlib.Core.Logic.{_⊎_, inl, inr, ⊎-elim}
 use mathlib.Core.List.{List, [], _∷_, List·Memᴰ, List·Memᴰ·head, List·Memᴰ·tail, List·Memᴰ·cases-cons, List·Memᴰ·not-nil}
-use Prim.Native.Nat.{ℕ, zero, suc, _+_, _<_, _≤_}
+use Prim.Native.Nat.{ℕ, zero, suc, _<_}
 use native.Mathlib.Omega.{arith}
 use native.Mathlib.Decide.{decLt, ℕ-discrete}
 use lib.ListN.{getD, length, List·getD-eq-default}
 use Rattle.route.specs.Step.{isWindow, goalOf, windowCells}
-use Rattle.integration_field.specs.Word.{low, isLos, isBlocked, isImpassable}
+use Rattle.integration_field.specs.Word.{low}
 use Rattle.started_field.specs.StartedCell.{Among, SightCell, in-sight, corner, unseen, GoalStarted, WindowStarted}
-use Rattle.started_field.proofs.Words.{Flags, corner-flags, seen-flags}
+use Rattle.started_field.proofs.Words.{corner-flags, seen-flags}
 use Rattle.least_walks.specs.Walks.{GoalCell, WindowCell, Wall, Enterable}
 use Rattle.least_walks.proofs.Started.{Ground}
 

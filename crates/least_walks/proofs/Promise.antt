@@ -12,7 +12,7 @@ use native.Mathlib.Omega.{arith}
 use lib.ListN.{getD, length}
 use lib.Dec.{eqb}
 use borrow.Author.Tests.{lt-ltb, eqb-true, eqb-false}
-use Rattle.route.specs.Step.{isWindow, goalOf, windowCells, stepNumber}
+use Rattle.route.specs.Step.{isWindow, stepNumber}
 use Rattle.integration_field.specs.Listed.{listOf}
 use Rattle.integration_field.specs.declared.IntegrationField.{IntegrationField}
 use Rattle.integration_field.specs.declared.BuildAnswer.{BuildAnswer}
@@ -21,7 +21,6 @@ use Rattle.integration_field.specs.Answer.{answerOf, allCells, Accepted, buildA
 use Rattle.integration_field.proofs.Answers.{number-accepted}
 use Rattle.started_field.specs.declared.InitAnswer.{InitAnswer}
 use Rattle.integration_field.proofs.Least.{least-walks, waves-counted}
-use Rattle.started_field.specs.StartedCell.{GoalStarted, WindowStarted}
 use Rattle.started_field.specs.Started.{started, StartedField, initNumber, initRefused, initAccepted, initAnswer}
 use Rattle.started_field.proofs.Started.{started-field, accepted}
 use Rattle.least_walks.specs.Walks.{GoalCell, Wall}

@@ -4,17 +4,17 @@ use mathlib.Core.Path.{_≡_, refl, sym, ap, _∙_}
 use mathlib.Core.Bool.{Bool, true, false, true≢false}
 use mathlib.Core.Logic.{_⊎_, inl, inr}
 use mathlib.Core.List.{List, List·Memᴰ}
-use Prim.Native.Nat.{ℕ, zero, suc, _+_, _<_, _≤_}
+use Prim.Native.Nat.{ℕ, suc, _+_, _<_, _≤_}
 use native.Mathlib.Omega.{arith}
 use native.Mathlib.Decide.{decLt}
-use lib.ListN.{getD, length}
+use lib.ListN.{getD}
 use Rattle.fields.specs.Neighbours.{BesideAt}
 use Rattle.fields.proofs.Beside.{beside-below}
-use Rattle.waves.specs.Walks.{Walk, start, move}
-use Rattle.integration_field.specs.Word.{low, isLos, isImpassable}
-use Rattle.integration_field.specs.Walks.{grid, MayEnter, Permitted}
+use Rattle.waves.specs.Walks.{start, move}
+use Rattle.integration_field.specs.Word.{low, isImpassable}
+use Rattle.integration_field.specs.Walks.{MayEnter, Permitted}
 use Rattle.integration_field.specs.Promise.{LeastWalks, Walked}
-use Rattle.least_walks.specs.Walks.{InSight, Enterable, StartedWalk, before, StartedLeast}
+use Rattle.least_walks.specs.Walks.{InSight, Enterable, StartedWalk, StartedLeast}
 
 module _ (costs cells corners : List ℕ) (Wall Goal : ℕ → Type 0) where
   -- what a started field is, as far as walks go: walls have the flag and nothing else has, the goal holds the value 0,

@@ -3,7 +3,7 @@
 use mathlib.Core.Path.{_≡_, refl, sym, ap, _∙_, subst}
 use mathlib.Core.Bool.{Bool, true, false, _&&_, _||_, true≢false, false≢true}
 use Prim.Native.Nat.{ℕ, zero, suc, _+_, _-_, _*_, _/_, _^_, _<_, _≤_}
-use native.Mathlib.Nat.{le-div-iff-mul-le, div-eq-of-lt, mul-one, mul-pos, mul-right-comm, le-of-mul-le-mul-right, mul-le-mul-right, le-of-eq, le-of-lt, le-trans, lt-of-not-le}
+use native.Mathlib.Nat.{le-div-iff-mul-le, div-eq-of-lt, mul-one, mul-pos, mul-right-comm, le-of-mul-le-mul-right, le-of-eq, le-of-lt, le-trans, lt-of-not-le}
 use native.Mathlib.Omega.{arith}
 use lib.Dec.{T, leb, ltb, eqb, ltb→lt, eqb→eq, le→leb, lit≤}
 use lib.IntN.{ℤ, pos, negsuc, negℤ, pos-ne-negsuc}

@@ -6,15 +6,14 @@
 -- Assumes nothing.
 use mathlib.Core.Path.{_≡_, refl}
 use mathlib.Core.Bool.{Bool, true, false, not, cond, _&&_, _||_}
-use mathlib.Core.List.{List, [], _∷_}
+use mathlib.Core.List.{List}
 use Prim.Native.Nat.{ℕ, suc, _<_, _≤_}
 use native.Mathlib.Omega.{arith}
 use lib.Dec.{ltb, eqb}
 use lib.ListN.{length, getD}
 use borrow.Author.Tests.{ltb-false, eqb-true, eqb-false, eq-eqb, not-false}
-use Rattle.route.specs.Table.{Row, firstNumber}
 use Rattle.route.specs.Window.{onEdge}
-use Rattle.route.specs.Step.{sectorOf, goalOf, markOf, firstOf, lastOf, boundaryByte, boundaryOf, isGoal, isWindow, stepRows, eachStep, stepNumber}
+use Rattle.route.specs.Step.{sectorOf, goalOf, markOf, firstOf, lastOf, boundaryByte, boundaryOf, isGoal, isWindow, eachStep, stepNumber}
 
 pub each-step : (s : List ℕ) → length s ≡ 8 → stepNumber s ≡ eachStep s
 unfolding stepNumber eachStep

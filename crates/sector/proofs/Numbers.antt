@@ -2,7 +2,7 @@
 --     refused-1, refused-2, refused-step, refused-12, accepts    each way to decide
 --     accepted    what is known of a call that is not refused
 -- Assumes nothing.
-use mathlib.Core.Path.{_≡_, refl, sym, _∙_}
+use mathlib.Core.Path.{_≡_, refl}
 use mathlib.Core.Bool.{Bool, true, false, cond, not, _&&_}
 use mathlib.Core.List.{List}
 use Prim.Native.Nat.{ℕ}

@@ -1,6 +1,5 @@
 -- `flow_field::build` meets its contract: the one number, and the sheet filled or left.
 -- Assumes nothing.
-use mathlib.Core.Path.{_≡_}
 use borrow.Author.Tests.{eq-eqb, ne-eqb}
 use denote.Ref.{now}
 use lib.ListN.{length}

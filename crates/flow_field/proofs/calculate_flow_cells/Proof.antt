@@ -1,11 +1,11 @@
 -- `flow_field::calculate_flow_cells` meets its contract: the bytes passed are the rule's, and those ahead are the old ones.
 -- Assumes nothing.
 use mathlib.Core.Path.{_≡_, ap, _∙_}
-use Prim.Native.Nat.{ℕ, _≤_, _<_, _-_}
+use Prim.Native.Nat.{ℕ, _≤_, _-_}
 use native.Mathlib.Omega.{arith}
 use borrow.Author.Needs.{needs}
 use denote.Ref.{now}
-use lib.ListN.{length, getD}
+use lib.ListN.{getD}
 use Rattle.flow_byte.specs.Look.{builtByte, flowBuild}
 use Rattle.flow_field.proofs.Sheets.{Filled, fill-none, fill-more, fill-all, still-old}
 use Rattle.flow_field.proofs.calculate_flow_cells.Statement.{statement}

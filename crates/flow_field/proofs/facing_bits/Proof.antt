@@ -5,7 +5,7 @@ use Prim.Native.Nat.{ℕ, _+_}
 use native.Mathlib.Omega.{arith}
 use Rattle.utilities.specs.Compass.{opposite}
 use Rattle.flow_byte.specs.Byte.{bitsOf}
-use Rattle.flow_byte.specs.New.{towardsLower, facingBits}
+use Rattle.flow_byte.specs.New.{facingBits}
 use Rattle.flow_field.proofs.Looks.{bits-small}
 use borrow.Author.Needs.{needs}
 use Rattle.flow_field.proofs.facing_bits.Statement.{statement}

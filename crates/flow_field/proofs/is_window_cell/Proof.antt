@@ -1,6 +1,5 @@
 -- `flow_field::is_window_cell` meets its contract: a window's cells are those of its edge from the first to the last.
 -- Assumes nothing.
-use mathlib.Core.Path.{_∙_}
 use borrow.Author.Tests.{le-leb, lt-leb}
 use Rattle.flow_field.proofs.Windows.{in-window}
 use borrow.Author.Needs.{needs}

@@ -6,7 +6,7 @@ use denote.Ref.{now}
 use Rattle.fields.specs.declared.FieldCell.{FieldCell}
 use Rattle.fields.specs.declared.Stepped.{Stepped}
 use Rattle.fields.specs.declared.Stepped.the-variants.{Cell}
-use Rattle.fields.specs.Cell.{Inside, cellAt, indexOf, stepped}
+use Rattle.fields.specs.Cell.{cellAt, indexOf, stepped}
 use Rattle.fields.proofs.Steps.{cell-inside, index-of-cell, stepped-cell}
 use Rattle.flow_byte.specs.Look.{seen, seenAt}
 use borrow.Author.Needs.{needs}

@@ -1,15 +1,9 @@
 -- `flow_field::new` meets its contract: the numbers in the table's order, and the sheet beside each.
 -- Assumes nothing.
-use mathlib.Core.Path.{_≡_, sym, ap, _∙_}
-use mathlib.Core.Bool.{Bool, true, false, not, _&&_}
-use borrow.Author.Tests.{eq-eqb, ne-eqb, lt-ltb, le-ltb, not-false, eqb-true}
-use native.Mathlib.Omega.{arith}
+use mathlib.Core.Path.{sym, ap, _∙_}
 use denote.Ref.{now}
-use lib.Dec.{eqb}
-use lib.ListN.{length}
 use Rattle.route.specs.declared.RouteStep.{RouteStep}
 use Rattle.flow_byte.specs.New.{newBytes}
-use Rattle.flow_field.specs.Flow.{newNumber}
 use Rattle.flow_field.proofs.Numbers.{fits, refused-2, refused-step, refused-12, accepted}
 use borrow.Author.Needs.{needs}
 use Rattle.flow_field.proofs.new.Statement.{statement}

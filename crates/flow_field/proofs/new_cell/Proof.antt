@@ -1,7 +1,6 @@
 -- `flow_field::new_cell` meets its contract: a window cell, or another.
 -- Assumes nothing.
 use mathlib.Core.Path.{sym, ap₂, _∙_}
-use Prim.Native.Nat.{ℕ}
 use borrow.Author.Tests.{not-true, not-false}
 use lib.Bits.{bitOr, or-zero-r}
 use Rattle.flow_byte.specs.New.{startOf, inWindow, newByte}

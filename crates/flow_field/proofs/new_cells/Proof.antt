@@ -1,11 +1,11 @@
 -- `flow_field::new_cells` meets its contract: the bytes passed are the rule's.
 -- Assumes nothing.
 use mathlib.Core.Path.{_≡_}
-use Prim.Native.Nat.{ℕ, _≤_, _<_, _-_}
+use Prim.Native.Nat.{ℕ, _≤_, _-_}
 use native.Mathlib.Omega.{arith}
 use borrow.Author.Needs.{needs}
 use denote.Ref.{now}
-use lib.ListN.{length, getD}
+use lib.ListN.{getD}
 use Rattle.flow_byte.specs.New.{newByte, newBytes}
 use Rattle.flow_field.proofs.Sheets.{Filled, fill-none, fill-more, fill-all}
 use Rattle.flow_field.proofs.new_cells.Statement.{statement}

@@ -1,6 +1,5 @@
 -- `flow_field::towards_lower` meets its contract: by the stride.
 -- Assumes nothing.
-use mathlib.Core.Path.{sym, _∙_}
 use borrow.Author.Tests.{eq-eqb, ne-eqb}
 use borrow.Author.Needs.{needs}
 use Rattle.flow_field.proofs.towards_lower.Statement.{statement}

@@ -1,7 +1,6 @@
 -- `sector::plan_sector` meets its contract: refused by its number, or what its four calls leave.
 -- Assumes nothing.
 use mathlib.Core.Path.{_≡_, refl, sym, _∙_}
-use Prim.Native.Nat.{ℕ}
 use denote.Ref.{now}
 use Rattle.sector.specs.Sector.{sectorNumber}
 use Rattle.sector.proofs.Planned.{refuses, runs, promised}

@@ -1,10 +1,7 @@
 -- `sector::sector_number` meets its contract: a line of the table at each return.
 -- Assumes nothing.
-use mathlib.Core.Path.{_≡_, sym, _∙_}
-use mathlib.Core.Bool.{Bool, true, false, not, _&&_}
+use mathlib.Core.Path.{sym, _∙_}
 use denote.Ref.{now}
-use lib.Dec.{eqb}
-use lib.ListN.{length}
 use borrow.Author.Tests.{eq-eqb, ne-eqb}
 use Rattle.sector.proofs.Numbers.{refused-1, refused-2, refused-step, refused-12, accepts}
 use borrow.Author.Needs.{needs}

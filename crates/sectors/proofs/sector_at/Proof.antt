@@ -1,4 +1,3 @@
-use mathlib.Core.Bool.{and-false}
 use borrow.Author.Tests.{le-leb, lt-leb}
 use native.Mathlib.Omega.{arith}
 use Rattle.sectors.specs.Floor.{placed}

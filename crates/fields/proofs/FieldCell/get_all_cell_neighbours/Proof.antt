@@ -1,7 +1,6 @@
-use mathlib.Core.Path.{_≡_, ap}
+use mathlib.Core.Path.{_≡_}
 use mathlib.Core.List.{[], _∷_, _++_}
 use native.Mathlib.Omega.{arith}
-use lib.ListN.{length}
 use Rattle.utilities.specs.declared.CompassDir.the-variants.{NorthEast, SouthEast, SouthWest, NorthWest}
 use Rattle.utilities.specs.Compass.{orthogonal}
 use Rattle.fields.specs.declared.FieldCell.{FieldCell}

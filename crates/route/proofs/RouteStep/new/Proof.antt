@@ -1,5 +1,3 @@
-use mathlib.Core.Path.{_∙_, ap}
-use Rattle.utilities.specs.Compass.{sideOf}
 use borrow.Author.Needs.{needs}
 use Rattle.route.proofs.RouteStep.new.Statement.{statement}
 use Rattle.route.proofs.RouteStep.new.Tie as tie
