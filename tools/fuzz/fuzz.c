@@ -1,0 +1,174 @@
+/*
+ * Random calls through the C interface, with every lent buffer fenced by pages that no access is allowed to.
+ * Lengths go from 0 past every limit, bytes are any or nearly good. A refused call must leave its sheet as it was and
+ * answer zeros. Usage: fuzz [SECONDS] [SEED]
+ */
+#define _DEFAULT_SOURCE
+#include <stdio.h>
+#include <stdlib.h>
+#include <string.h>
+#include <sys/mman.h>
+#include <time.h>
+#include <unistd.h>
+#include "hanjolum.h"
+
+static uint64_t state;
+
+static uint32_t draw(void)
+{
+    state ^= state << 13;
+    state ^= state >> 7;
+    state ^= state << 17;
+    return (uint32_t)(state >> 16);
+}
+
+static uint32_t below(uint32_t n) { return draw() % n; }
+
+static void fail(const char *what)
+{
+    printf("%s\n", what);
+    exit(1);
+}
+
+/* A buffer of at most 16,384 bytes between two pages without access, at the end of its space or at its start. */
+typedef struct {
+    uint8_t *space;
+    uint8_t *at;
+    size_t length;
+} Fenced;
+
+enum { SPACE = 16384 };
+
+static Fenced fence(void)
+{
+    size_t page = (size_t)sysconf(_SC_PAGESIZE);
+    uint8_t *all = mmap(NULL, SPACE + 2 * page, PROT_READ | PROT_WRITE, MAP_PRIVATE | MAP_ANONYMOUS, -1, 0);
+    if (all == MAP_FAILED || mprotect(all, page, PROT_NONE) || mprotect(all + page + SPACE, page, PROT_NONE))
+        fail("no memory");
+    return (Fenced){all + page, all + page, 0};
+}
+
+static void place(Fenced *f, size_t length)
+{
+    f->length = length;
+    f->at = below(2) ? f->space + SPACE - length : f->space;
+}
+
+static void fill(Fenced *f)
+{
+    static const uint8_t costs[] = {0, 1, 1, 1, 2, 10, 200, 254, 255, 255};
+    int kind = (int)below(3);
+    for (size_t i = 0; i < f->length; i++)
+        f->at[i] = kind == 0 ? (uint8_t)draw() : kind == 1 ? costs[below(10)] : (below(4) ? 1 : 255);
+}
+
+/* The length asked for, mostly; else one near it, or any up to twice as much. */
+static size_t near(size_t length)
+{
+    uint32_t k = below(8);
+    return k > 2 ? length : k == 0 ? below((uint32_t)length * 2 + 2) : length - 1 + below(3);
+}
+
+static void step(uint8_t *s)
+{
+    static const uint8_t first[] = {0, 9, 90, 0};
+    uint8_t side = (uint8_t)below(4), a = (uint8_t)below(10), b = (uint8_t)below(10), stride = side % 2 ? 10 : 1;
+    uint8_t good[8] = {(uint8_t)below(64), (uint8_t)below(100), (uint8_t)below(2), 0, 0, side, 0, 0};
+    good[3] = (uint8_t)(first[side] + stride * (a < b ? a : b));
+    good[4] = (uint8_t)(first[side] + stride * (a < b ? b : a));
+    memcpy(s, good, 8);
+    if (below(4) == 0)
+        s[below(8)] = (uint8_t)draw();
+}
+
+static void steps(Fenced *f)
+{
+    for (size_t i = 0; i < f->length; i++)
+        f->at[i] = (uint8_t)draw();
+    for (size_t i = 0; i + 8 <= f->length; i += 8)
+        step(f->at + i);
+}
+
+static HanjolumIntegrationField field(void)
+{
+    HanjolumIntegrationField f;
+    int wild = below(4) == 0;
+    for (int i = 0; i < 100; i++) {
+        f.field[i] = draw() ^ (draw() << 16);
+        f.los_corners[i] = wild ? (size_t)draw() << below(40) : below(100);
+    }
+    f.count = wild ? below(300) : below(101);
+    return f;
+}
+
+static int zeros(const void *part, size_t length)
+{
+    const uint8_t *bytes = part;
+    for (size_t i = 0; i < length; i++)
+        if (bytes[i])
+            return 0;
+    return 1;
+}
+
+static void refused(uint8_t number, HanjolumIntegrationField f, size_t waves)
+{
+    if (number != 0 && !(zeros(f.field, sizeof f.field) && zeros(f.los_corners, sizeof f.los_corners) && f.count == 0 && waves == 0))
+        fail("a refusal is not zero");
+}
+
+static uint8_t before[SPACE];
+
+static void kept(uint8_t number, const Fenced *sheet)
+{
+    if (number != 0 && memcmp(before, sheet->at, sheet->length) != 0)
+        fail("a refusal wrote");
+}
+
+/* One call of each kind that writes a sheet, and one of each that does not. */
+static void round_of_calls(Fenced *costs, Fenced *route, Fenced *previous, Fenced *sheet)
+{
+    int leg = below(4) == 0;
+    place(costs, near(leg ? 6400 : 100));
+    place(route, near(leg ? 8 * (1 + below(17)) : 8));
+    place(previous, 4 * near(100));
+    place(sheet, near(leg ? 6400 : 100));
+    fill(costs);
+    steps(route);
+    fill(previous);
+    fill(sheet);
+    memcpy(before, sheet->at, sheet->length);
+    const uint32_t *numbers = (const uint32_t *)(const void *)previous->at;
+    size_t count = previous->length / 4;
+    if (leg) {
+        kept(hanjolum_leg(costs->at, costs->length, route->at, route->length, sheet->at, sheet->length), sheet);
+        return;
+    }
+    bool has = below(2);
+    HanjolumBuildAnswer a = hanjolum_sector(costs->at, costs->length, route->at, route->length, has, numbers, count, sheet->at, sheet->length);
+    kept(a.number, sheet);
+    refused(a.number, a.field, a.waves);
+    HanjolumInitAnswer i = hanjolum_init(costs->at, costs->length, route->at, route->length);
+    refused(i.number, i.field, 0);
+    HanjolumBuildAnswer b = hanjolum_build(costs->at, costs->length, field());
+    refused(b.number, b.field, b.waves);
+    memcpy(before, sheet->at, sheet->length);
+    kept(hanjolum_flow_new(route->at, route->length, field(), has, numbers, count, sheet->at, sheet->length), sheet);
+    memcpy(before, sheet->at, sheet->length);
+    kept(hanjolum_flow_build(field(), sheet->at, sheet->length), sheet);
+    HanjolumLine l = hanjolum_line(below(12), below(12), below(12), (size_t)draw() << below(40));
+    if (l.number != 0 && l.count != 0)
+        fail("a refused line has cells");
+    hanjolum_line_end(below(12), below(12), (size_t)draw() << below(40), below(12));
+}
+
+int main(int argc, char **argv)
+{
+    time_t end = time(NULL) + (argc > 1 ? atol(argv[1]) : 10);
+    state = 0x9e3779b97f4a7c15u ^ (argc > 2 ? (uint64_t)atol(argv[2]) : 1);
+    Fenced costs = fence(), route = fence(), previous = fence(), sheet = fence();
+    unsigned long rounds = 0;
+    for (; time(NULL) < end; rounds++)
+        round_of_calls(&costs, &route, &previous, &sheet);
+    printf("%lu rounds of calls, nothing found\n", rounds);
+    return 0;
+}
