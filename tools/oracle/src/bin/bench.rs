@@ -1,5 +1,5 @@
 //! Speed: our sector call against the Rust's `init`, `build`, `new`, `build` on the same inputs, from
-//! the same driver, in one run. Ratios of medians.
+//! the same driver, in one run; and our leg against its sector calls. Ratios of medians.
 
 use std::hint::black_box;
 use std::time::Instant;
@@ -16,6 +16,8 @@ use reference::flowfields::route::RouteStep;
 
 /// Inputs of a group.
 const INPUTS: usize = 256;
+/// Floors that a leg is planned over.
+const LEGS: usize = 16;
 /// How often each side runs through them.
 const ROUNDS: usize = 101;
 
@@ -67,7 +69,7 @@ fn by_us(input: &Input, sheet: &mut [u8; CELLS]) -> u8 {
 }
 
 /// Nanoseconds a call, over all inputs once.
-fn timed(inputs: &[Input], mut call: impl FnMut(&Input) -> u8) -> f64 {
+fn timed<T>(inputs: &[T], mut call: impl FnMut(&T) -> u8) -> f64 {
     let start = Instant::now();
     for input in inputs {
         black_box(call(black_box(input)));
@@ -97,6 +99,56 @@ fn measure(inputs: &[Input], ours: bool) -> [f64; 3] {
     times.map(|list| if list.is_empty() { f64::NAN } else { median(list) })
 }
 
+/// A floor and a leg of sixteen steps over it.
+struct Leg {
+    floor: Vec<u8>,
+    steps: Vec<u8>,
+}
+
+fn leg(rng: &mut Rng, open: bool) -> Leg {
+    let floor = (0..64).flat_map(|_| input(rng, open, false).costs).collect();
+    Leg { floor, steps: floors::straight_leg(16) }
+}
+
+fn as_a_leg(leg: &Leg, sheet: &mut [u8]) -> u8 {
+    Library.leg(&leg.floor, &leg.steps, sheet)
+}
+
+/// The sector calls that the leg is made of, each with the field that the call before answered.
+fn by_sectors(leg: &Leg, sheet: &mut [u8]) -> u8 {
+    let mut built: Option<BuildAnswer> = None;
+    for step in leg.steps.chunks(8) {
+        let at = usize::from(step[0]) * CELLS;
+        let numbers = built.as_ref().map_or(&[][..], |answer| &answer.field.field[..]);
+        let previous = Previous { lent: built.is_some(), numbers };
+        built = Some(Library.sector(&leg.floor[at..at + CELLS], step, previous, &mut sheet[at..at + CELLS]));
+    }
+    built.map_or(0, |answer| answer.number)
+}
+
+/// The medians of the leg and of its sector calls, on sheets that must come out equal.
+fn measure_legs(legs: &[Leg]) -> [f64; 2] {
+    let mut times: [Vec<f64>; 2] = Default::default();
+    let (mut one, mut other) = (vec![0x55; 64 * CELLS], vec![0x55; 64 * CELLS]);
+    for _ in 0..ROUNDS {
+        times[0].push(timed(legs, |leg| as_a_leg(leg, &mut one)));
+        times[1].push(timed(legs, |leg| by_sectors(leg, &mut other)));
+        assert_eq!(one, other, "a leg and its sector calls write the same sheet");
+    }
+    times.map(median)
+}
+
+fn legs() {
+    println!("nanoseconds a leg of 16 steps, medians of {ROUNDS} rounds over {LEGS} floors");
+    println!("{:<14} {:>9} {:>9}  {:>11}", "", "sectors", "leg", "leg/sectors");
+    for (name, open) in [("random floor", false), ("open floor", true)] {
+        let mut rng = Rng::new(7);
+        let floors: Vec<Leg> = (0..LEGS).map(|_| leg(&mut rng, open)).collect();
+        let [as_leg, sectors] = measure_legs(&floors);
+        println!("{name:<14} {sectors:>9.0} {as_leg:>9.0}  {:>11.2}", as_leg / sectors);
+    }
+}
+
 fn main() {
     let ours = Library.offers(Call::Sector);
     println!("nanoseconds a sector, medians of {ROUNDS} rounds over {INPUTS} inputs, both built for release");
@@ -123,5 +175,8 @@ fn main() {
         } else {
             println!("{name:<14} {rust:>9.0}");
         }
+    }
+    if Library.offers(Call::Leg) {
+        legs();
     }
 }
