@@ -3,8 +3,9 @@
 use mathlib.Core.Path.{_≡_}
 use mathlib.Core.Bool.{Bool, true, false}
 use Prim.Native.Nat.{ℕ, _<_, _≤_, min, max}
+use lib.Dec.{ltb}
 use Rattle.fields.specs.declared.FieldCell.{FieldCell}
-use Rattle.line_end.specs.LineEnd.{endsRightward, endsLeftward, endRow, lineRow}
+use Rattle.line_end.specs.LineEnd.{rowOf, endsOn, edge, lineRow}
 
 -- A cell that lies at or beyond the corner, away from the goal. In the goal's column and in its row it lies on the line through both;
 -- up the column, and where the corner is the goal, on row 0.
@@ -25,9 +26,10 @@ pub record First (ends : ℕ → Bool) (column last end : ℕ) : Type 0 where
 
 -- The end where the corner lies in neither the goal's column nor its row (01, "Integration: init": "the first whose row ..", "the first column at ..").
 pub record Slanted (corner goal end : FieldCell) : Type 0 where
-  pub rightward-first : goal .column < corner .column → First (λ (c : ℕ). endsRightward (lineRow corner goal c)) (corner .column) 9 (end .column)
-  pub leftward-first : corner .column < goal .column → First (λ (c : ℕ). endsLeftward (lineRow corner goal c)) (corner .column) 0 (end .column)
-  pub on-row : end .row ≡ endRow (lineRow corner goal (end .column))
+  pub first-ending :
+      let rightward = ltb (goal .column) (corner .column) in
+      First (λ (c : ℕ). endsOn rightward (rowOf (lineRow corner goal c))) (corner .column) (edge rightward) (end .column)
+  pub on-row : end .row ≡ rowOf (lineRow corner goal (end .column)) .row
 
 -- a cell in the rectangle that two cells span
 pub record Between (a b n : FieldCell) : Type 0 where

@@ -1,6 +1,6 @@
--- The end of a corner's line (01, "Integration: init", second paragraph): in f32, each operation rounded once, then floor.
+-- The end of a corner's line (01, "Integration: init", third paragraph): in f32, each operation rounded once, then floor.
 -- Assumes nothing.
-use mathlib.Core.Bool.{Bool, true, false, cond, _&&_, _||_}
+use mathlib.Core.Bool.{Bool, true, false, cond, not, _&&_, _||_}
 use Prim.Native.Nat.{ℕ, zero, suc, _+_, _-_, _*_, _/_, min}
 use lib.Dec.{ltb, eqb}
 use lib.IntN.{ℤ, pos, negsuc, negℤ}
@@ -39,52 +39,49 @@ abbrev pub lineRow : FieldCell → FieldCell → ℕ → ℤ
 lineRow corner goal = rowAt (gradient corner goal) (intercept (gradient corner goal) corner)
 
 -- ---- the column that ends the line
--- rightward: one whose row is above 9 or below 0
-abbrev pub endsRightward : ℤ → Bool
-endsRightward (pos n) = ltb 9 n
-endsRightward (negsuc n) = true
+-- A row as a walk takes it: whether it is above 9 or below 0, and the row to end on, which then is that edge row.
+abbrev pub rowIs : Bool → ℕ → Row
+rowIs o r = record { outside = o; row = r }
 
--- leftward, where a row below 0 counts as 0: one at row 0, or above 9
-abbrev pub endsLeftward : ℤ → Bool
-endsLeftward (pos n) = eqb n 0 || ltb 9 n
-endsLeftward (negsuc n) = true
+abbrev pub rowOf : ℤ → Row
+rowOf (pos n) = rowIs (ltb 9 n) (min n 9)
+rowOf (negsuc n) = rowIs true 0
 
--- The first column that ends the line, of those tried from `column` on; `next` is the one tried after, and the last ends it in any case.
--- `after` counts the columns behind `column`, and the last argument is the test of `column`. (`Slanted` of `Away` says it without them.)
+-- Whether a row ends the line: one above 9 or below 0, and leftward, where one below 0 counts as 0, one at 0 too.
+abbrev pub endsOn : Bool → Row → Bool
+endsOn rightward r = r .outside || (not rightward && eqb (r .row) 0)
+
+-- the edge away from the goal, of a column or row: 9 where it lies beyond the goal's, else 0
+abbrev pub edge : Bool → ℕ
+edge beyond = cond beyond 9 0
+
+-- the column tried after a column, and how many are behind it, up to 9 rightward and down to 0 leftward
+abbrev pub next : Bool → ℕ → ℕ
+next rightward column = cond rightward (column + 1) (column - 1)
+
+abbrev pub after : Bool → ℕ → ℕ
+after rightward column = cond rightward (9 - column) column
+
+-- The first column that ends the line, of those tried from `column` on; the last ends it in any case.
+-- `after` counts those behind it, and the last argument is its test. (`Slanted` of `Away` says it without them.)
 unfoldable pub firstEnding : (ℕ → Bool) → (ℕ → ℕ) → ℕ → ℕ → Bool → ℕ
 firstEnding ends next zero column test = column
 firstEnding ends next (suc after) column true = column
 firstEnding ends next (suc after) column false = firstEnding ends next after (next column) (ends (next column))
 
-abbrev pub rightward : (ℕ → ℤ) → ℕ → ℕ
-rightward row column = firstEnding (λ (c : ℕ). endsRightward (row c)) suc (9 - column) column (endsRightward (row column))
-
-abbrev pub leftward : (ℕ → ℤ) → ℕ → ℕ
-leftward row column = firstEnding (λ (c : ℕ). endsLeftward (row c)) (λ (c : ℕ). c - 1) column column (endsLeftward (row column))
-
--- the row that the line ends on: the edge row where its own is below 0 or above 9
-abbrev pub endRow : ℤ → ℕ
-endRow (pos n) = min n 9
-endRow (negsuc n) = 0
-
-abbrev pub endAt : (ℕ → ℤ) → ℕ → FieldCell
-endAt row column = cell column (endRow (row column))
-
 -- ---- the end
--- the edge, 0 or 9, that lies away from the goal; 0 where the two are equal
-abbrev pub awayEdge : ℕ → ℕ → ℕ
-awayEdge corner goal = cond (ltb goal corner) 9 0
-
 -- Columns are tried from the corner's own, away from the goal: rightward where the goal lies left of the corner.
 unfoldable pub slantedEnd : (ℕ → ℤ) → ℕ → Bool → FieldCell
-slantedEnd row column true = endAt row (rightward row column)
-slantedEnd row column false = endAt row (leftward row column)
+slantedEnd row column rightward =
+    let ends : ℕ → Bool = λ c. endsOn rightward (rowOf (row c)) in
+    let end : ℕ = firstEnding ends (next rightward) (after rightward column) column (ends column) in
+    cell end (rowOf (row end) .row)
 
 -- In the goal's column the end is the edge row away from the goal (row 0 if the corner is the goal); in its row, the edge column away; else as above.
 -- The two tests say whether the corner lies in the goal's column and in its row.
 unfoldable pub endBy : Bool → Bool → FieldCell → FieldCell → FieldCell
-endBy true inRow corner goal = cell (corner .column) (awayEdge (corner .row) (goal .row))
-endBy false true corner goal = cell (awayEdge (corner .column) (goal .column)) (corner .row)
+endBy true inRow corner goal = cell (corner .column) (edge (ltb (goal .row) (corner .row)))
+endBy false true corner goal = cell (edge (ltb (goal .column) (corner .column))) (corner .row)
 endBy false false corner goal = slantedEnd (lineRow corner goal) (corner .column) (ltb (goal .column) (corner .column))
 
 unfoldable pub lineEnd : FieldCell → FieldCell → FieldCell
@@ -96,11 +93,3 @@ answer n c = record { number = n; cell = c }
 
 unfoldable pub lineEndAnswer : FieldCell → FieldCell → LineEnd
 lineEndAnswer corner goal = cond (inside corner && inside goal) (answer 0 (lineEnd corner goal)) (answer 13 (cell 0 0))
-
--- ---- what the program keeps of a row
--- whether it is above 9 or below 0, and the row that the line would end on
-abbrev pub rowIs : Bool → ℕ → Row
-rowIs o r = record { outside = o; row = r }
-
-abbrev pub rowOf : ℤ → Row
-rowOf z = rowIs (endsRightward z) (endRow z)

@@ -1,9 +1,11 @@
 // Where the line of a corner ends: on the edge of the sector, away from the goal.
 use fields::FieldCell;
 ghost use mathlib.Core.Path.{_≡_};
+ghost use mathlib.Core.Bool.{_||_};
 ghost use Prim.Native.Nat.{_<_};
+ghost use lib.Dec.{eqb};
 ghost use Rattle.fields.specs.Cell.{Inside};
-ghost use Rattle.line_end.specs.LineEnd.{floor, rowAt, rowOf, rightward, leftward, endAt, lineEnd, lineEndAnswer};
+ghost use Rattle.line_end.specs.LineEnd.{floor, rowAt, rowOf, endsOn, edge, next, after, slantedEnd, lineEnd, lineEndAnswer};
 
 // What the call answers: 0 and the cell that the line ends in, or the number of a refusal.
 #[repr(C)]
@@ -54,59 +56,51 @@ fn row_at(gradient: f32, intercept: f32, column: usize) -> Row
     floor_row(gradient * (column as f32) + intercept)
 }
 
-// Walks the line with increasing column until its row leaves the sector, or to column 9.
-fn end_rightward(gradient: f32, intercept: f32, column: usize) -> FieldCell
-    requires { ⌜ column < 10 ⌝ }
-    ensures { λ r. ⌜ r ≡ endAt (rowAt gradient intercept) (rightward (rowAt gradient intercept) column) ⌝ }
+// The edge away from the goal, of a column or row: 9 where it lies beyond the goal's, else 0.
+fn edge(beyond: bool) -> usize
+    ensures { λ r. ⌜ r ≡ edge beyond ⌝ }
 {
-    let mut end_col = column;
-    loop {
-        let end_row = row_at(gradient, intercept, end_col);
-        let row = end_row.row;
-        if end_row.outside {
-            return FieldCell {
-                column: end_col,
-                row,
-            };
-        }
-        if end_col == 9 {
-            return FieldCell {
-                column: end_col,
-                row,
-            };
-        }
-        end_col += 1;
-    }
+    if beyond { 9 } else { 0 }
 }
 
-// Walks the line with decreasing column until its row is 0 or leaves the sector, or to column 0.
-fn end_leftward(gradient: f32, intercept: f32, column: usize) -> FieldCell
+// Whether the line ends in a column, on its row there: the last column ends it on any row.
+fn is_end(rightward: bool, column: usize, row: Row) -> bool
+    ensures { λ r. ⌜ r ≡ (endsOn rightward row || eqb column (edge rightward)) ⌝ }
+{
+    if row.outside {
+        return true;
+    }
+    if rightward {
+        return column == 9;
+    }
+    if row.row == 0 {
+        return true;
+    }
+    column == 0
+}
+
+// The column tried after a column that is not the last.
+fn next_column(rightward: bool, column: usize) -> usize
+    requires { ⌜ (column < 10) × (0 < after rightward column) ⌝ }
+    ensures { λ r. ⌜ r ≡ next rightward column ⌝ }
+{
+    if rightward { column + 1 } else { column - 1 }
+}
+
+// Tries the columns from `column` on, away from the goal, until one ends the line.
+fn slanted_end(gradient: f32, intercept: f32, column: usize, rightward: bool) -> FieldCell
     requires { ⌜ column < 10 ⌝ }
-    ensures { λ r. ⌜ r ≡ endAt (rowAt gradient intercept) (leftward (rowAt gradient intercept) column) ⌝ }
+    ensures { λ r. ⌜ r ≡ slantedEnd (rowAt gradient intercept) column rightward ⌝ }
 {
     let mut end_col = column;
-    loop {
-        let end_row = row_at(gradient, intercept, end_col);
-        let row = end_row.row;
-        if end_row.outside {
-            return FieldCell {
-                column: end_col,
-                row,
-            };
-        }
-        if row == 0 {
-            return FieldCell {
-                column: end_col,
-                row,
-            };
-        }
-        if end_col == 0 {
-            return FieldCell {
-                column: end_col,
-                row,
-            };
-        }
-        end_col -= 1;
+    let mut end_row = row_at(gradient, intercept, column);
+    while !is_end(rightward, end_col, end_row) {
+        end_col = next_column(rightward, end_col);
+        end_row = row_at(gradient, intercept, end_col);
+    }
+    FieldCell {
+        column: end_col,
+        row: end_row.row,
     }
 }
 
@@ -120,25 +114,21 @@ pub fn corner_line_end(corner: FieldCell, goal: FieldCell) -> FieldCell
     let goal_column = goal.column;
     let goal_row = goal.row;
     if column == goal_column {
-        if row > goal_row {
-            return FieldCell { column, row: 9 };
-        }
-        return FieldCell { column, row: 0 };
+        let row = edge(row > goal_row);
+        return FieldCell { column, row };
     }
     if row == goal_row {
-        if column > goal_column {
-            return FieldCell { column: 9, row };
-        }
-        return FieldCell { column: 0, row };
+        let column = edge(column > goal_column);
+        return FieldCell { column, row };
     }
     let delta_column = column as f32 - goal_column as f32;
     let delta_row = row as f32 - goal_row as f32;
     let gradient = delta_row / delta_column;
     let intercept = -gradient * (column as f32) + row as f32;
     if column > goal_column {
-        return end_rightward(gradient, intercept, column);
+        return slanted_end(gradient, intercept, column, true);
     }
-    end_leftward(gradient, intercept, column)
+    slanted_end(gradient, intercept, column, false)
 }
 
 // Where the line of a corner ends, or 13 for a column or row outside 0 to 9.
