@@ -1,20 +1,17 @@
--- What the line calls answer, by the tests that they make. Callers cite
---     line-accepted    between two cells of the sector a line call answers the line
---     padded-cell      and its places up to the count are the line's cells
+-- What the line calls answer, by the tests that they make.
 -- Assumes nothing.
 use mathlib.Core.Path.{_≡_, refl, _∙_}
 use mathlib.Core.Bool.{Bool, true, false, _&&_}
-use mathlib.Core.List.{List, reverse}
+use mathlib.Core.List.{reverse}
 use Prim.Native.Nat.{ℕ, _-_, _<_, _≤_}
 use native.Mathlib.Omega.{arith}
 use lib.Dec.{leb, ltb}
-use lib.ListN.{length, getD, replicate, List·getD-append}
 use lib.Seq.{take-append-seam}
 use borrow.Author.Tests.{ltb-true, lt-ltb, le-ltb, le-leb, lt-leb}
 use Rattle.fields.specs.declared.FieldCell.{FieldCell}
-use Rattle.fields.specs.Cell.{cell, Inside, inside}
+use Rattle.fields.specs.Cell.{Inside, inside}
 use Rattle.bresenham.specs.declared.Line.{Line}
-use Rattle.bresenham.specs.Line.{apart, shallow, steep, line, answered, padded, refused, called, walked, lineCall, shallowCall, steepCall}
+use Rattle.bresenham.specs.Line.{apart, placed, walkCells, shallow, steep, line, answered, refused, lineCall, walkCall}
 use Rattle.bresenham.specs.Nearest.{HoldsNearestLine}
 use Rattle.bresenham.proofs.Theorem.{nearest-line}
 
@@ -41,62 +38,13 @@ module _ (s t : FieldCell) where
   pub in-both : Inside s → Inside t → (inside s && inside t) ≡ true
   in-both i j = rw (in-cell s i, in-cell t j)
 
-  call-outside : (l : List FieldCell) → (inside s && inside t) ≡ false → called s t l ≡ refused 13
-  call-outside l e = rw e
-
-  call-inside : (l : List FieldCell) → (inside s && inside t) ≡ true → called s t l ≡ answered l
-  call-inside l e = rw e
-
-  -- a walk from a to b in its major coordinate, m long and d wide
-  module _ (l : List FieldCell) (a b d m : ℕ) (e : (inside s && inside t) ≡ true) where
-    walk-turned : b < a → called s t (walked (leb a b && leb d m) l) ≡ refused 0
-    walk-turned h = rw (e, lt-leb a b h)
-
-    walk-wide : m < d → called s t (walked (leb a b && leb d m) l) ≡ refused 0
-    walk-wide h = rw (e, lt-leb d m h, and-false (leb a b))
-
-    walk-taken : a ≤ b → d ≤ m → called s t (walked (leb a b && leb d m) l) ≡ answered l
-    walk-taken h k = rw (e, le-leb a b h, le-leb d m k)
-
-  pub shallow-outside : (inside s && inside t) ≡ false → shallowCall s t ≡ refused 13
-  unfolding shallowCall
-  shallow-outside e = call-outside (walked (leb (s .column) (t .column) && leb (apart (s .row) (t .row)) (t .column - s .column)) (shallow s t)) e
-
-  pub shallow-turned : (inside s && inside t) ≡ true → t .column < s .column → shallowCall s t ≡ refused 0
-  unfolding shallowCall
-  shallow-turned e = walk-turned (shallow s t) (s .column) (t .column) (apart (s .row) (t .row)) (t .column - s .column) e
-
-  pub shallow-wide : (inside s && inside t) ≡ true → t .column - s .column < apart (s .row) (t .row) → shallowCall s t ≡ refused 0
-  unfolding shallowCall
-  shallow-wide e = walk-wide (shallow s t) (s .column) (t .column) (apart (s .row) (t .row)) (t .column - s .column) e
-
-  pub shallow-taken : (inside s && inside t) ≡ true → s .column ≤ t .column → apart (s .row) (t .row) ≤ t .column - s .column → shallowCall s t ≡ answered (shallow s t)
-  unfolding shallowCall
-  shallow-taken e = walk-taken (shallow s t) (s .column) (t .column) (apart (s .row) (t .row)) (t .column - s .column) e
-
-  pub steep-outside : (inside s && inside t) ≡ false → steepCall s t ≡ refused 13
-  unfolding steepCall
-  steep-outside e = call-outside (walked (leb (s .row) (t .row) && leb (apart (s .column) (t .column)) (t .row - s .row)) (steep s t)) e
-
-  pub steep-turned : (inside s && inside t) ≡ true → t .row < s .row → steepCall s t ≡ refused 0
-  unfolding steepCall
-  steep-turned e = walk-turned (steep s t) (s .row) (t .row) (apart (s .column) (t .column)) (t .row - s .row) e
-
-  pub steep-wide : (inside s && inside t) ≡ true → t .row - s .row < apart (s .column) (t .column) → steepCall s t ≡ refused 0
-  unfolding steepCall
-  steep-wide e = walk-wide (steep s t) (s .row) (t .row) (apart (s .column) (t .column)) (t .row - s .row) e
-
-  pub steep-taken : (inside s && inside t) ≡ true → s .row ≤ t .row → apart (s .column) (t .column) ≤ t .row - s .row → steepCall s t ≡ answered (steep s t)
-  unfolding steepCall
-  steep-taken e = walk-taken (steep s t) (s .row) (t .row) (apart (s .column) (t .column)) (t .row - s .row) e
-
   pub line-outside : (inside s && inside t) ≡ false → lineCall s t ≡ refused 13
   unfolding lineCall
-  line-outside e = call-outside (line s t) e
+  line-outside e = rw e
 
-  pub line-accepted : Inside s → Inside t → lineCall s t ≡ answered (line s t)
+  line-accepted : Inside s → Inside t → lineCall s t ≡ answered (line s t)
   unfolding lineCall
-  line-accepted i j = call-inside (line s t) (in-both i j)
+  line-accepted i j = rw (in-both i j)
 
   -- the answer holds Bresenham's line
   pub promised : (r : Line) → r ≡ lineCall s t → (r ≡ lineCall s t) × HoldsNearestLine s t r
@@ -106,6 +54,29 @@ module _ (s t : FieldCell) where
         let f : r ≡ answered (line s t) = e ∙ line-accepted i j in
         rw (f, take-append-seam (line s t)) (nearest-line s t),
   )
+
+-- a walk alone
+pub placed-in : (steep : Bool) (a b : ℕ) → Inside (placed steep a b) → (a < 10) × (b < 10)
+placed-in true a b h = (h .row-in, h .column-in)
+placed-in false a b h = (h .column-in, h .row-in)
+
+module _ (steep : Bool) (a₀ b₀ a₁ b₁ : ℕ) where
+  pub walk-outside : (inside (placed steep a₀ b₀) && inside (placed steep a₁ b₁)) ≡ false → walkCall steep a₀ b₀ a₁ b₁ ≡ refused 13
+  unfolding walkCall
+  walk-outside e = rw e
+
+  module _ (e : (inside (placed steep a₀ b₀) && inside (placed steep a₁ b₁)) ≡ true) where
+    pub walk-turned : a₁ < a₀ → walkCall steep a₀ b₀ a₁ b₁ ≡ refused 0
+    unfolding walkCall
+    walk-turned h = rw (e, lt-leb a₀ a₁ h)
+
+    pub walk-wide : a₁ - a₀ < apart b₀ b₁ → walkCall steep a₀ b₀ a₁ b₁ ≡ refused 0
+    unfolding walkCall
+    walk-wide h = rw (e, lt-leb (apart b₀ b₁) (a₁ - a₀) h, and-false (leb a₀ a₁))
+
+    pub walk-taken : a₀ ≤ a₁ → apart b₀ b₁ ≤ a₁ - a₀ → walkCall steep a₀ b₀ a₁ b₁ ≡ answered (walkCells steep a₀ b₀ a₁ b₁)
+    unfolding walkCall
+    walk-taken h k = rw (e, le-leb a₀ a₁ h, le-leb (apart b₀ b₁) (a₁ - a₀) k)
 
 -- a shorter span fits the longer one, from either end
 pub fits-forth : (x a b : ℕ) → x ≤ apart a b → a ≤ b → x ≤ b - a
@@ -133,6 +104,3 @@ module _ (s t : FieldCell) (e : (inside s && inside t) ≡ true) (n : apart (s .
   pub steep-back : t .row < s .row → lineCall s t ≡ answered (reverse (steep t s))
   unfolding lineCall line
   steep-back h = rw (e, le-ltb (apart (s .row) (t .row)) (apart (s .column) (t .column)) n, lt-leb (s .row) (t .row) h)
-
-pub padded-cell : (l : List FieldCell) (k : ℕ) → k < length l → getD (padded l) k (cell 0 0) ≡ getD l k (cell 0 0)
-padded-cell l k h = List·getD-append l (replicate (10 - length l) (cell 0 0)) (cell 0 0) k h

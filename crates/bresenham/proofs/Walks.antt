@@ -1,6 +1,7 @@
 -- The walks of the definition are nearest walks, from either end.
 -- Assumes nothing.
 use mathlib.Core.Path.{_≡_, refl, sym, ap, ap₂, _∙_, subst}
+use mathlib.Core.Bool.{true, false}
 use mathlib.Core.List.{List, reverse}
 use Prim.Native.Nat.{ℕ, zero, suc, _+_, _-_, _*_, _<_, _≤_}
 use native.Mathlib.Nat.{zero-mul}
@@ -9,7 +10,7 @@ use lib.ListN.{length, getD, length-reverse}
 use Rattle.fields.specs.declared.FieldCell.{FieldCell}
 use Rattle.fields.specs.Cell.{cell}
 use Rattle.bresenham.specs.Table.{table}
-use Rattle.bresenham.specs.Line.{apart, nearest, minorAt, shallowAt, steepAt, shallow, steep}
+use Rattle.bresenham.specs.Line.{apart, nearest, minorAt, walkAt, shallow, steep}
 use Rattle.bresenham.specs.Nearest.{Between, Neighbours, NearestCell, NearestWalk, columnOf, rowOf}
 use Rattle.bresenham.proofs.Lists.{length-table, getD-table, getD-reverse}
 use Rattle.bresenham.proofs.Offset.{bounds, minor-between, minor-offset, minor-start, minor-end, minor-next}
@@ -119,8 +120,8 @@ walked-back major minor a b s t l w =
 module _ (s t : FieldCell) where
   pub shallow-walked : s .column ≤ t .column → apart (s .row) (t .row) ≤ t .column - s .column → Walked columnOf rowOf s t s t (shallow s t)
   unfolding shallow
-  shallow-walked h n = walked columnOf rowOf (λ c d p q. ap₂ cell p q) (λ c d p q. omega arith) s t (t .column - s .column) (shallowAt s t) (omega arith) n (λ k. refl) (λ k. refl)
+  shallow-walked h n = walked columnOf rowOf (λ c d p q. ap₂ cell p q) (λ c d p q. omega arith) s t (t .column - s .column) (walkAt false (s .column) (s .row) (t .column) (t .row)) (omega arith) n (λ k. refl) (λ k. refl)
 
   pub steep-walked : s .row ≤ t .row → apart (s .column) (t .column) ≤ t .row - s .row → Walked rowOf columnOf s t s t (steep s t)
   unfolding steep
-  steep-walked h n = walked rowOf columnOf (λ c d p q. ap₂ cell q p) (λ c d p q. omega arith) s t (t .row - s .row) (steepAt s t) (omega arith) n (λ k. refl) (λ k. refl)
+  steep-walked h n = walked rowOf columnOf (λ c d p q. ap₂ cell q p) (λ c d p q. omega arith) s t (t .row - s .row) (walkAt true (s .row) (s .column) (t .row) (t .column)) (omega arith) n (λ k. refl) (λ k. refl)

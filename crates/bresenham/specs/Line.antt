@@ -28,18 +28,24 @@ nearest d m k = (2 * (k * d) + m - 1) / (2 * m)
 abbrev pub minorAt : ℕ → ℕ → ℕ → ℕ → ℕ
 minorAt a b m k = toward a b (nearest (apart a b) m k)
 
--- step k of a walk from s to t that gains a column at each step, and of one that gains a row
-abbrev pub shallowAt : FieldCell → FieldCell → ℕ → FieldCell
-shallowAt s t k = cell (s .column + k) (minorAt (s .row) (t .row) (t .column - s .column) k)
+-- a cell by its major and minor coordinate: of a steep walk the rows are the major one
+abbrev pub placed : Bool → ℕ → ℕ → FieldCell
+placed true major minor = cell minor major
+placed false major minor = cell major minor
 
-abbrev pub steepAt : FieldCell → FieldCell → ℕ → FieldCell
-steepAt s t k = cell (minorAt (s .column) (t .column) (t .row - s .row) k) (s .row + k)
+-- Step k of a walk, and its cells: its major coordinate gains one at each step, from a₀ to a₁, and its minor one goes from b₀ to b₁.
+abbrev pub walkAt : Bool → ℕ → ℕ → ℕ → ℕ → ℕ → FieldCell
+walkAt steep a₀ b₀ a₁ b₁ k = placed steep (a₀ + k) (minorAt b₀ b₁ (a₁ - a₀) k)
 
+abbrev pub walkCells : Bool → ℕ → ℕ → ℕ → ℕ → List FieldCell
+walkCells steep a₀ b₀ a₁ b₁ = table (a₁ - a₀ + 1) (walkAt steep a₀ b₀ a₁ b₁)
+
+-- the walk from s to t through the columns, and the one through the rows
 unfoldable pub shallow : FieldCell → FieldCell → List FieldCell
-shallow s t = table (t .column - s .column + 1) (shallowAt s t)
+shallow s t = walkCells false (s .column) (s .row) (t .column) (t .row)
 
 unfoldable pub steep : FieldCell → FieldCell → List FieldCell
-steep s t = table (t .row - s .row + 1) (steepAt s t)
+steep s t = walkCells true (s .row) (s .column) (t .row) (t .column)
 
 -- The line from s to t (01, "Line"). Toward a lower major coordinate it is walked from t and reversed. Equal spans are steep.
 unfoldable pub line : FieldCell → FieldCell → List FieldCell
@@ -66,13 +72,13 @@ called s t l = cond (inside s && inside t) (answered l) (refused 13)
 unfoldable pub lineCall : FieldCell → FieldCell → Line
 lineCall s t = called s t (line s t)
 
--- the two walks alone: no cells where s to t is no walk of that kind
-abbrev pub walked : Bool → List FieldCell → List FieldCell
-walked true l = l
-walked false l = []
+-- the two walks alone: no cells where the coordinates are those of no such walk
+unfoldable pub walkCall : Bool → ℕ → ℕ → ℕ → ℕ → Line
+walkCall steep a₀ b₀ a₁ b₁ =
+    called (placed steep a₀ b₀) (placed steep a₁ b₁) (cond (leb a₀ a₁ && leb (apart b₀ b₁) (a₁ - a₀)) (walkCells steep a₀ b₀ a₁ b₁) [])
 
-unfoldable pub shallowCall : FieldCell → FieldCell → Line
-shallowCall s t = called s t (walked (leb (s .column) (t .column) && leb (apart (s .row) (t .row)) (t .column - s .column)) (shallow s t))
+abbrev pub shallowCall : FieldCell → FieldCell → Line
+shallowCall s t = walkCall false (s .column) (s .row) (t .column) (t .row)
 
-unfoldable pub steepCall : FieldCell → FieldCell → Line
-steepCall s t = called s t (walked (leb (s .row) (t .row) && leb (apart (s .column) (t .column)) (t .row - s .row)) (steep s t))
+abbrev pub steepCall : FieldCell → FieldCell → Line
+steepCall s t = walkCall true (s .row) (s .column) (t .row) (t .column)

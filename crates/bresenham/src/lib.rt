@@ -2,11 +2,10 @@
 use fields::FieldCell;
 ghost use mathlib.Core.Path.{_≡_};
 ghost use mathlib.Core.Bool.{_&&_};
-ghost use Prim.Native.Nat.{_+_, _-_, _≤_, _<_};
+ghost use Prim.Native.Nat.{_-_, _≤_, _<_};
 ghost use Rattle.fields.specs.Cell.{cell, inside};
-ghost use Rattle.bresenham.specs.Table.{table};
-ghost use Rattle.bresenham.specs.Line.{apart, toward, answered, refused, lineCall, shallowCall, steepCall};
-ghost use Rattle.bresenham.specs.Inner.{placed, placeOf, walkAt, listed};
+ghost use Rattle.bresenham.specs.Line.{apart, toward, placed, walkCells, answered, refused, lineCall, walkCall, shallowCall, steepCall};
+ghost use Rattle.bresenham.specs.Inner.{placeOf, listed};
 ghost use Rattle.bresenham.specs.Nearest.{HoldsNearestLine};
 
 // The cells of a line, and how many they are; the places beyond hold 0. A refused call's number says why.
@@ -89,7 +88,7 @@ fn walk(
     minor_1: usize,
 ) -> Line
     requires { ⌜ (major_0 ≤ major_1) × (major_1 < 10) × (minor_0 < 10) × (minor_1 < 10) × (apart minor_0 minor_1 ≤ major_1 - major_0) ⌝ }
-    ensures { λ r. ⌜ r ≡ answered (listed back (table (major_1 - major_0 + 1) (walkAt steep major_0 minor_0 major_1 minor_1))) ⌝ }
+    ensures { λ r. ⌜ r ≡ answered (listed back (walkCells steep major_0 minor_0 major_1 minor_1)) ⌝ }
 {
     let span = major_1 - major_0;
     let rise = distance(minor_0, minor_1);
@@ -113,52 +112,36 @@ fn walk(
     line
 }
 
+// A walk by itself, or no cells where these are the coordinates of none.
+fn walk_alone(steep: bool, major_0: usize, minor_0: usize, major_1: usize, minor_1: usize) -> Line
+    ensures { λ r. ⌜ r ≡ walkCall steep major_0 minor_0 major_1 minor_1 ⌝ }
+{
+    let source = placed_cell(steep, major_0, minor_0);
+    let target = placed_cell(steep, major_1, minor_1);
+    if !both_inside(source, target) {
+        return empty(13);
+    }
+    if major_1 < major_0 {
+        return empty(0);
+    }
+    if major_1 - major_0 < distance(minor_0, minor_1) {
+        return empty(0);
+    }
+    walk(steep, false, major_0, minor_0, major_1, minor_1)
+}
+
 // The line steps through the columns, of which it has as many as rows, or more.
 pub fn walk_bresenham_shallow(col_0: usize, row_0: usize, col_1: usize, row_1: usize) -> Line
     ensures { λ r. ⌜ r ≡ shallowCall (cell col_0 row_0) (cell col_1 row_1) ⌝ }
 {
-    let source = FieldCell {
-        column: col_0,
-        row: row_0,
-    };
-    let target = FieldCell {
-        column: col_1,
-        row: row_1,
-    };
-    if !both_inside(source, target) {
-        return empty(13);
-    }
-    if col_1 < col_0 {
-        return empty(0);
-    }
-    if col_1 - col_0 < distance(row_0, row_1) {
-        return empty(0);
-    }
-    walk(false, false, col_0, row_0, col_1, row_1)
+    walk_alone(false, col_0, row_0, col_1, row_1)
 }
 
 // The line steps through the rows, of which it has as many as columns, or more.
 pub fn walk_bresenham_steep(col_0: usize, row_0: usize, col_1: usize, row_1: usize) -> Line
     ensures { λ r. ⌜ r ≡ steepCall (cell col_0 row_0) (cell col_1 row_1) ⌝ }
 {
-    let source = FieldCell {
-        column: col_0,
-        row: row_0,
-    };
-    let target = FieldCell {
-        column: col_1,
-        row: row_1,
-    };
-    if !both_inside(source, target) {
-        return empty(13);
-    }
-    if row_1 < row_0 {
-        return empty(0);
-    }
-    if row_1 - row_0 < distance(col_0, col_1) {
-        return empty(0);
-    }
-    walk(true, false, row_0, col_0, row_1, col_1)
+    walk_alone(true, row_0, col_0, row_1, col_1)
 }
 
 // The cells on the line from `source` to `target`, both of them included; 13 where a column or row lies outside 0 to 9.

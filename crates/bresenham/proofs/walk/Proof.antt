@@ -6,8 +6,7 @@ use mathlib.Core.Path.{_≡_, sym, ap, _∙_}
 use native.Mathlib.Omega.{arith}
 use mathlib.Core.Logic.{inl, inr}
 use borrow.Author.Needs.{needs}
-use Rattle.bresenham.specs.Line.{apart, toward, nearest}
-use Rattle.bresenham.specs.Inner.{placed, walkAt}
+use Rattle.bresenham.specs.Line.{apart, toward, nearest, placed, walkAt}
 use Rattle.bresenham.proofs.Offset.{State, start, up, level, nearest-le}
 use Rattle.bresenham.proofs.walk.Statement.{statement}
 use Rattle.bresenham.proofs.walk.Tie as tie
