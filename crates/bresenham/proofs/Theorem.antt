@@ -10,7 +10,7 @@
 use mathlib.Core.Path.{_≡_, refl}
 use mathlib.Core.Bool.{Bool, true, false, cond}
 use mathlib.Core.List.{List, reverse}
-use Prim.Native.Nat.{ℕ, _<_, _≤_}
+use Prim.Native.Nat.{ℕ, _<_, _≤_, max}
 use native.Mathlib.Nat.{le-of-lt}
 use native.Mathlib.Omega.{arith}
 use lib.Dec.{leb, ltb}
@@ -19,7 +19,7 @@ use borrow.Author.Tests.{leb-true, leb-false, ltb-true, ltb-false}
 use Rattle.fields.specs.declared.FieldCell.{FieldCell}
 use Rattle.fields.specs.Cell.{cell, Inside}
 use Rattle.bresenham.specs.Line.{apart, shallow, steep, line}
-use Rattle.bresenham.specs.Nearest.{Between, columnOf, rowOf, NearestLine, Spanned}
+use Rattle.bresenham.specs.Nearest.{Between, NearestWalk, columnOf, rowOf, NearestLine, Spanned}
 use Rattle.bresenham.proofs.Walks.{Walked, walked-back, shallow-walked, steep-walked}
 
 -- one of two, by a test and what it told
@@ -27,55 +27,17 @@ by-test : {A : Type 0} (P : A → Type 0) (b : Bool) (x y : A) → (b ≡ true �
 by-test P true x y f g = f refl
 by-test P false x y f g = g refl
 
-module _ (s t : FieldCell) (l : List FieldCell) where
-  -- a walk along the columns, or along the rows, listed from s to t
-  of-shallow : apart (s .row) (t .row) < apart (s .column) (t .column) → s .column ≤ t .column → Walked columnOf rowOf s t s t l → NearestLine s t l
-  of-shallow n h w = record {
-    many = let m = w .many in omega arith;
-    first = w .first;
-    last = w .last;
-    moves = w .moves;
-    shallow = λ p q. w .each;
-    shallow-back = λ p q. absurd (omega arith);
-    steep = λ p q. absurd (omega arith);
-    steep-back = λ p q. absurd (omega arith);
-  }
-
-  of-shallow-back : apart (s .row) (t .row) < apart (s .column) (t .column) → t .column < s .column → Walked columnOf rowOf t s s t l → NearestLine s t l
-  of-shallow-back n h w = record {
-    many = let m = w .many in omega arith;
-    first = w .first;
-    last = w .last;
-    moves = w .moves;
-    shallow = λ p q. absurd (omega arith);
-    shallow-back = λ p q. w .each;
-    steep = λ p q. absurd (omega arith);
-    steep-back = λ p q. absurd (omega arith);
-  }
-
-  of-steep : apart (s .column) (t .column) ≤ apart (s .row) (t .row) → s .row ≤ t .row → Walked rowOf columnOf s t s t l → NearestLine s t l
-  of-steep n h w = record {
-    many = let m = w .many in omega arith;
-    first = w .first;
-    last = w .last;
-    moves = w .moves;
-    shallow = λ p q. absurd (omega arith);
-    shallow-back = λ p q. absurd (omega arith);
-    steep = λ p q. w .each;
-    steep-back = λ p q. absurd (omega arith);
-  }
-
-  of-steep-back : apart (s .column) (t .column) ≤ apart (s .row) (t .row) → t .row < s .row → Walked rowOf columnOf t s s t l → NearestLine s t l
-  of-steep-back n h w = record {
-    many = let m = w .many in omega arith;
-    first = w .first;
-    last = w .last;
-    moves = w .moves;
-    shallow = λ p q. absurd (omega arith);
-    shallow-back = λ p q. absurd (omega arith);
-    steep = λ p q. absurd (omega arith);
-    steep-back = λ p q. w .each;
-  }
+-- a walk as long as the longer span, listed from s to t: it is the line where it is the one that the spans ask for
+of-walk : (major minor : FieldCell → ℕ) (a b s t : FieldCell) (l : List FieldCell) → Walked major minor a b s t l
+    → apart (major a) (major b) ≡ max (apart (s .column) (t .column)) (apart (s .row) (t .row))
+    → (apart (s .row) (t .row) < apart (s .column) (t .column) → s .column ≤ t .column → NearestWalk columnOf rowOf s t l)
+    → (apart (s .row) (t .row) < apart (s .column) (t .column) → t .column < s .column → NearestWalk columnOf rowOf t s l)
+    → (apart (s .column) (t .column) ≤ apart (s .row) (t .row) → s .row ≤ t .row → NearestWalk rowOf columnOf s t l)
+    → (apart (s .column) (t .column) ≤ apart (s .row) (t .row) → t .row < s .row → NearestWalk rowOf columnOf t s l)
+    → NearestLine s t l
+of-walk major minor a b s t l w long p q r u =
+    let m = w .many in
+    record { many = omega arith; first = w .first; last = w .last; moves = w .moves; shallow = p; shallow-back = q; steep = r; steep-back = u }
 
 pub nearest-line : (s t : FieldCell) → NearestLine s t (line s t)
 unfolding line
@@ -84,17 +46,25 @@ nearest-line s t =
     (λ e.
     let n = ltb-true (apart (s .row) (t .row)) (apart (s .column) (t .column)) e in
     by-test (NearestLine s t) (leb (s .column) (t .column)) _ _
-    (λ f. let h = leb-true (s .column) (t .column) f in of-shallow s t (shallow s t) n h (shallow-walked s t h (omega arith)))
+    (λ f.
+    let h = leb-true (s .column) (t .column) f in
+    let w = shallow-walked s t h (omega arith) in
+    of-walk columnOf rowOf s t s t _ w (omega arith) (λ p q. w .each) (λ p q. absurd (omega arith)) (λ p q. absurd (omega arith)) (λ p q. absurd (omega arith)))
     (λ f.
     let h = leb-false (s .column) (t .column) f in
-    of-shallow-back s t (reverse (shallow t s)) n h (walked-back columnOf rowOf t s t s (shallow t s) (shallow-walked t s (le-of-lt h) (omega arith)))))
+    let w = walked-back columnOf rowOf t s t s (shallow t s) (shallow-walked t s (le-of-lt h) (omega arith)) in
+    of-walk columnOf rowOf t s s t _ w (omega arith) (λ p q. absurd (omega arith)) (λ p q. w .each) (λ p q. absurd (omega arith)) (λ p q. absurd (omega arith))))
     (λ e.
     let n = ltb-false (apart (s .row) (t .row)) (apart (s .column) (t .column)) e in
     by-test (NearestLine s t) (leb (s .row) (t .row)) _ _
-    (λ f. let h = leb-true (s .row) (t .row) f in of-steep s t (steep s t) n h (steep-walked s t h (omega arith)))
+    (λ f.
+    let h = leb-true (s .row) (t .row) f in
+    let w = steep-walked s t h (omega arith) in
+    of-walk rowOf columnOf s t s t _ w (omega arith) (λ p q. absurd (omega arith)) (λ p q. absurd (omega arith)) (λ p q. w .each) (λ p q. absurd (omega arith)))
     (λ f.
     let h = leb-false (s .row) (t .row) f in
-    of-steep-back s t (reverse (steep t s)) n h (walked-back rowOf columnOf t s t s (steep t s) (steep-walked t s (le-of-lt h) (omega arith)))))
+    let w = walked-back rowOf columnOf t s t s (steep t s) (steep-walked t s (le-of-lt h) (omega arith)) in
+    of-walk rowOf columnOf t s s t _ w (omega arith) (λ p q. absurd (omega arith)) (λ p q. absurd (omega arith)) (λ p q. absurd (omega arith)) (λ p q. w .each)))
 
 pub line-first : (s t : FieldCell) → getD (line s t) 0 (cell 0 0) ≡ s
 line-first s t = nearest-line s t .first
