@@ -4,12 +4,15 @@ use mathlib.Core.Path.{_≡_, refl}
 use mathlib.Core.Bool.{Bool, true, false, _&&_}
 use Prim.Native.Nat.{ℕ, _+_, _-_, _<_, _≤_}
 use lib.Dec.{leb}
-use borrow.Author.Tests.{le-leb, lt-leb}
+use native.Mathlib.Omega.{arith}
+use borrow.Author.Tests.{lt-ltb, le-leb, lt-leb}
 use Rattle.fields.specs.declared.Coordinate.the-variants.{In, Out}
 use Rattle.fields.specs.declared.FieldCell.{FieldCell}
+use Rattle.fields.specs.declared.Stepped.the-variants.{Outside}
 use Rattle.fields.specs.Cell.{cell, cellIf, sumIn, coordinateIf, coordinateAt, bothIn, stepped}
 use Rattle.utilities.specs.declared.CompassDir.{CompassDir}
-use Rattle.utilities.specs.Compass.{differences, points}
+use Rattle.utilities.specs.declared.Differences.{Differences}
+use Rattle.utilities.specs.Compass.{differences}
 
 and-false : (b : Bool) → (b && false) ≡ false
 and-false true = refl
@@ -39,10 +42,17 @@ both true true x y = refl
 both true false x y = refl
 both false b x y = refl
 
--- the cell of the two sums is where a step arrives, in a direction that points somewhere
-pub arrived : (c : FieldCell) (d : CompassDir) → points d ≡ true
-    → bothIn (coordinateAt (c .column) (differences d .east) (differences d .west)) (coordinateAt (c .row) (differences d .south) (differences d .north)) ≡ stepped c d
-unfolding stepped
-arrived c d e =
-    let δ = differences d in
-    rw e (both (sumIn (c .column) (δ .east) (δ .west)) (sumIn (c .row) (δ .south) (δ .north)) (c .column + δ .east - δ .west) (c .row + δ .south - δ .north))
+-- a step by the differences of a direction
+module _ (c : FieldCell) (d : CompassDir) (δ : Differences) (e : δ ≡ differences d) where
+  -- where they are all 0, the direction points nowhere
+  pub nowhere : δ .east + δ .west + δ .south + δ .north ≡ 0 → Outside ≡ stepped c d
+  unfolding stepped
+  nowhere z = rw (← e, z)
+
+  -- else the step arrives at the cell of the two sums
+  pub arrived : (δ .east + δ .west + δ .south + δ .north ≡ 0 → ⊥)
+      → bothIn (coordinateAt (c .column) (δ .east) (δ .west)) (coordinateAt (c .row) (δ .south) (δ .north)) ≡ stepped c d
+  unfolding stepped
+  arrived z =
+      rw (← e, lt-ltb 0 (δ .east + δ .west + δ .south + δ .north) (omega arith))
+      (both (sumIn (c .column) (δ .east) (δ .west)) (sumIn (c .row) (δ .south) (δ .north)) (c .column + δ .east - δ .west) (c .row + δ .south - δ .north))

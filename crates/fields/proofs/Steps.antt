@@ -10,8 +10,9 @@ use native.Mathlib.Omega.{arith}
 use lib.Dec.{leb}
 use borrow.Author.Tests.{lt-ltb, leb-true}
 use Rattle.utilities.specs.declared.CompassDir.{CompassDir}
-use Rattle.utilities.specs.declared.CompassDir.the-variants.{North, East, South, West, NorthEast, SouthEast, SouthWest, NorthWest, Zero}
-use Rattle.utilities.specs.Compass.{Differences, differences, points, opposite}
+use Rattle.utilities.specs.declared.Differences.{Differences}
+use Rattle.utilities.specs.Compass.{differences, points, opposite}
+use Rattle.utilities.proofs.Compass.{opposite-differences, opposite-points}
 use Rattle.fields.specs.declared.FieldCell.{FieldCell}
 use Rattle.fields.specs.declared.Stepped.the-variants.{Cell}
 use Rattle.fields.specs.Cell.{cell, Inside, indexOf, cellAt, indexOr, cellIf, sumIn, stepped}
@@ -91,30 +92,6 @@ steps-to c d n a =
       ← p,
       ← q,
     )
-
-opposite-points : (d : CompassDir) → points (opposite d) ≡ points d
-opposite-points North = refl
-opposite-points East = refl
-opposite-points South = refl
-opposite-points West = refl
-opposite-points NorthEast = refl
-opposite-points SouthEast = refl
-opposite-points SouthWest = refl
-opposite-points NorthWest = refl
-opposite-points Zero = refl
-
--- the differences of the opposite direction, the other way round
-opposite-differences : (d : CompassDir)
-    → differences (opposite d) ≡ record { east = differences d .west; west = differences d .east; south = differences d .north; north = differences d .south }
-opposite-differences North = refl
-opposite-differences East = refl
-opposite-differences South = refl
-opposite-differences West = refl
-opposite-differences NorthEast = refl
-opposite-differences SouthEast = refl
-opposite-differences SouthWest = refl
-opposite-differences NorthWest = refl
-opposite-differences Zero = refl
 
 -- a step that stays inside is undone by the opposite step
 pub step-back : (c : FieldCell) (d : CompassDir) (n : FieldCell) → Inside c → stepped c d ≡ Cell n → stepped n (opposite d) ≡ Cell c

@@ -32,37 +32,19 @@ enum Coordinate {
     Out,
 }
 
-// A coordinate as it is.
-fn kept(x: usize) -> Coordinate
-    ensures { λ r. ⌜ r ≡ coordinateAt x 0 0 ⌝ }
+// The sum x + more - less, where it lies in 0 to 9.
+fn summed(x: usize, more: usize, less: usize) -> Coordinate
+    requires { ⌜ (more ≤ 1) × (less ≤ 1) ⌝ }
+    ensures { λ r. ⌜ r ≡ coordinateAt x more less ⌝ }
 {
-    if 9 < x {
+    if 9 + less - more < x {
         return Coordinate::Out;
     }
-    Coordinate::In(x)
-}
-
-// One more.
-fn raised(x: usize) -> Coordinate
-    ensures { λ r. ⌜ r ≡ coordinateAt x 1 0 ⌝ }
-{
-    if 8 < x {
+    let sum = x + more;
+    if sum < less {
         return Coordinate::Out;
     }
-    Coordinate::In(x + 1)
-}
-
-// One less.
-fn lowered(x: usize) -> Coordinate
-    ensures { λ r. ⌜ r ≡ coordinateAt x 0 1 ⌝ }
-{
-    if x < 1 {
-        return Coordinate::Out;
-    }
-    if 10 < x {
-        return Coordinate::Out;
-    }
-    Coordinate::In(x - 1)
+    Coordinate::In(sum - less)
 }
 
 // The cell of two coordinates, where both lie in 0 to 9.
@@ -151,19 +133,17 @@ impl FieldCell {
     pub fn get_in_compass_direction(self, dir: CompassDir) -> Stepped
         ensures { λ r. ⌜ r ≡ stepped self dir ⌝ }
     {
-        let column = self.column;
-        let row = self.row;
-        match dir {
-            CompassDir::North => cell_of(kept(column), lowered(row)),
-            CompassDir::East => cell_of(raised(column), kept(row)),
-            CompassDir::South => cell_of(kept(column), raised(row)),
-            CompassDir::West => cell_of(lowered(column), kept(row)),
-            CompassDir::NorthEast => cell_of(raised(column), lowered(row)),
-            CompassDir::SouthEast => cell_of(raised(column), raised(row)),
-            CompassDir::SouthWest => cell_of(lowered(column), raised(row)),
-            CompassDir::NorthWest => cell_of(lowered(column), lowered(row)),
-            CompassDir::Zero => Stepped::Outside,
+        let apart = dir.differences();
+        let east = apart.east;
+        let west = apart.west;
+        let south = apart.south;
+        let north = apart.north;
+        if east + west + south + north == 0 {
+            return Stepped::Outside;
         }
+        let column = summed(self.column, east, west);
+        let row = summed(self.row, south, north);
+        cell_of(column, row)
     }
 
     // The neighbours North, East, South and West, those of them that the sector has.

@@ -11,25 +11,10 @@ use lib.Dec.{leb, ltb}
 use borrow.Author.Tests.{lt-ltb, le-leb, lt-leb, leb-true, ltb-true}
 use Rattle.utilities.specs.declared.CompassDir.{CompassDir}
 use Rattle.utilities.specs.declared.CompassDir.the-variants.{North, East, South, West, NorthEast, SouthEast, SouthWest, NorthWest, Zero}
-use Rattle.utilities.specs.Compass.{Differences, differences, points}
+use Rattle.utilities.specs.Compass.{differences, points}
+use Rattle.utilities.proofs.Compass.{small}
 use Rattle.sectors.specs.declared.Across.the-variants.{Sector, OffFloor}
 use Rattle.sectors.specs.Floor.{columnOf, rowOf, sectorAt, sectorIf, onFloor, placed, across}
-
--- a difference is at most one
-record Small (δ : Differences) : Type 0 where
-  west-small : δ .west ≤ 1
-  north-small : δ .north ≤ 1
-
-small : (d : CompassDir) → Small (differences d)
-small North = record { west-small = omega arith; north-small = omega arith }
-small East = record { west-small = omega arith; north-small = omega arith }
-small South = record { west-small = omega arith; north-small = omega arith }
-small West = record { west-small = omega arith; north-small = omega arith }
-small NorthEast = record { west-small = omega arith; north-small = omega arith }
-small SouthEast = record { west-small = omega arith; north-small = omega arith }
-small SouthWest = record { west-small = omega arith; north-small = omega arith }
-small NorthWest = record { west-small = omega arith; north-small = omega arith }
-small Zero = record { west-small = omega arith; north-small = omega arith }
 
 -- a sum lies in 0 to 7 where one more lies in 1 to 8
 counted : (x more less : ℕ) → less ≤ 1 → (leb 1 (x + 1 + more - less) && leb (x + 1 + more - less) 8) ≡ onFloor x more less
@@ -51,7 +36,8 @@ across-placed s d column row h p c r =
     let δ = differences d in
     let ec : columnOf s + 1 + δ .east - δ .west - 1 ≡ columnOf s + δ .east - δ .west = omega arith in
     let er : rowOf s + 1 + δ .south - δ .north - 1 ≡ rowOf s + δ .south - δ .north = omega arith in
-    rw (c, r, counted (columnOf s) (δ .east) (δ .west) (small d .west-small), counted (rowOf s) (δ .south) (δ .north) (small d .north-small), ec, er, lt-ltb s 64 h, p)
+    let n = small d refl in
+    rw (c, r, counted (columnOf s) (δ .east) (δ .west) (omega arith), counted (rowOf s) (δ .south) (δ .north) (omega arith), ec, er, lt-ltb s 64 h, p)
 
 -- what is known of the sector that a step arrives at
 pub record Arrives (s : ℕ) (d : CompassDir) (n : ℕ) : Type 0 where

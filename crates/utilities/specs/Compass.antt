@@ -1,19 +1,15 @@
 -- Directions (01, "A leg": row 0 is north; "Flow byte": the order of a look).
 -- Assumes nothing.
-use mathlib.Core.Bool.{Bool, true, false}
+use mathlib.Core.Bool.{Bool}
 use mathlib.Core.List.{List, [], _∷_}
-use Prim.Native.Nat.{ℕ}
+use Prim.Native.Nat.{ℕ, _+_}
+use lib.Dec.{ltb}
 use lib.ListN.{getD}
+use Rattle.utilities.specs.declared.Differences.{Differences}
 use Rattle.utilities.specs.declared.CompassDir.{CompassDir}
 use Rattle.utilities.specs.declared.CompassDir.the-variants.{North, East, South, West, NorthEast, SouthEast, SouthWest, NorthWest, Zero}
 
 -- the differences of a direction: it adds `east` to the column and takes `west` from it, and adds `south` to the row and takes `north` from it
-pub record Differences : Type 0 where
-  pub east : ℕ
-  pub west : ℕ
-  pub south : ℕ
-  pub north : ℕ
-
 abbrev pub differences : CompassDir → Differences
 differences North = record { east = 0; west = 0; south = 0; north = 1 }
 differences East = record { east = 1; west = 0; south = 0; north = 0 }
@@ -27,15 +23,7 @@ differences Zero = record { east = 0; west = 0; south = 0; north = 0 }
 
 -- whether it is a direction at all
 abbrev pub points : CompassDir → Bool
-points North = true
-points East = true
-points South = true
-points West = true
-points NorthEast = true
-points SouthEast = true
-points SouthWest = true
-points NorthWest = true
-points Zero = false
+points d = let δ = differences d in ltb 0 (δ .east + δ .west + δ .south + δ .north)
 
 -- the four sides, and all eight, in the order of 01's waves and looks
 abbrev pub orthogonal : List CompassDir

@@ -1,6 +1,6 @@
 // Directions, and the size of a sector.
 ghost use mathlib.Core.Path.{_≡_};
-ghost use Rattle.utilities.specs.Compass.{opposite, numberOf, sideOf};
+ghost use Rattle.utilities.specs.Compass.{differences, opposite, numberOf, sideOf};
 
 // The columns, and the rows, of a sector.
 pub const FIELD_RESOLUTION: usize = 10;
@@ -18,7 +18,43 @@ pub enum CompassDir {
     Zero,
 }
 
+// What a direction adds to a cell's column and row, east and south, and what it takes from them, west and north.
+pub struct Differences {
+    pub east: usize,
+    pub west: usize,
+    pub south: usize,
+    pub north: usize,
+}
+
+fn apart(east: usize, west: usize, south: usize, north: usize) -> Differences
+    ensures { λ r. ⌜ r ≡ record { east = east; west = west; south = south; north = north } ⌝ }
+{
+    Differences {
+        east,
+        west,
+        south,
+        north,
+    }
+}
+
 impl CompassDir {
+    // The direction's differences.
+    pub fn differences(self) -> Differences
+        ensures { λ r. ⌜ r ≡ differences self ⌝ }
+    {
+        match self {
+            CompassDir::North => apart(0, 0, 0, 1),
+            CompassDir::East => apart(1, 0, 0, 0),
+            CompassDir::South => apart(0, 0, 1, 0),
+            CompassDir::West => apart(0, 1, 0, 0),
+            CompassDir::NorthEast => apart(1, 0, 0, 1),
+            CompassDir::SouthEast => apart(1, 0, 1, 0),
+            CompassDir::SouthWest => apart(0, 1, 1, 0),
+            CompassDir::NorthWest => apart(0, 1, 0, 1),
+            CompassDir::Zero => apart(0, 0, 0, 0),
+        }
+    }
+
     // The opposite direction.
     pub fn inverse(self) -> CompassDir
         ensures { λ r. ⌜ r ≡ opposite self ⌝ }

@@ -1,0 +1,52 @@
+-- Laws of directions.
+--     small                                    a direction moves by one at most in each coordinate
+--     opposite-differences, opposite-points    the opposite direction moves as far, the other way round
+-- Assumes nothing.
+use mathlib.Core.Path.{_≡_, refl}
+use Prim.Native.Nat.{_+_, _≤_}
+use native.Mathlib.Omega.{arith}
+use Rattle.utilities.specs.declared.CompassDir.{CompassDir}
+use Rattle.utilities.specs.declared.CompassDir.the-variants.{North, East, South, West, NorthEast, SouthEast, SouthWest, NorthWest, Zero}
+use Rattle.utilities.specs.declared.Differences.{Differences}
+use Rattle.utilities.specs.Compass.{differences, points, opposite}
+
+pub record Small (δ : Differences) : Type 0 where
+  pub columns : δ .east + δ .west ≤ 1
+  pub rows : δ .south + δ .north ≤ 1
+
+of-each : (d : CompassDir) → Small (differences d)
+of-each North = record { columns = omega arith; rows = omega arith }
+of-each East = record { columns = omega arith; rows = omega arith }
+of-each South = record { columns = omega arith; rows = omega arith }
+of-each West = record { columns = omega arith; rows = omega arith }
+of-each NorthEast = record { columns = omega arith; rows = omega arith }
+of-each SouthEast = record { columns = omega arith; rows = omega arith }
+of-each SouthWest = record { columns = omega arith; rows = omega arith }
+of-each NorthWest = record { columns = omega arith; rows = omega arith }
+of-each Zero = record { columns = omega arith; rows = omega arith }
+
+pub small : (d : CompassDir) {δ : Differences} → δ ≡ differences d → Small δ
+small d e = rw e (of-each d)
+
+pub opposite-differences : (d : CompassDir)
+    → differences (opposite d) ≡ record { east = differences d .west; west = differences d .east; south = differences d .north; north = differences d .south }
+opposite-differences North = refl
+opposite-differences East = refl
+opposite-differences South = refl
+opposite-differences West = refl
+opposite-differences NorthEast = refl
+opposite-differences SouthEast = refl
+opposite-differences SouthWest = refl
+opposite-differences NorthWest = refl
+opposite-differences Zero = refl
+
+pub opposite-points : (d : CompassDir) → points (opposite d) ≡ points d
+opposite-points North = refl
+opposite-points East = refl
+opposite-points South = refl
+opposite-points West = refl
+opposite-points NorthEast = refl
+opposite-points SouthEast = refl
+opposite-points SouthWest = refl
+opposite-points NorthWest = refl
+opposite-points Zero = refl
