@@ -1,6 +1,5 @@
 -- Laws of the cell across a boundary.
 --     facing-in       it is a cell
---     faces           any column and row that agree with it, counted round
 --     facing-north .. the four sides in 01's words: North, same column, row 9; East, column 0, same row; and so on
 --     facing-on       it lies on the opposite edge
 --     facing-back     and faces back
@@ -13,18 +12,12 @@ use native.Mathlib.Omega.{arith}
 use borrow.Author.Tests.{eqb-true, eq-eqb}
 use Rattle.utilities.specs.declared.CompassDir.{CompassDir}
 use Rattle.utilities.specs.declared.CompassDir.the-variants.{North, East, South, West, NorthEast, SouthEast, SouthWest, NorthWest, Zero}
-use Rattle.utilities.specs.Compass.{differences, opposite}
+use Rattle.utilities.specs.Compass.{opposite}
 use Rattle.route.specs.Window.{onEdge, stride, facing}
 use Rattle.route.proofs.Windows.{absurd-bool}
 
 pub facing-in : (side : CompassDir) (i : ℕ) → facing side i < 100
 facing-in side i = omega arith
-
--- a column and a row that agree, counted round, with those of the facing cell
-pub faces : (side : CompassDir) (i column row : ℕ)
-    → column % 10 ≡ (i % 10 + differences side .east + 10 - differences side .west) % 10
-    → row % 10 ≡ (i / 10 + differences side .south + 10 - differences side .north) % 10 → row % 10 * 10 + column % 10 ≡ facing side i
-faces side i column row c r = rw (c, r)
 
 module _ (i : ℕ) (h : i < 100) where
   pub facing-north : onEdge North i ≡ true → facing North i ≡ 90 + i % 10

@@ -186,30 +186,14 @@ fn is_between(first: usize, last: usize, cell: usize) -> bool
     cell <= last
 }
 
-// The index of a column and a row counted round from the far edge.
-fn wrapped_index(column: usize, row: usize) -> usize
-    ensures { λ r. ⌜ r ≡ row % 10 * 10 + column % 10 ⌝ }
-{
-    row % 10 * 10 + column % 10
-}
-
-// The cell across a boundary that faces a cell.
+// The cell across a boundary that faces a cell: one step on, columns and rows counted round.
 pub fn facing_cell(boundary: CompassDir, index: usize) -> usize
     ensures { λ r. ⌜ r ≡ facing boundary index ⌝ }
 {
-    let column = index % 10;
-    let row = index / 10;
-    match boundary {
-        CompassDir::North => wrapped_index(column, row + 9),
-        CompassDir::East => wrapped_index(column + 1, row),
-        CompassDir::South => wrapped_index(column, row + 1),
-        CompassDir::West => wrapped_index(column + 9, row),
-        CompassDir::NorthEast => wrapped_index(column + 1, row + 9),
-        CompassDir::SouthEast => wrapped_index(column + 1, row + 1),
-        CompassDir::SouthWest => wrapped_index(column + 9, row + 1),
-        CompassDir::NorthWest => wrapped_index(column + 9, row + 9),
-        CompassDir::Zero => wrapped_index(column, row),
-    }
+    let apart = boundary.differences();
+    let column = index % 10 + apart.east + 10 - apart.west;
+    let row = index / 10 + apart.south + 10 - apart.north;
+    row % 10 * 10 + column % 10
 }
 
 impl RouteStep {
