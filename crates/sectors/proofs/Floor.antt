@@ -1,4 +1,5 @@
 -- Laws of the sector across a boundary.
+--     nowhere          there is no step by differences that are all 0
 --     across-placed    counting columns and rows from 1 keeps a step from going below 0
 --     across-sector    where a step arrives: at the two sums, on the floor
 -- Assumes nothing.
@@ -11,6 +12,7 @@ use lib.Dec.{leb, ltb}
 use borrow.Author.Tests.{lt-ltb, le-leb, lt-leb, leb-true, ltb-true}
 use Rattle.utilities.specs.declared.CompassDir.{CompassDir}
 use Rattle.utilities.specs.declared.CompassDir.the-variants.{North, East, South, West, NorthEast, SouthEast, SouthWest, NorthWest, Zero}
+use Rattle.utilities.specs.declared.Differences.{Differences}
 use Rattle.utilities.specs.Compass.{differences, points}
 use Rattle.utilities.proofs.Compass.{small}
 use Rattle.sectors.specs.declared.Across.the-variants.{Sector, OffFloor}
@@ -28,16 +30,31 @@ counted x more less h = low (decLe less (x + more))
     low (yes p) = high p (decLe (x + more) (7 + less))
     low (no p) = rw (lt-leb 1 (x + 1 + more - less) (omega arith), lt-leb less (x + more) (omega arith))
 
-pub across-placed : (s : ℕ) (d : CompassDir) (column row : ℕ) → s < 64 → points d ≡ true
-    → column ≡ columnOf s + 1 + differences d .east - differences d .west → row ≡ rowOf s + 1 + differences d .south - differences d .north
-    → placed column row ≡ across s d
-unfolding placed across
-across-placed s d column row h p c r =
-    let δ = differences d in
-    let ec : columnOf s + 1 + δ .east - δ .west - 1 ≡ columnOf s + δ .east - δ .west = omega arith in
-    let er : rowOf s + 1 + δ .south - δ .north - 1 ≡ rowOf s + δ .south - δ .north = omega arith in
-    let n = small d refl in
-    rw (c, r, counted (columnOf s) (δ .east) (δ .west) (omega arith), counted (rowOf s) (δ .south) (δ .north) (omega arith), ec, er, lt-ltb s 64 h, p)
+one-less : (x more less : ℕ) → x + 1 + more - less - 1 ≡ x + more - less
+one-less x more less = omega arith
+
+-- a step by the differences of a direction
+module _ (s : ℕ) (d : CompassDir) (δ : Differences) (e : δ ≡ differences d) (h : s < 64) where
+  -- where they are all 0, the direction points nowhere
+  pub nowhere : δ .east + δ .west + δ .south + δ .north ≡ 0 → OffFloor ≡ across s d
+  unfolding across
+  nowhere z = rw (← e, z, lt-ltb s 64 h)
+
+  -- else the step arrives at the two sums
+  pub across-placed : (δ .east + δ .west + δ .south + δ .north ≡ 0 → ⊥)
+      → placed (columnOf s + 1 + δ .east - δ .west) (rowOf s + 1 + δ .south - δ .north) ≡ across s d
+  unfolding placed across
+  across-placed z =
+      let n = small d e in
+      rw (
+        counted (columnOf s) (δ .east) (δ .west) (omega arith),
+        counted (rowOf s) (δ .south) (δ .north) (omega arith),
+        one-less (columnOf s) (δ .east) (δ .west),
+        one-less (rowOf s) (δ .south) (δ .north),
+        ← e,
+        lt-ltb s 64 h,
+        lt-ltb 0 (δ .east + δ .west + δ .south + δ .north) (omega arith),
+      )
 
 -- what is known of the sector that a step arrives at
 pub record Arrives (s : ℕ) (d : CompassDir) (n : ℕ) : Type 0 where

@@ -35,17 +35,15 @@ pub fn get_in_compass_direction(sector: usize, dir: CompassDir) -> Across
     if 63 < sector {
         return Across::OffFloor;
     }
-    let column = sector % 8 + 1;
-    let row = sector / 8 + 1;
-    match dir {
-        CompassDir::North => sector_at(column, row - 1),
-        CompassDir::East => sector_at(column + 1, row),
-        CompassDir::South => sector_at(column, row + 1),
-        CompassDir::West => sector_at(column - 1, row),
-        CompassDir::NorthEast => sector_at(column + 1, row - 1),
-        CompassDir::SouthEast => sector_at(column + 1, row + 1),
-        CompassDir::SouthWest => sector_at(column - 1, row + 1),
-        CompassDir::NorthWest => sector_at(column - 1, row - 1),
-        CompassDir::Zero => Across::OffFloor,
+    let apart = dir.differences();
+    let east = apart.east;
+    let west = apart.west;
+    let south = apart.south;
+    let north = apart.north;
+    if east + west + south + north == 0 {
+        return Across::OffFloor;
     }
+    let column = sector % 8 + 1 + east - west;
+    let row = sector / 8 + 1 + south - north;
+    sector_at(column, row)
 }
