@@ -1,9 +1,8 @@
 -- Laws of window cells.
 --     in-window       a window's cells are those of its edge from the first to the last
---     stride-small    1 or 10
 -- Assumes nothing.
 use mathlib.Core.Path.{_≡_, refl, ap, _∙_}
-use mathlib.Core.Bool.{Bool, true, false, _&&_, _||_}
+use mathlib.Core.Bool.{Bool, true, false, _&&_, _||_, and-true}
 use mathlib.Core.List.{List, [], _∷_, _++_}
 use Prim.Native.Nat.{ℕ, zero, suc, _<_, _≤_}
 use native.Mathlib.Nat.{not-suc-le-zero}
@@ -14,7 +13,7 @@ use lib.Dec.{eqb}
 use Rattle.utilities.specs.declared.CompassDir.{CompassDir}
 use Rattle.utilities.specs.declared.CompassDir.the-variants.{North, East, South, West, NorthEast, SouthEast, SouthWest, NorthWest, Zero}
 use Rattle.utilities.specs.Lists.{consIf}
-use Rattle.route.specs.Window.{below, select, onEdge, edge, between, cellsBetween, stride}
+use Rattle.route.specs.Window.{below, select, onEdge, edge, between, cellsBetween}
 use Rattle.flow_byte.specs.New.{isIn}
 
 or-true : (b : Bool) → (b || true) ≡ true
@@ -72,18 +71,3 @@ unfolding cellsBetween edge
 in-window side first last i h =
     is-in-select (between first last) i (select (onEdge side) (below 100))
     ∙ ap (λ (b : Bool). between first last i && b) (is-in-select (onEdge side) i (below 100) ∙ rw (is-in-below 100 i h) (and-true (onEdge side i)))
-  where
-    and-true : (b : Bool) → (b && true) ≡ b
-    and-true true = refl
-    and-true false = refl
-
-pub stride-small : (side : CompassDir) → stride side ≤ 10
-stride-small North = omega arith
-stride-small East = omega arith
-stride-small South = omega arith
-stride-small West = omega arith
-stride-small NorthEast = omega arith
-stride-small SouthEast = omega arith
-stride-small SouthWest = omega arith
-stride-small NorthWest = omega arith
-stride-small Zero = omega arith

@@ -48,28 +48,11 @@ fn starting_flags(value: u32) -> u8
     BITS_DEFAULT
 }
 
-// From a window cell to the next.
-fn stride_of(boundary: CompassDir) -> usize
-    ensures { λ r. ⌜ r ≡ stride boundary ⌝ }
-{
-    match boundary {
-        CompassDir::North => 1,
-        CompassDir::East => 10,
-        CompassDir::South => 1,
-        CompassDir::West => 10,
-        CompassDir::NorthEast => 10,
-        CompassDir::SouthEast => 10,
-        CompassDir::SouthWest => 10,
-        CompassDir::NorthWest => 10,
-        CompassDir::Zero => 1,
-    }
-}
-
 // Along an edge, the direction of the lower index.
 fn towards_lower(boundary: CompassDir) -> CompassDir
     ensures { λ r. ⌜ r ≡ towardsLower boundary ⌝ }
 {
-    if stride_of(boundary) == 1 {
+    if route::stride_of(boundary) == 1 {
         return CompassDir::West;
     }
     CompassDir::North
@@ -141,7 +124,7 @@ fn optimise_portal_direction(window: PortalWindow, previous: &[u32], index: usiz
     let boundary = window.boundary;
     let start = window.start;
     let end = window.end;
-    let stride = stride_of(boundary);
+    let stride = route::stride_of(boundary);
     let before = lower_by(index, stride);
     let after = index + stride;
     let lower = side_value(previous, boundary, index, start, before);

@@ -1,61 +1,79 @@
 -- The cells of an edge, and those of them that a loop has collected so far.
 -- Assumes nothing.
 use mathlib.Core.Path.{_≡_, refl, ap}
-use mathlib.Core.Bool.{Bool, true, false}
+use mathlib.Core.Bool.{Bool, true, false, cond}
 use mathlib.Core.List.{List, [], _∷_, _++_, append-nil}
-use Prim.Native.Nat.{ℕ, _+_, _*_, _<_, _≤_}
+use Prim.Native.Nat.{ℕ, _+_, _*_, _/_, _%_, _<_, _≤_}
+use native.Mathlib.Nat.{mul-le-mul-left}
 use native.Mathlib.Numerals.{add-one}
 use native.Mathlib.Omega.{arith}
-use lib.ListN.{length, getD, take, set, length-append, List·getD-eq-default}
+use lib.Dec.{ltb, eqb}
+use lib.ListN.{length, getD, take, set, length-append}
 use lib.Seq.{take-suc, take-all}
 use Rattle.utilities.specs.declared.CompassDir.{CompassDir}
 use Rattle.utilities.specs.declared.CompassDir.the-variants.{North, East, South, West, NorthEast, SouthEast, SouthWest, NorthWest, Zero}
+use Rattle.utilities.specs.Compass.{differences, numberOf}
 use Rattle.utilities.specs.Padded.{padded}
 use Rattle.utilities.proofs.Padded.{padded-push}
 use Rattle.utilities.specs.Lists.{consIf}
-use Rattle.route.specs.Window.{select, onEdge, edge, listed}
-use Rattle.route.proofs.Below.{same-at}
+use Rattle.route.specs.Window.{select, onEdge, edge, stride, listed}
+use Rattle.route.proofs.Runs.{run, run-length, run-at}
 
--- how many cells an edge has
+-- a side's edge is a run of ten cells; no other direction has an edge
 abbrev pub edgeCount : CompassDir → ℕ
-edgeCount North = 10
-edgeCount East = 10
-edgeCount South = 10
-edgeCount West = 10
-edgeCount NorthEast = 0
-edgeCount SouthEast = 0
-edgeCount SouthWest = 0
-edgeCount NorthWest = 0
-edgeCount Zero = 0
+edgeCount side = cond (ltb (numberOf side) 4) 10 0
 
-pub edge-length : (side : CompassDir) → edgeCount side ≡ length (edge side)
+abbrev pub edgeFirst : CompassDir → ℕ
+edgeFirst side = differences side .east * 9 + differences side .south * 90
+
+pub edge-run : (side : CompassDir) → edge side ≡ run (edgeCount side) (edgeFirst side) (stride side)
 unfolding edge onEdge
-edge-length North = refl
-edge-length East = refl
-edge-length South = refl
-edge-length West = refl
-edge-length NorthEast = refl
-edge-length SouthEast = refl
-edge-length SouthWest = refl
-edge-length NorthWest = refl
-edge-length Zero = refl
+edge-run North = refl
+edge-run East = refl
+edge-run South = refl
+edge-run West = refl
+edge-run NorthEast = refl
+edge-run SouthEast = refl
+edge-run SouthWest = refl
+edge-run NorthWest = refl
+edge-run Zero = refl
 
-count-at-most : (side : CompassDir) → edgeCount side ≤ 10
-count-at-most North = omega arith
-count-at-most East = omega arith
-count-at-most South = omega arith
-count-at-most West = omega arith
-count-at-most NorthEast = omega arith
-count-at-most SouthEast = omega arith
-count-at-most SouthWest = omega arith
-count-at-most NorthWest = omega arith
-count-at-most Zero = omega arith
+pub edge-length : (side : CompassDir) → length (edge side) ≡ edgeCount side
+edge-length side = rw (edge-run side) (run-length (edgeCount side) (edgeFirst side) (stride side))
+
+pub edge-at : (side : CompassDir) (k : ℕ) → k < length (edge side) → getD (edge side) k 0 ≡ edgeFirst side + k * stride side
+edge-at side k h = rw (edge-run side) (run-at (edgeCount side) (edgeFirst side) (stride side) k (rw (← edge-length side) h))
 
 pub edge-at-most : (side : CompassDir) → length (edge side) ≤ 10
-edge-at-most side = omega (arith, edge-length side, count-at-most side)
+edge-at-most side = rw (edge-length side) (at-most (ltb (numberOf side) 4))
+  where
+    at-most : (b : Bool) → cond b 10 0 ≤ 10
+    at-most true = omega arith
+    at-most false = omega arith
 
-pub no-edge-at : (side : CompassDir) (k : ℕ) → edgeCount side ≡ 0 → getD (edge side) k 0 ≡ 0
-no-edge-at side k e = List·getD-eq-default (edge side) 0 (omega (arith, edge-length side))
+pub stride-within : (side : CompassDir) → (0 < stride side) × (stride side ≤ 10)
+stride-within side = within (eqb (differences side .east + differences side .west) 0)
+  where
+    within : (b : Bool) → (0 < cond b 1 10) × (cond b 1 10 ≤ 10)
+    within true = (omega arith, omega arith)
+    within false = (omega arith, omega arith)
+
+pub along-below : (side : CompassDir) (k : ℕ) → k < length (edge side) → k * stride side < 100
+along-below side k h = omega (arith, edge-at-most side, mul-le-mul-left k (stride-within side .1))
+
+-- the edge of a side is the row, or the column, that is the first or the last
+pub on-edge : (side : CompassDir) (i : ℕ) → onEdge side i ≡ cond (ltb 3 (numberOf side)) false
+    (cond (eqb (differences side .east + differences side .west) 0) (eqb (i / 10) (differences side .south * 9)) (eqb (i % 10) (differences side .east * 9)))
+unfolding onEdge
+on-edge North i = refl
+on-edge East i = refl
+on-edge South i = refl
+on-edge West i = refl
+on-edge NorthEast i = refl
+on-edge SouthEast i = refl
+on-edge SouthWest i = refl
+on-edge NorthWest i = refl
+on-edge Zero i = refl
 
 module _ (p : ℕ → Bool) where
   pub select-append : (a b : List ℕ) → select p (a ++ b) ≡ select p a ++ select p b
@@ -96,20 +114,3 @@ module _ {p : ℕ → Bool} {l : List ℕ} {k : ℕ} {cells : List ℕ} {count :
 pub collected-all : {p : ℕ → Bool} {l : List ℕ} {k : ℕ} {cells : List ℕ} {count : ℕ} → Collected p l k cells count → length l ≤ k
     → record { cells = cells; count = count } ≡ listed (select p l)
 collected-all {p} {l} {k} c h = rw (c .cells-are, c .count-is, take-all k l h)
-
--- the cells of the four edges, by their place
-pub north-at : (k : ℕ) → k < 10 → getD (edge North) k 0 ≡ k
-unfolding edge onEdge
-north-at = same-at 10 (λ k. getD (edge North) k 0) (λ k. k) refl
-
-pub east-at : (k : ℕ) → k < 10 → getD (edge East) k 0 ≡ k * 10 + 9
-unfolding edge onEdge
-east-at = same-at 10 (λ k. getD (edge East) k 0) (λ k. k * 10 + 9) refl
-
-pub south-at : (k : ℕ) → k < 10 → getD (edge South) k 0 ≡ k + 90
-unfolding edge onEdge
-south-at = same-at 10 (λ k. getD (edge South) k 0) (λ k. k + 90) refl
-
-pub west-at : (k : ℕ) → k < 10 → getD (edge West) k 0 ≡ k * 10
-unfolding edge onEdge
-west-at = same-at 10 (λ k. getD (edge West) k 0) (λ k. k * 10) refl

@@ -20,6 +20,7 @@ use Rattle.route.specs.Window.{onEdge, edge, between, cellsBetween, sele
 use Rattle.route.specs.Step.{firstOf, lastOf, boundaryOf, windowCells}
 use Rattle.route.proofs.Below.{holds, holds-at, and-true}
 use Rattle.route.proofs.Runs.{run, run-length, run-at}
+use Rattle.route.proofs.Cells.{edge-run, stride-within}
 use Rattle.route.proofs.Accepted.{Window}
 
 same : List ℕ → List ℕ → Bool
@@ -54,22 +55,6 @@ unfolding pair
 pair-at a d e i j h k o =
     same-true _ _ (or-true (leb i j) _ (le-leb i j o) (holds-at 10 (pair a d i) (holds-at 10 (λ i. holds 10 (pair a d i)) e i h) j k))
 
-north-edge : edge North ≡ run 10 0 1
-unfolding edge onEdge
-north-edge = refl
-
-east-edge : edge East ≡ run 10 9 10
-unfolding edge onEdge
-east-edge = refl
-
-south-edge : edge South ≡ run 10 90 1
-unfolding edge onEdge
-south-edge = refl
-
-west-edge : edge West ≡ run 10 0 10
-unfolding edge onEdge
-west-edge = refl
-
 module _ (f l : ℕ) (fi : f < 100) (li : l < 100) (o : f ≤ l) where
   from-places : (side : CompassDir) (a d i j n : ℕ) → edge side ≡ run 10 a d → holds 10 (λ i. holds 10 (pair a d i)) ≡ true → i < 10 → j < 10 → i ≤ j
       → f ≡ a + i * d → l ≡ a + j * d → n ≡ j - i + 1 → cellsBetween side f l ≡ run n f d
@@ -81,19 +66,19 @@ module _ (f l : ℕ) (fi : f < 100) (li : l < 100) (o : f ≤ l) where
   window-run North p q =
       let u = eqb-true (f / 10) 0 p in
       let v = eqb-true (l / 10) 0 q in
-      from-places North 0 1 f l ((l - f) / 1 + 1) north-edge refl (omega arith) (omega arith) (omega arith) (omega arith) (omega arith) (omega arith)
+      from-places North 0 1 f l ((l - f) / 1 + 1) (edge-run North) refl (omega arith) (omega arith) (omega arith) (omega arith) (omega arith) (omega arith)
   window-run East p q =
       let u = eqb-true (f % 10) 9 p in
       let v = eqb-true (l % 10) 9 q in
-      from-places East 9 10 (f / 10) (l / 10) ((l - f) / 10 + 1) east-edge refl (omega arith) (omega arith) (omega arith) (omega arith) (omega arith) (omega arith)
+      from-places East 9 10 (f / 10) (l / 10) ((l - f) / 10 + 1) (edge-run East) refl (omega arith) (omega arith) (omega arith) (omega arith) (omega arith) (omega arith)
   window-run South p q =
       let u = eqb-true (f / 10) 9 p in
       let v = eqb-true (l / 10) 9 q in
-      from-places South 90 1 (f - 90) (l - 90) ((l - f) / 1 + 1) south-edge refl (omega arith) (omega arith) (omega arith) (omega arith) (omega arith) (omega arith)
+      from-places South 90 1 (f - 90) (l - 90) ((l - f) / 1 + 1) (edge-run South) refl (omega arith) (omega arith) (omega arith) (omega arith) (omega arith) (omega arith)
   window-run West p q =
       let u = eqb-true (f % 10) 0 p in
       let v = eqb-true (l % 10) 0 q in
-      from-places West 0 10 (f / 10) (l / 10) ((l - f) / 10 + 1) west-edge refl (omega arith) (omega arith) (omega arith) (omega arith) (omega arith) (omega arith)
+      from-places West 0 10 (f / 10) (l / 10) ((l - f) / 10 + 1) (edge-run West) refl (omega arith) (omega arith) (omega arith) (omega arith) (omega arith) (omega arith)
   window-run NorthEast p q = absurd-bool p
   window-run SouthEast p q = absurd-bool p
   window-run SouthWest p q = absurd-bool p
@@ -160,17 +145,6 @@ module _ (f l : ℕ) (fi : f < 100) (li : l < 100) (o : f ≤ l) where
   place-of NorthWest i p q r ii from to = absurd-bool p
   place-of Zero i p q r ii from to = absurd-bool p
 
-stride-positive : (side : CompassDir) → 0 < stride side
-stride-positive North = omega arith
-stride-positive East = omega arith
-stride-positive South = omega arith
-stride-positive West = omega arith
-stride-positive NorthEast = omega arith
-stride-positive SouthEast = omega arith
-stride-positive SouthWest = omega arith
-stride-positive NorthWest = omega arith
-stride-positive Zero = omega arith
-
 -- the cell x at place k of a step's window
 pub record At (s : List ℕ) (k x : ℕ) : Type 0 where
   pub is : x ≡ firstOf s + k * stride (boundaryOf s)
@@ -213,7 +187,7 @@ module _ (s : List ℕ) (w : Window s) where
   window-increases j k h m =
       let a = window-at j (omega arith) in
       let b = window-at k m in
-      omega (arith, a .is, b .is, mul-lt-mul-of-pos-right h (stride-positive (boundaryOf s)))
+      omega (arith, a .is, b .is, mul-lt-mul-of-pos-right h (stride-within (boundaryOf s) .0))
 
   pub window-all : (i : ℕ) → i < 100 → onEdge (boundaryOf s) i ≡ true → firstOf s ≤ i → i ≤ lastOf s
       → (k : ℕ) × (k < length (windowCells s)) × (getD (windowCells s) k 0 ≡ i)

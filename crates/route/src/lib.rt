@@ -4,7 +4,7 @@ ghost use mathlib.Core.Path.{_≡_};
 ghost use mathlib.Core.List.{[], _∷_};
 ghost use Prim.Native.Nat.{_+_, _*_, _%_, _<_};
 ghost use lib.ListN.{length, getD};
-ghost use Rattle.route.specs.Window.{onEdge, edge, between, cellsBetween, listed, facing};
+ghost use Rattle.route.specs.Window.{onEdge, edge, stride, between, cellsBetween, listed, facing};
 ghost use Rattle.route.specs.Step.{routeStep, eachStep, stepNumber};
 
 // The start and end index of a portal, and the side of the sector that it sits on.
@@ -33,17 +33,14 @@ pub struct WindowCells {
 pub fn on_edge(boundary: CompassDir, index: usize) -> bool
     ensures { λ r. ⌜ r ≡ onEdge boundary index ⌝ }
 {
-    match boundary {
-        CompassDir::North => index / 10 == 0,
-        CompassDir::East => index % 10 == 9,
-        CompassDir::South => index / 10 == 9,
-        CompassDir::West => index % 10 == 0,
-        CompassDir::NorthEast => false,
-        CompassDir::SouthEast => false,
-        CompassDir::SouthWest => false,
-        CompassDir::NorthWest => false,
-        CompassDir::Zero => false,
+    if boundary.number() > 3 {
+        return false;
     }
+    let apart = boundary.differences();
+    if apart.east + apart.west == 0 {
+        return index / 10 == apart.south * 9;
+    }
+    index % 10 == apart.east * 9
 }
 
 // 6, 7 or 8 for a step with this window that is refused, else 0.
@@ -141,39 +138,29 @@ fn wide(byte: u8) -> usize
     byte as usize
 }
 
+// From a cell of a side's edge to the next: 1 along a row, 10 down a column.
+pub fn stride_of(boundary: CompassDir) -> usize
+    ensures { λ r. ⌜ r ≡ stride boundary ⌝ }
+{
+    let apart = boundary.differences();
+    if apart.east + apart.west == 0 { 1 } else { 10 }
+}
+
 // How many cells a side's edge has; a direction that is no side has no edge.
 fn edge_length(boundary: CompassDir) -> usize
     ensures { λ r. ⌜ r ≡ length (edge boundary) ⌝ }
 {
-    match boundary {
-        CompassDir::North => 10,
-        CompassDir::East => 10,
-        CompassDir::South => 10,
-        CompassDir::West => 10,
-        CompassDir::NorthEast => 0,
-        CompassDir::SouthEast => 0,
-        CompassDir::SouthWest => 0,
-        CompassDir::NorthWest => 0,
-        CompassDir::Zero => 0,
-    }
+    if boundary.number() < 4 { 10 } else { 0 }
 }
 
 // A cell of a side's edge, by its place from the left or the top.
 fn edge_cell(boundary: CompassDir, place: usize) -> usize
-    requires { ⌜ place < 10 ⌝ }
+    requires { ⌜ place < length (edge boundary) ⌝ }
     ensures { λ r. ⌜ r ≡ getD (edge boundary) place 0 ⌝ }
 {
-    match boundary {
-        CompassDir::North => place,
-        CompassDir::East => place * 10 + 9,
-        CompassDir::South => place + 90,
-        CompassDir::West => place * 10,
-        CompassDir::NorthEast => 0,
-        CompassDir::SouthEast => 0,
-        CompassDir::SouthWest => 0,
-        CompassDir::NorthWest => 0,
-        CompassDir::Zero => 0,
-    }
+    let apart = boundary.differences();
+    let first = apart.east * 9 + apart.south * 90;
+    first + place * stride_of(boundary)
 }
 
 // Whether a cell lies from the first to the last.

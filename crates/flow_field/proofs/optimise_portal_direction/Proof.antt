@@ -7,7 +7,7 @@ use lib.Dec.{eqb}
 use denote.Ref.{now}
 use Rattle.route.specs.Window.{stride}
 use Rattle.flow_byte.specs.New.{facingBits, facingValue, unlessEnd, facingChoice}
-use Rattle.flow_field.proofs.Windows.{stride-small}
+use Rattle.route.proofs.Cells.{stride-within}
 use borrow.Author.Needs.{needs}
 use Rattle.flow_field.proofs.optimise_portal_direction.Statement.{statement}
 use Rattle.flow_field.proofs.optimise_portal_direction.Tie as tie
@@ -19,7 +19,7 @@ lower-by-requires : tie.Need-lower-by-requires
 lower-by-requires c κs = search needs
 
 add-after : tie.Need-add-after
-add-after c = omega (arith, c .before .stride-of .ensures, stride-small (c .before .before .before .args .window .boundary))
+add-after c = omega (arith, c .before .stride-of .ensures, stride-within (c .before .before .before .args .window .boundary) .1)
 
 side-value-requires : tie.Need-side-value-requires
 side-value-requires c κs = search needs

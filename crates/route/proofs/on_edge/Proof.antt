@@ -1,90 +1,52 @@
+use Prim.Native.Nat.{_+_}
+use borrow.Author.Tests.{lt-ltb, le-ltb, ne-eqb}
+use native.Mathlib.Omega.{arith}
+use Rattle.utilities.proofs.Compass.{small}
+use Rattle.route.proofs.Cells.{on-edge}
 use borrow.Author.Needs.{needs}
 use Rattle.route.proofs.on_edge.Statement.{statement}
 use Rattle.route.proofs.on_edge.Tie as tie
-use Rattle.route.specs.Window.{onEdge}
 
-enum-told : tie.Need-enum-told
-enum-told c = search needs
-
-enum-told-2 : tie.Need-enum-told-2
-enum-told-2 c = search needs
-
-enum-told-3 : tie.Need-enum-told-3
-enum-told-3 c = search needs
-
-enum-told-4 : tie.Need-enum-told-4
-enum-told-4 c = search needs
-
-enum-told-5 : tie.Need-enum-told-5
-enum-told-5 c = search needs
-
-enum-told-6 : tie.Need-enum-told-6
-enum-told-6 c = search needs
-
-enum-told-7 : tie.Need-enum-told-7
-enum-told-7 c = search needs
-
-enum-told-8 : tie.Need-enum-told-8
-enum-told-8 c = search needs
-
-enum-told-9 : tie.Need-enum-told-9
-enum-told-9 c = search needs
+number-requires : tie.Need-number-requires
+number-requires c κs = search needs
 
 returns : tie.Need-returns
-unfolding onEdge
-returns c = rw (c .enum-told .given .1)
+returns c = let n = c .before .number in rw (on-edge (c .before .before .args .boundary) (c .before .before .args .index), ← n .ensures, lt-ltb 3 (n .result) (c .if1 .taken))
+
+differences-requires : tie.Need-differences-requires
+differences-requires c κs = search needs
+
+add-if2 : tie.Need-add-if2
+add-if2 c = let s = small (c .before .before .before .before .args .boundary) (c .before .differences .ensures) in search needs
+
+mul-result : tie.Need-mul-result
+mul-result c = let s = small (c .before .before .before .before .before .before .args .boundary) (c .before .before .before .differences .ensures) in search needs
 
 returns-2 : tie.Need-returns-2
-unfolding onEdge
-returns-2 c = rw (c .enum-told2 .given .1)
+returns-2 c =
+    let a = c .before .before .before .before .before .before .args in
+    let n = c .before .before .before .before .before .number in
+    rw (on-edge (a .boundary) (a .index), ← n .ensures, le-ltb 3 (n .result) (omega arith), ← c .before .before .before .differences .ensures, c .before .if2 .taken)
+
+mul-result-2 : tie.Need-mul-result-2
+mul-result-2 c = let s = small (c .before .before .before .before .before .before .args .boundary) (c .before .before .before .differences .ensures) in search needs
 
 returns-3 : tie.Need-returns-3
-unfolding onEdge
-returns-3 c = rw (c .enum-told3 .given .1)
-
-returns-4 : tie.Need-returns-4
-unfolding onEdge
-returns-4 c = rw (c .enum-told4 .given .1)
-
-returns-5 : tie.Need-returns-5
-unfolding onEdge
-returns-5 c = search needs
-
-returns-6 : tie.Need-returns-6
-unfolding onEdge
-returns-6 c = search needs
-
-returns-7 : tie.Need-returns-7
-unfolding onEdge
-returns-7 c = search needs
-
-returns-8 : tie.Need-returns-8
-unfolding onEdge
-returns-8 c = search needs
-
-returns-9 : tie.Need-returns-9
-unfolding onEdge
-returns-9 c = search needs
+returns-3 c =
+    let a = c .before .before .before .before .before .before .args in
+    let n = c .before .before .before .before .before .number in
+    let δ = c .before .before .before .differences in
+    rw (on-edge (a .boundary) (a .index), ← n .ensures, le-ltb 3 (n .result) (omega arith), ← δ .ensures, ne-eqb (δ .result .east + δ .result .west) 0 (c .before .if2 .left))
 
 pub on-edge-spec : {M : Type 1} → statement M
 on-edge-spec =
     tie.close
     (tie.spec
-    enum-told
-    enum-told-2
-    enum-told-3
-    enum-told-4
-    enum-told-5
-    enum-told-6
-    enum-told-7
-    enum-told-8
-    enum-told-9
+    number-requires
     returns
+    differences-requires
+    add-if2
+    mul-result
     returns-2
-    returns-3
-    returns-4
-    returns-5
-    returns-6
-    returns-7
-    returns-8
-    returns-9)
+    mul-result-2
+    returns-3)

@@ -22,7 +22,7 @@ loop-holds : tie.Need-loop-holds Inv-loop μ-loop
 loop-holds c = (omega arith, record { cells-are = refl; count-is = refl; at-most = omega arith })
 
 edge-cell-requires : tie.Need-edge-cell-requires Inv-loop μ-loop
-edge-cell-requires c κs = omega (arith, c .before .before .edge-length .ensures, edge-at-most (c .before .before .before .args .self .boundary))
+edge-cell-requires c κs = omega (arith, c .before .before .edge-length .ensures)
 
 is-between-requires : tie.Need-is-between-requires Inv-loop μ-loop
 is-between-requires c κs = search needs
