@@ -1,7 +1,7 @@
 -- Sums of a coordinate and a difference, and the cell of two of them.
 -- Assumes nothing.
 use mathlib.Core.Path.{_≡_, refl}
-use mathlib.Core.Bool.{Bool, true, false, _&&_}
+use mathlib.Core.Bool.{Bool, true, false, _&&_, and-false}
 use Prim.Native.Nat.{ℕ, _+_, _-_, _<_, _≤_}
 use lib.Dec.{leb}
 use native.Mathlib.Omega.{arith}
@@ -9,23 +9,19 @@ use borrow.Author.Tests.{lt-ltb, le-leb, lt-leb}
 use Rattle.fields.specs.declared.Coordinate.the-variants.{In, Out}
 use Rattle.fields.specs.declared.FieldCell.{FieldCell}
 use Rattle.fields.specs.declared.Stepped.the-variants.{Outside}
-use Rattle.fields.specs.Cell.{cell, cellIf, sumIn, coordinateIf, coordinateAt, bothIn, stepped}
+use Rattle.fields.specs.Cell.{cell, cellIf, coordinateIf, coordinateAt, bothIn, stepped}
 use Rattle.utilities.specs.declared.CompassDir.{CompassDir}
 use Rattle.utilities.specs.declared.Differences.{Differences}
-use Rattle.utilities.specs.Compass.{differences}
-
-and-false : (b : Bool) → (b && false) ≡ false
-and-false true = refl
-and-false false = refl
+use Rattle.utilities.specs.Compass.{differences, sumWithin}
 
 module _ (x more less : ℕ) where
-  pub sum-in : less ≤ x + more → x + more ≤ 9 + less → sumIn x more less ≡ true
+  pub sum-in : less ≤ x + more → x + more ≤ 9 + less → sumWithin 9 x more less ≡ true
   sum-in h k = rw (le-leb less (x + more) h, le-leb (x + more) (9 + less) k)
 
-  pub sum-below : x + more < less → sumIn x more less ≡ false
+  pub sum-below : x + more < less → sumWithin 9 x more less ≡ false
   sum-below h = rw (lt-leb less (x + more) h)
 
-  pub sum-above : 9 + less < x + more → sumIn x more less ≡ false
+  pub sum-above : 9 + less < x + more → sumWithin 9 x more less ≡ false
   sum-above h = rw (lt-leb (x + more) (9 + less) h) (and-false (leb less (x + more)))
 
   pub at-in : (y : ℕ) → less ≤ x + more → x + more ≤ 9 + less → y ≡ x + more - less → In y ≡ coordinateAt x more less
@@ -55,4 +51,4 @@ module _ (c : FieldCell) (d : CompassDir) (δ : Differences) (e : δ ≡ differe
   unfolding stepped
   arrived z =
       rw (← e, lt-ltb 0 (δ .east + δ .west + δ .south + δ .north) (omega arith))
-      (both (sumIn (c .column) (δ .east) (δ .west)) (sumIn (c .row) (δ .south) (δ .north)) (c .column + δ .east - δ .west) (c .row + δ .south - δ .north))
+      (both (sumWithin 9 (c .column) (δ .east) (δ .west)) (sumWithin 9 (c .row) (δ .south) (δ .north)) (c .column + δ .east - δ .west) (c .row + δ .south - δ .north))

@@ -4,18 +4,17 @@
 --     step-back                                     a step is undone by the opposite step
 -- Assumes nothing.
 use mathlib.Core.Path.{_≡_, refl, subst, ap, _∙_}
-use mathlib.Core.Bool.{Bool, true, false, _&&_}
+use mathlib.Core.Bool.{Bool, true, false, _&&_, and-eq-true-iff}
 use Prim.Native.Nat.{ℕ, _+_, _-_, _<_, _≤_, _/_, _%_}
 use native.Mathlib.Omega.{arith}
-use lib.Dec.{leb}
-use borrow.Author.Tests.{lt-ltb, leb-true}
+use borrow.Author.Tests.{lt-ltb}
 use Rattle.utilities.specs.declared.CompassDir.{CompassDir}
 use Rattle.utilities.specs.declared.Differences.{Differences}
-use Rattle.utilities.specs.Compass.{differences, points, opposite}
-use Rattle.utilities.proofs.Compass.{opposite-differences, opposite-points}
+use Rattle.utilities.specs.Compass.{differences, points, sumWithin, opposite}
+use Rattle.utilities.proofs.Compass.{opposite-differences, opposite-points, within}
 use Rattle.fields.specs.declared.FieldCell.{FieldCell}
 use Rattle.fields.specs.declared.Stepped.the-variants.{Cell}
-use Rattle.fields.specs.Cell.{cell, Inside, indexOf, cellAt, indexOr, cellIf, sumIn, stepped}
+use Rattle.fields.specs.Cell.{cell, Inside, indexOf, cellAt, indexOr, cellIf, stepped}
 use Rattle.fields.proofs.Coordinates.{sum-in}
 
 pub cell-inside : (i : ℕ) → i < 100 → Inside (cellAt i)
@@ -50,25 +49,16 @@ if-cell : (b : Bool) (x n : FieldCell) → cellIf b x ≡ Cell n → (b ≡ true
 if-cell true x n e = (refl, cc)
 if-cell false x n e = let z : _≡_ {A = ℕ} 0 1 = cc in absurd (omega arith)
 
-and-true : (a b : Bool) → (a && b) ≡ true → (a ≡ true) × (b ≡ true)
-and-true true b e = (refl, e)
-and-true false b e = let z : _≡_ {A = ℕ} 0 1 = cc in absurd (omega arith)
-
-in-sum : (x more less : ℕ) → sumIn x more less ≡ true → (less ≤ x + more) × (x + more ≤ 9 + less)
-in-sum x more less e =
-    let p = and-true (leb less (x + more)) (leb (x + more) (9 + less)) e in
-    (leb-true less (x + more) (p .0), leb-true (x + more) (9 + less) (p .1))
-
 pub stepped-cell : (c : FieldCell) (d : CompassDir) (n : FieldCell) → stepped c d ≡ Cell n → Arrives c d n
 unfolding stepped
 stepped-cell c d n e =
     let δ = differences d in
-    let i = if-cell (points d && (sumIn (c .column) (δ .east) (δ .west) && sumIn (c .row) (δ .south) (δ .north)))
+    let i = if-cell (points d && (sumWithin 9 (c .column) (δ .east) (δ .west) && sumWithin 9 (c .row) (δ .south) (δ .north)))
     (cell (c .column + δ .east - δ .west) (c .row + δ .south - δ .north)) n e in
-    let p = and-true (points d) _ (i .0) in
-    let q = and-true (sumIn (c .column) (δ .east) (δ .west)) (sumIn (c .row) (δ .south) (δ .north)) (p .1) in
-    let u = in-sum (c .column) (δ .east) (δ .west) (q .0) in
-    let v = in-sum (c .row) (δ .south) (δ .north) (q .1) in
+    let p = and-eq-true-iff (points d) _ .0 (i .0) in
+    let q = and-eq-true-iff (sumWithin 9 (c .column) (δ .east) (δ .west)) (sumWithin 9 (c .row) (δ .south) (δ .north)) .0 (p .1) in
+    let u = within 9 (c .column) (δ .east) (δ .west) (q .0) in
+    let v = within 9 (c .row) (δ .south) (δ .north) (q .1) in
     subst (Arrives c d) (i .1) (record {
       pointing = p .0;
       column-from = u .0;

@@ -2,9 +2,9 @@
 -- Assumes nothing.
 use mathlib.Core.Bool.{Bool, true, false, cond, _&&_}
 use Prim.Native.Nat.{ℕ, _+_, _-_, _*_, _/_, _%_, _<_}
-use lib.Dec.{leb, ltb}
+use lib.Dec.{ltb}
 use Rattle.utilities.specs.declared.CompassDir.{CompassDir}
-use Rattle.utilities.specs.Compass.{differences, points}
+use Rattle.utilities.specs.Compass.{differences, points, sumWithin}
 use Rattle.fields.specs.declared.FieldCell.{FieldCell}
 use Rattle.fields.specs.declared.Stepped.{Stepped}
 use Rattle.fields.specs.declared.Stepped.the-variants.{Cell, Outside}
@@ -37,10 +37,6 @@ abbrev pub cellIf : Bool → FieldCell → Stepped
 cellIf true c = Cell c
 cellIf false c = Outside
 
--- the sum x + more - less lies in 0 to 9
-abbrev pub sumIn : ℕ → ℕ → ℕ → Bool
-sumIn x more less = leb less (x + more) && leb (x + more) (9 + less)
-
 -- the cell at a column and a row, where both lie in 0 to 9
 unfoldable pub cellIn : ℕ → ℕ → Stepped
 cellIn c r = cellIf (inside (cell c r)) (cell c r)
@@ -50,7 +46,7 @@ cellIn c r = cellIf (inside (cell c r)) (cell c r)
 unfoldable pub stepped : FieldCell → CompassDir → Stepped
 stepped c d =
     let δ = differences d in
-    cellIf (points d && (sumIn (c .column) (δ .east) (δ .west) && sumIn (c .row) (δ .south) (δ .north)))
+    cellIf (points d && (sumWithin 9 (c .column) (δ .east) (δ .west) && sumWithin 9 (c .row) (δ .south) (δ .north)))
     (cell (c .column + δ .east - δ .west) (c .row + δ .south - δ .north))
 
 -- a sum, where it lies in 0 to 9
@@ -59,7 +55,7 @@ coordinateIf true x = In x
 coordinateIf false x = Out
 
 abbrev pub coordinateAt : ℕ → ℕ → ℕ → Coordinate
-coordinateAt x more less = coordinateIf (sumIn x more less) (x + more - less)
+coordinateAt x more less = coordinateIf (sumWithin 9 x more less) (x + more - less)
 
 -- the cell of two coordinates
 abbrev pub bothIn : Coordinate → Coordinate → Stepped

@@ -3,7 +3,7 @@ use utilities::CompassDir;
 ghost use mathlib.Core.Path.{_≡_};
 ghost use Prim.Native.Nat.{_+_, _<_, _≤_};
 ghost use Rattle.utilities.specs.Compass.{orthogonal, all};
-ghost use Rattle.fields.specs.Cell.{inside, cellAt, indexOr, cellIn, sumIn, coordinateAt, bothIn, stepped};
+ghost use Rattle.fields.specs.Cell.{inside, cellAt, indexOr, cellIn, coordinateAt, bothIn, stepped};
 ghost use Rattle.fields.specs.Neighbours.{neighbours, listed, pushed};
 
 // ID of a cell within a field.

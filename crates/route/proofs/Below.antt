@@ -1,7 +1,7 @@
 -- A test that holds for each number below n, computed once.
 -- Assumes nothing.
-use mathlib.Core.Path.{_≡_, refl}
-use mathlib.Core.Bool.{Bool, true, false, _&&_}
+use mathlib.Core.Path.{_≡_}
+use mathlib.Core.Bool.{Bool, true, _&&_, and-eq-true-iff}
 use Prim.Native.Nat.{ℕ, zero, suc, _<_}
 use native.Mathlib.Omega.{arith}
 use native.Mathlib.Decide.{ℕ-discrete}
@@ -13,16 +13,12 @@ abbrev pub holds : ℕ → (ℕ → Bool) → Bool
 holds zero t = true
 holds (suc n) t = t n && holds n t
 
-pub and-true : (a b : Bool) → (a && b) ≡ true → (a ≡ true) × (b ≡ true)
-and-true true b e = (refl, e)
-and-true false b e = let z : _≡_ {A = ℕ} 0 1 = cc in absurd (omega arith)
-
 pub holds-at : (n : ℕ) (t : ℕ → Bool) → holds n t ≡ true → (k : ℕ) → k < n → t k ≡ true
 holds-at zero t e k h = absurd (not-suc-le-zero h)
 holds-at (suc n) t e k h = pick (ℕ-discrete k n) (λ l. holds-at n t (p .1) k l)
   where
     p : (t n ≡ true) × (holds n t ≡ true)
-    p = and-true (t n) (holds n t) e
+    p = and-eq-true-iff (t n) (holds n t) .0 e
 
     pick : Dec (k ≡ n) → (k < n → t k ≡ true) → t k ≡ true
     pick (yes q) f = rw q (p .0)

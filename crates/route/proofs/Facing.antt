@@ -6,15 +6,14 @@
 --     facing-along    along an edge it goes by the same stride
 -- Assumes nothing.
 use mathlib.Core.Path.{_≡_, _∙_}
-use mathlib.Core.Bool.{true}
-use Prim.Native.Nat.{ℕ, _+_, _-_, _*_, _/_, _%_, _<_}
+use mathlib.Core.Bool.{true, false≢true}
+use Prim.Native.Nat.{ℕ, _+_, _*_, _/_, _%_, _<_}
 use native.Mathlib.Omega.{arith}
 use borrow.Author.Tests.{eqb-true, eq-eqb}
 use Rattle.utilities.specs.declared.CompassDir.{CompassDir}
 use Rattle.utilities.specs.declared.CompassDir.the-variants.{North, East, South, West, NorthEast, SouthEast, SouthWest, NorthWest, Zero}
 use Rattle.utilities.specs.Compass.{opposite}
 use Rattle.route.specs.Window.{onEdge, stride, facing}
-use Rattle.route.proofs.Windows.{absurd-bool}
 
 pub facing-in : (side : CompassDir) (i : ℕ) → facing side i < 100
 facing-in side i = omega arith
@@ -43,11 +42,11 @@ module _ (i : ℕ) (h : i < 100) where
   facing-on East p = eq-eqb (facing East i % 10) 0 (omega (arith, facing-east i h p))
   facing-on South p = eq-eqb (facing South i / 10) 0 (omega (arith, facing-south i h p))
   facing-on West p = eq-eqb (facing West i % 10) 9 (omega (arith, facing-west i h p))
-  facing-on NorthEast p = absurd-bool p
-  facing-on SouthEast p = absurd-bool p
-  facing-on SouthWest p = absurd-bool p
-  facing-on NorthWest p = absurd-bool p
-  facing-on Zero p = absurd-bool p
+  facing-on NorthEast p = absurd (false≢true p)
+  facing-on SouthEast p = absurd (false≢true p)
+  facing-on SouthWest p = absurd (false≢true p)
+  facing-on NorthWest p = absurd (false≢true p)
+  facing-on Zero p = absurd (false≢true p)
 
   pub facing-back : (side : CompassDir) → onEdge side i ≡ true → facing (opposite side) (facing side i) ≡ i
   unfolding onEdge
@@ -63,11 +62,11 @@ module _ (i : ℕ) (h : i < 100) where
   facing-back West p =
       let u = eqb-true (i % 10) 0 p in
       facing-east (facing West i) (facing-in West i) (facing-on West p) ∙ rw (facing-west i h p) (omega arith)
-  facing-back NorthEast p = absurd-bool p
-  facing-back SouthEast p = absurd-bool p
-  facing-back SouthWest p = absurd-bool p
-  facing-back NorthWest p = absurd-bool p
-  facing-back Zero p = absurd-bool p
+  facing-back NorthEast p = absurd (false≢true p)
+  facing-back SouthEast p = absurd (false≢true p)
+  facing-back SouthWest p = absurd (false≢true p)
+  facing-back NorthWest p = absurd (false≢true p)
+  facing-back Zero p = absurd (false≢true p)
 
   pub facing-along : (side : CompassDir) (k : ℕ) → i + k * stride side < 100 → onEdge side i ≡ true → onEdge side (i + k * stride side) ≡ true
       → facing side (i + k * stride side) ≡ facing side i + k * stride side
@@ -88,8 +87,8 @@ module _ (i : ℕ) (h : i < 100) where
       let u = eqb-true (i % 10) 0 p in
       let v = eqb-true ((i + k * 10) % 10) 0 q in
       rw (facing-west (i + k * 10) m q, facing-west i h p) (omega arith)
-  facing-along NorthEast k m p q = absurd-bool p
-  facing-along SouthEast k m p q = absurd-bool p
-  facing-along SouthWest k m p q = absurd-bool p
-  facing-along NorthWest k m p q = absurd-bool p
-  facing-along Zero k m p q = absurd-bool p
+  facing-along NorthEast k m p q = absurd (false≢true p)
+  facing-along SouthEast k m p q = absurd (false≢true p)
+  facing-along SouthWest k m p q = absurd (false≢true p)
+  facing-along NorthWest k m p q = absurd (false≢true p)
+  facing-along Zero k m p q = absurd (false≢true p)

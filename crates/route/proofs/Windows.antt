@@ -6,7 +6,7 @@
 --     window-all        and every cell of the edge from the first to the last is one
 -- Assumes nothing.
 use mathlib.Core.Path.{_≡_, refl, ap, ap₂, _∙_}
-use mathlib.Core.Bool.{Bool, true, false, not, _&&_, _||_}
+use mathlib.Core.Bool.{Bool, true, false, not, _&&_, _||_, false≢true, and-eq-true-iff}
 use mathlib.Core.List.{List, [], _∷_}
 use Prim.Native.Nat.{ℕ, _+_, _-_, _*_, _/_, _%_, _<_, _≤_}
 use native.Mathlib.Nat.{mul-lt-mul-of-pos-right}
@@ -18,7 +18,7 @@ use Rattle.utilities.specs.declared.CompassDir.{CompassDir}
 use Rattle.utilities.specs.declared.CompassDir.the-variants.{North, East, South, West, NorthEast, SouthEast, SouthWest, NorthWest, Zero}
 use Rattle.route.specs.Window.{onEdge, edge, between, cellsBetween, select, stride}
 use Rattle.route.specs.Step.{firstOf, lastOf, boundaryOf, windowCells}
-use Rattle.route.proofs.Below.{holds, holds-at, and-true}
+use Rattle.route.proofs.Below.{holds, holds-at}
 use Rattle.route.proofs.Runs.{run, run-length, run-at}
 use Rattle.route.proofs.Cells.{edge-run, stride-within}
 use Rattle.route.proofs.Accepted.{Window}
@@ -29,21 +29,18 @@ same [] (y ∷ m) = false
 same (x ∷ l) [] = false
 same (x ∷ l) (y ∷ m) = eqb x y && same l m
 
-pub absurd-bool : {A : Type 0} → false ≡ true → A
-absurd-bool e = let z : _≡_ {A = ℕ} 0 1 = cc in absurd (omega arith)
-
 same-true : (l m : List ℕ) → same l m ≡ true → l ≡ m
 unfolding same
 same-true [] [] e = refl
-same-true [] (y ∷ m) e = absurd-bool e
-same-true (x ∷ l) [] e = absurd-bool e
+same-true [] (y ∷ m) e = absurd (false≢true e)
+same-true (x ∷ l) [] e = absurd (false≢true e)
 same-true (x ∷ l) (y ∷ m) e =
-    let p = and-true (eqb x y) (same l m) e in
+    let p = and-eq-true-iff (eqb x y) (same l m) .0 e in
     ap₂ (λ (a : ℕ) (b : List ℕ). a ∷ b) (eqb-true x y (p .0)) (same-true l m (p .1))
 
 or-true : (a b : Bool) → a ≡ true → (not a || b) ≡ true → b ≡ true
 or-true true b t e = e
-or-true false b t e = absurd-bool t
+or-true false b t e = absurd (false≢true t)
 
 -- on an edge of ten cells from a, d apart: those from the i-th to the j-th are a run, for each i and j, computed once
 pair : ℕ → ℕ → ℕ → ℕ → Bool
@@ -79,11 +76,11 @@ module _ (f l : ℕ) (fi : f < 100) (li : l < 100) (o : f ≤ l) where
       let u = eqb-true (f % 10) 0 p in
       let v = eqb-true (l % 10) 0 q in
       from-places West 0 10 (f / 10) (l / 10) ((l - f) / 10 + 1) (edge-run West) refl (omega arith) (omega arith) (omega arith) (omega arith) (omega arith) (omega arith)
-  window-run NorthEast p q = absurd-bool p
-  window-run SouthEast p q = absurd-bool p
-  window-run SouthWest p q = absurd-bool p
-  window-run NorthWest p q = absurd-bool p
-  window-run Zero p q = absurd-bool p
+  window-run NorthEast p q = absurd (false≢true p)
+  window-run SouthEast p q = absurd (false≢true p)
+  window-run SouthWest p q = absurd (false≢true p)
+  window-run NorthWest p q = absurd (false≢true p)
+  window-run Zero p q = absurd (false≢true p)
 
 -- a place k of a run along an edge
 record Along (side : CompassDir) (f l k : ℕ) : Type 0 where
@@ -110,11 +107,11 @@ module _ (f l : ℕ) (fi : f < 100) (li : l < 100) (o : f ≤ l) where
       let u = eqb-true (f % 10) 0 p in
       let v = eqb-true (l % 10) 0 q in
       record { few = omega arith; on = eq-eqb ((f + k * 10) % 10) 0 (omega arith); to = omega arith }
-  along NorthEast k p q h = absurd-bool p
-  along SouthEast k p q h = absurd-bool p
-  along SouthWest k p q h = absurd-bool p
-  along NorthWest k p q h = absurd-bool p
-  along Zero k p q h = absurd-bool p
+  along NorthEast k p q h = absurd (false≢true p)
+  along SouthEast k p q h = absurd (false≢true p)
+  along SouthWest k p q h = absurd (false≢true p)
+  along NorthWest k p q h = absurd (false≢true p)
+  along Zero k p q h = absurd (false≢true p)
 
   place-of : (side : CompassDir) (i : ℕ) → onEdge side f ≡ true → onEdge side l ≡ true → onEdge side i ≡ true → i < 100 → f ≤ i → i ≤ l
       → ((i - f) / stride side < (l - f) / stride side + 1) × (f + (i - f) / stride side * stride side ≡ i)
@@ -139,11 +136,11 @@ module _ (f l : ℕ) (fi : f < 100) (li : l < 100) (o : f ≤ l) where
       let v = eqb-true (l % 10) 0 q in
       let w = eqb-true (i % 10) 0 r in
       (omega arith, omega arith)
-  place-of NorthEast i p q r ii from to = absurd-bool p
-  place-of SouthEast i p q r ii from to = absurd-bool p
-  place-of SouthWest i p q r ii from to = absurd-bool p
-  place-of NorthWest i p q r ii from to = absurd-bool p
-  place-of Zero i p q r ii from to = absurd-bool p
+  place-of NorthEast i p q r ii from to = absurd (false≢true p)
+  place-of SouthEast i p q r ii from to = absurd (false≢true p)
+  place-of SouthWest i p q r ii from to = absurd (false≢true p)
+  place-of NorthWest i p q r ii from to = absurd (false≢true p)
+  place-of Zero i p q r ii from to = absurd (false≢true p)
 
 -- the cell x at place k of a step's window
 pub record At (s : List ℕ) (k x : ℕ) : Type 0 where

@@ -4,29 +4,29 @@
 --     across-sector    where a step arrives: at the two sums, on the floor
 -- Assumes nothing.
 use mathlib.Core.Path.{_≡_, refl, sym}
-use mathlib.Core.Bool.{Bool, true, false, _&&_}
+use mathlib.Core.Bool.{Bool, true, false, _&&_, and-eq-true-iff}
 use Prim.Native.Nat.{ℕ, _+_, _-_, _*_, _<_, _≤_}
 use native.Mathlib.Omega.{arith}
 use native.Mathlib.Decide.{decLe}
 use lib.Dec.{leb, ltb}
-use borrow.Author.Tests.{lt-ltb, le-leb, lt-leb, leb-true, ltb-true}
+use borrow.Author.Tests.{lt-ltb, le-leb, lt-leb, ltb-true}
 use Rattle.utilities.specs.declared.CompassDir.{CompassDir}
-use Rattle.utilities.specs.declared.CompassDir.the-variants.{North, East, South, West, NorthEast, SouthEast, SouthWest, NorthWest, Zero}
+use Rattle.utilities.specs.declared.CompassDir.the-variants.{East, South, West}
 use Rattle.utilities.specs.declared.Differences.{Differences}
-use Rattle.utilities.specs.Compass.{differences, points}
-use Rattle.utilities.proofs.Compass.{small}
+use Rattle.utilities.specs.Compass.{differences, points, sumWithin}
+use Rattle.utilities.proofs.Compass.{small, within}
 use Rattle.sectors.specs.declared.Across.the-variants.{Sector, OffFloor}
-use Rattle.sectors.specs.Floor.{columnOf, rowOf, sectorAt, sectorIf, onFloor, placed, across}
+use Rattle.sectors.specs.Floor.{columnOf, rowOf, sectorAt, sectorIf, placed, across}
 
 -- a sum lies in 0 to 7 where one more lies in 1 to 8
-counted : (x more less : ℕ) → less ≤ 1 → (leb 1 (x + 1 + more - less) && leb (x + 1 + more - less) 8) ≡ onFloor x more less
+counted : (x more less : ℕ) → less ≤ 1 → (leb 1 (x + 1 + more - less) && leb (x + 1 + more - less) 8) ≡ sumWithin 7 x more less
 counted x more less h = low (decLe less (x + more))
   where
-    high : less ≤ x + more → Dec (x + more ≤ 7 + less) → (leb 1 (x + 1 + more - less) && leb (x + 1 + more - less) 8) ≡ onFloor x more less
+    high : less ≤ x + more → Dec (x + more ≤ 7 + less) → (leb 1 (x + 1 + more - less) && leb (x + 1 + more - less) 8) ≡ sumWithin 7 x more less
     high p (yes q) = rw (le-leb 1 (x + 1 + more - less) (omega arith), le-leb (x + 1 + more - less) 8 (omega arith), le-leb less (x + more) p, le-leb (x + more) (7 + less) q)
     high p (no q) = rw (le-leb 1 (x + 1 + more - less) (omega arith), lt-leb (x + 1 + more - less) 8 (omega arith), le-leb less (x + more) p, lt-leb (x + more) (7 + less) (omega arith))
 
-    low : Dec (less ≤ x + more) → (leb 1 (x + 1 + more - less) && leb (x + 1 + more - less) 8) ≡ onFloor x more less
+    low : Dec (less ≤ x + more) → (leb 1 (x + 1 + more - less) && leb (x + 1 + more - less) 8) ≡ sumWithin 7 x more less
     low (yes p) = high p (decLe (x + more) (7 + less))
     low (no p) = rw (lt-leb 1 (x + 1 + more - less) (omega arith), lt-leb less (x + more) (omega arith))
 
@@ -63,18 +63,9 @@ pub record Arrives (s : ℕ) (d : CompassDir) (n : ℕ) : Type 0 where
   pub column-at : columnOf n + differences d .west ≡ columnOf s + differences d .east
   pub row-at : rowOf n + differences d .north ≡ rowOf s + differences d .south
 
-and-true : (a b : Bool) → (a && b) ≡ true → (a ≡ true) × (b ≡ true)
-and-true true b e = (refl, e)
-and-true false b e = let z : _≡_ {A = ℕ} 0 1 = cc in absurd (omega arith)
-
 if-sector : (b : Bool) (x n : ℕ) → sectorIf b x ≡ Sector n → (b ≡ true) × (x ≡ n)
 if-sector true x n e = (refl, cc)
 if-sector false x n e = let z : _≡_ {A = ℕ} 0 1 = cc in absurd (omega arith)
-
-in-sum : (x more less : ℕ) → onFloor x more less ≡ true → (less ≤ x + more) × (x + more ≤ 7 + less)
-in-sum x more less e =
-    let p = and-true (leb less (x + more)) (leb (x + more) (7 + less)) e in
-    (leb-true less (x + more) (p .0), leb-true (x + more) (7 + less) (p .1))
 
 pub across-sector : (s : ℕ) (d : CompassDir) (n : ℕ) → across s d ≡ Sector n → Arrives s d n
 unfolding across
@@ -82,12 +73,12 @@ across-sector s d n e =
     let δ = differences d in
     let c = columnOf s + δ .east - δ .west in
     let r = rowOf s + δ .south - δ .north in
-    let i = if-sector (ltb s 64 && points d && (onFloor (columnOf s) (δ .east) (δ .west) && onFloor (rowOf s) (δ .south) (δ .north))) (sectorAt c r) n e in
-    let p = and-true (ltb s 64 && points d) _ (i .0) in
-    let q = and-true (ltb s 64) (points d) (p .0) in
-    let t = and-true (onFloor (columnOf s) (δ .east) (δ .west)) (onFloor (rowOf s) (δ .south) (δ .north)) (p .1) in
-    let u = in-sum (columnOf s) (δ .east) (δ .west) (t .0) in
-    let v = in-sum (rowOf s) (δ .south) (δ .north) (t .1) in
+    let i = if-sector (ltb s 64 && points d && (sumWithin 7 (columnOf s) (δ .east) (δ .west) && sumWithin 7 (rowOf s) (δ .south) (δ .north))) (sectorAt c r) n e in
+    let p = and-eq-true-iff (ltb s 64 && points d) _ .0 (i .0) in
+    let q = and-eq-true-iff (ltb s 64) (points d) .0 (p .0) in
+    let t = and-eq-true-iff (sumWithin 7 (columnOf s) (δ .east) (δ .west)) (sumWithin 7 (rowOf s) (δ .south) (δ .north)) .0 (p .1) in
+    let u = within 7 (columnOf s) (δ .east) (δ .west) (t .0) in
+    let v = within 7 (rowOf s) (δ .south) (δ .north) (t .1) in
     let x : n ≡ r * 8 + c = sym (i .1) in
     record {
       on-floor = ltb-true s 64 (q .0);

@@ -4,7 +4,7 @@ use mathlib.Core.Bool.{Bool, true, false, _&&_}
 use Prim.Native.Nat.{ℕ, _+_, _-_, _*_, _/_, _%_}
 use lib.Dec.{leb, ltb}
 use Rattle.utilities.specs.declared.CompassDir.{CompassDir}
-use Rattle.utilities.specs.Compass.{differences, points}
+use Rattle.utilities.specs.Compass.{differences, points, sumWithin}
 use Rattle.sectors.specs.declared.Across.{Across}
 use Rattle.sectors.specs.declared.Across.the-variants.{Sector, OffFloor}
 
@@ -23,10 +23,6 @@ abbrev pub sectorIf : Bool → ℕ → Across
 sectorIf true s = Sector s
 sectorIf false s = OffFloor
 
--- the sum x + more - less lies in 0 to 7
-abbrev pub onFloor : ℕ → ℕ → ℕ → Bool
-onFloor x more less = leb less (x + more) && leb (x + more) (7 + less)
-
 -- the sector at a column and a row that are counted from 1, where both lie in 1 to 8
 unfoldable pub placed : ℕ → ℕ → Across
 placed column row = sectorIf (leb 1 column && leb column 8 && (leb 1 row && leb row 8)) (sectorAt (column - 1) (row - 1))
@@ -36,5 +32,5 @@ placed column row = sectorIf (leb 1 column && leb column 8 && (leb 1 row && leb 
 unfoldable pub across : ℕ → CompassDir → Across
 across s d =
     let δ = differences d in
-    sectorIf (ltb s 64 && points d && (onFloor (columnOf s) (δ .east) (δ .west) && onFloor (rowOf s) (δ .south) (δ .north)))
+    sectorIf (ltb s 64 && points d && (sumWithin 7 (columnOf s) (δ .east) (δ .west) && sumWithin 7 (rowOf s) (δ .south) (δ .north)))
     (sectorAt (columnOf s + δ .east - δ .west) (rowOf s + δ .south - δ .north))

@@ -1,14 +1,18 @@
 -- Laws of directions.
 --     small                                    a direction moves by one at most in each coordinate
 --     opposite-differences, opposite-points    the opposite direction moves as far, the other way round
+--     within                                   what the test of a sum says
 -- Assumes nothing.
 use mathlib.Core.Path.{_≡_, refl}
-use Prim.Native.Nat.{_+_, _≤_}
+use mathlib.Core.Bool.{true, and-eq-true-iff}
+use Prim.Native.Nat.{ℕ, _+_, _≤_}
 use native.Mathlib.Omega.{arith}
+use lib.Dec.{leb}
+use borrow.Author.Tests.{leb-true}
 use Rattle.utilities.specs.declared.CompassDir.{CompassDir}
 use Rattle.utilities.specs.declared.CompassDir.the-variants.{North, East, South, West, NorthEast, SouthEast, SouthWest, NorthWest, Zero}
 use Rattle.utilities.specs.declared.Differences.{Differences}
-use Rattle.utilities.specs.Compass.{differences, points, opposite}
+use Rattle.utilities.specs.Compass.{differences, points, sumWithin, opposite}
 
 pub record Small (δ : Differences) : Type 0 where
   pub columns : δ .east + δ .west ≤ 1
@@ -50,3 +54,8 @@ opposite-points SouthEast = refl
 opposite-points SouthWest = refl
 opposite-points NorthWest = refl
 opposite-points Zero = refl
+
+pub within : (n x more less : ℕ) → sumWithin n x more less ≡ true → (less ≤ x + more) × (x + more ≤ n + less)
+within n x more less e =
+    let p = and-eq-true-iff (leb less (x + more)) (leb (x + more) (n + less)) .0 e in
+    (leb-true less (x + more) (p .0), leb-true (x + more) (n + less) (p .1))

@@ -1,9 +1,9 @@
 -- Directions (01, "A leg": row 0 is north; "Flow byte": the order of a look).
 -- Assumes nothing.
-use mathlib.Core.Bool.{Bool}
+use mathlib.Core.Bool.{Bool, _&&_}
 use mathlib.Core.List.{List, [], _∷_}
 use Prim.Native.Nat.{ℕ, _+_}
-use lib.Dec.{ltb}
+use lib.Dec.{leb, ltb}
 use lib.ListN.{getD}
 use Rattle.utilities.specs.declared.Differences.{Differences}
 use Rattle.utilities.specs.declared.CompassDir.{CompassDir}
@@ -24,6 +24,10 @@ differences Zero = record { east = 0; west = 0; south = 0; north = 0 }
 -- whether it is a direction at all
 abbrev pub points : CompassDir → Bool
 points d = let δ = differences d in ltb 0 (δ .east + δ .west + δ .south + δ .north)
+
+-- the sum x + more - less lies in 0 to n
+abbrev pub sumWithin : ℕ → ℕ → ℕ → ℕ → Bool
+sumWithin n x more less = leb less (x + more) && leb (x + more) (n + less)
 
 -- the four sides, and all eight, in the order of 01's waves and looks
 abbrev pub orthogonal : List CompassDir
