@@ -1,7 +1,7 @@
 -- The cells of an edge, and those of them that a loop has collected so far.
 -- Assumes nothing.
 use mathlib.Core.Path.{_≡_, refl, ap}
-use mathlib.Core.Bool.{Bool, true, false, cond}
+use mathlib.Core.Bool.{Bool, true, false, cond, false≢true}
 use mathlib.Core.List.{List, [], _∷_, _++_, append-nil}
 use Prim.Native.Nat.{ℕ, _+_, _*_, _/_, _%_, _<_, _≤_}
 use native.Mathlib.Nat.{mul-le-mul-left}
@@ -10,6 +10,7 @@ use native.Mathlib.Omega.{arith}
 use lib.Dec.{ltb, eqb}
 use lib.ListN.{length, getD, take, set, length-append}
 use lib.Seq.{take-suc, take-all}
+use borrow.Author.Tests.{eqb-true}
 use Rattle.utilities.specs.declared.CompassDir.{CompassDir}
 use Rattle.utilities.specs.declared.CompassDir.the-variants.{North, East, South, West, NorthEast, SouthEast, SouthWest, NorthWest, Zero}
 use Rattle.utilities.specs.Compass.{differences, numberOf}
@@ -74,6 +75,20 @@ on-edge SouthEast i = refl
 on-edge SouthWest i = refl
 on-edge NorthWest i = refl
 on-edge Zero i = refl
+
+-- what holds of each of the four sides holds of one on whose edge a cell lies
+pub by-edge : (Q : CompassDir → Type 0) (side : CompassDir) (i : ℕ) → onEdge side i ≡ true
+    → (i / 10 ≡ 0 → Q North) → (i % 10 ≡ 9 → Q East) → (i / 10 ≡ 9 → Q South) → (i % 10 ≡ 0 → Q West) → Q side
+unfolding onEdge
+by-edge Q North i p n e s w = n (eqb-true (i / 10) 0 p)
+by-edge Q East i p n e s w = e (eqb-true (i % 10) 9 p)
+by-edge Q South i p n e s w = s (eqb-true (i / 10) 9 p)
+by-edge Q West i p n e s w = w (eqb-true (i % 10) 0 p)
+by-edge Q NorthEast i p n e s w = absurd (false≢true p)
+by-edge Q SouthEast i p n e s w = absurd (false≢true p)
+by-edge Q SouthWest i p n e s w = absurd (false≢true p)
+by-edge Q NorthWest i p n e s w = absurd (false≢true p)
+by-edge Q Zero i p n e s w = absurd (false≢true p)
 
 module _ (p : ℕ → Bool) where
   pub select-append : (a b : List ℕ) → select p (a ++ b) ≡ select p a ++ select p b

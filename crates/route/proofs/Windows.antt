@@ -15,12 +15,12 @@ use lib.Dec.{leb, eqb}
 use lib.ListN.{length, getD}
 use borrow.Author.Tests.{eqb-true, eq-eqb, le-leb}
 use Rattle.utilities.specs.declared.CompassDir.{CompassDir}
-use Rattle.utilities.specs.declared.CompassDir.the-variants.{North, East, South, West, NorthEast, SouthEast, SouthWest, NorthWest, Zero}
+use Rattle.utilities.specs.declared.CompassDir.the-variants.{North, East, South, West}
 use Rattle.route.specs.Window.{onEdge, edge, between, cellsBetween, select, stride}
 use Rattle.route.specs.Step.{firstOf, lastOf, boundaryOf, windowCells}
 use Rattle.route.proofs.Below.{holds, holds-at}
 use Rattle.route.proofs.Runs.{run, run-length, run-at}
-use Rattle.route.proofs.Cells.{edge-run, stride-within}
+use Rattle.route.proofs.Cells.{edge-run, stride-within, by-edge}
 use Rattle.route.proofs.Accepted.{Window}
 
 same : List ℕ → List ℕ → Bool
@@ -60,27 +60,12 @@ module _ (f l : ℕ) (fi : f < 100) (li : l < 100) (o : f ≤ l) where
 
   pub window-run : (side : CompassDir) → onEdge side f ≡ true → onEdge side l ≡ true → cellsBetween side f l ≡ run ((l - f) / stride side + 1) f (stride side)
   unfolding onEdge pair same
-  window-run North p q =
-      let u = eqb-true (f / 10) 0 p in
-      let v = eqb-true (l / 10) 0 q in
-      from-places North 0 1 f l ((l - f) / 1 + 1) (edge-run North) refl (omega arith) (omega arith) (omega arith) (omega arith) (omega arith) (omega arith)
-  window-run East p q =
-      let u = eqb-true (f % 10) 9 p in
-      let v = eqb-true (l % 10) 9 q in
-      from-places East 9 10 (f / 10) (l / 10) ((l - f) / 10 + 1) (edge-run East) refl (omega arith) (omega arith) (omega arith) (omega arith) (omega arith) (omega arith)
-  window-run South p q =
-      let u = eqb-true (f / 10) 9 p in
-      let v = eqb-true (l / 10) 9 q in
-      from-places South 90 1 (f - 90) (l - 90) ((l - f) / 1 + 1) (edge-run South) refl (omega arith) (omega arith) (omega arith) (omega arith) (omega arith) (omega arith)
-  window-run West p q =
-      let u = eqb-true (f % 10) 0 p in
-      let v = eqb-true (l % 10) 0 q in
-      from-places West 0 10 (f / 10) (l / 10) ((l - f) / 10 + 1) (edge-run West) refl (omega arith) (omega arith) (omega arith) (omega arith) (omega arith) (omega arith)
-  window-run NorthEast p q = absurd (false≢true p)
-  window-run SouthEast p q = absurd (false≢true p)
-  window-run SouthWest p q = absurd (false≢true p)
-  window-run NorthWest p q = absurd (false≢true p)
-  window-run Zero p q = absurd (false≢true p)
+  window-run side p =
+      by-edge (λ s. onEdge s l ≡ true → cellsBetween s f l ≡ run ((l - f) / stride s + 1) f (stride s)) side f p
+      (λ u q. let v = eqb-true (l / 10) 0 q in from-places North 0 1 f l ((l - f) / 1 + 1) (edge-run North) refl (omega arith) (omega arith) (omega arith) (omega arith) (omega arith) (omega arith))
+      (λ u q. let v = eqb-true (l % 10) 9 q in from-places East 9 10 (f / 10) (l / 10) ((l - f) / 10 + 1) (edge-run East) refl (omega arith) (omega arith) (omega arith) (omega arith) (omega arith) (omega arith))
+      (λ u q. let v = eqb-true (l / 10) 9 q in from-places South 90 1 (f - 90) (l - 90) ((l - f) / 1 + 1) (edge-run South) refl (omega arith) (omega arith) (omega arith) (omega arith) (omega arith) (omega arith))
+      (λ u q. let v = eqb-true (l % 10) 0 q in from-places West 0 10 (f / 10) (l / 10) ((l - f) / 10 + 1) (edge-run West) refl (omega arith) (omega arith) (omega arith) (omega arith) (omega arith) (omega arith))
 
 -- a place k of a run along an edge
 record Along (side : CompassDir) (f l k : ℕ) : Type 0 where
@@ -91,56 +76,24 @@ record Along (side : CompassDir) (f l k : ℕ) : Type 0 where
 module _ (f l : ℕ) (fi : f < 100) (li : l < 100) (o : f ≤ l) where
   along : (side : CompassDir) (k : ℕ) → onEdge side f ≡ true → onEdge side l ≡ true → k < (l - f) / stride side + 1 → Along side f l k
   unfolding onEdge
-  along North k p q h =
-      let u = eqb-true (f / 10) 0 p in
-      let v = eqb-true (l / 10) 0 q in
-      record { few = omega arith; on = eq-eqb ((f + k * 1) / 10) 0 (omega arith); to = omega arith }
-  along East k p q h =
-      let u = eqb-true (f % 10) 9 p in
-      let v = eqb-true (l % 10) 9 q in
-      record { few = omega arith; on = eq-eqb ((f + k * 10) % 10) 9 (omega arith); to = omega arith }
-  along South k p q h =
-      let u = eqb-true (f / 10) 9 p in
-      let v = eqb-true (l / 10) 9 q in
-      record { few = omega arith; on = eq-eqb ((f + k * 1) / 10) 9 (omega arith); to = omega arith }
-  along West k p q h =
-      let u = eqb-true (f % 10) 0 p in
-      let v = eqb-true (l % 10) 0 q in
-      record { few = omega arith; on = eq-eqb ((f + k * 10) % 10) 0 (omega arith); to = omega arith }
-  along NorthEast k p q h = absurd (false≢true p)
-  along SouthEast k p q h = absurd (false≢true p)
-  along SouthWest k p q h = absurd (false≢true p)
-  along NorthWest k p q h = absurd (false≢true p)
-  along Zero k p q h = absurd (false≢true p)
+  along side k p =
+      by-edge (λ s. onEdge s l ≡ true → k < (l - f) / stride s + 1 → Along s f l k) side f p
+      (λ u q h. let v = eqb-true (l / 10) 0 q in record { few = omega arith; on = eq-eqb ((f + k * 1) / 10) 0 (omega arith); to = omega arith })
+      (λ u q h. let v = eqb-true (l % 10) 9 q in record { few = omega arith; on = eq-eqb ((f + k * 10) % 10) 9 (omega arith); to = omega arith })
+      (λ u q h. let v = eqb-true (l / 10) 9 q in record { few = omega arith; on = eq-eqb ((f + k * 1) / 10) 9 (omega arith); to = omega arith })
+      (λ u q h. let v = eqb-true (l % 10) 0 q in record { few = omega arith; on = eq-eqb ((f + k * 10) % 10) 0 (omega arith); to = omega arith })
 
   place-of : (side : CompassDir) (i : ℕ) → onEdge side f ≡ true → onEdge side l ≡ true → onEdge side i ≡ true → i < 100 → f ≤ i → i ≤ l
       → ((i - f) / stride side < (l - f) / stride side + 1) × (f + (i - f) / stride side * stride side ≡ i)
   unfolding onEdge
-  place-of North i p q r ii from to =
-      let u = eqb-true (f / 10) 0 p in
-      let v = eqb-true (l / 10) 0 q in
-      let w = eqb-true (i / 10) 0 r in
-      (omega arith, omega arith)
-  place-of East i p q r ii from to =
-      let u = eqb-true (f % 10) 9 p in
-      let v = eqb-true (l % 10) 9 q in
-      let w = eqb-true (i % 10) 9 r in
-      (omega arith, omega arith)
-  place-of South i p q r ii from to =
-      let u = eqb-true (f / 10) 9 p in
-      let v = eqb-true (l / 10) 9 q in
-      let w = eqb-true (i / 10) 9 r in
-      (omega arith, omega arith)
-  place-of West i p q r ii from to =
-      let u = eqb-true (f % 10) 0 p in
-      let v = eqb-true (l % 10) 0 q in
-      let w = eqb-true (i % 10) 0 r in
-      (omega arith, omega arith)
-  place-of NorthEast i p q r ii from to = absurd (false≢true p)
-  place-of SouthEast i p q r ii from to = absurd (false≢true p)
-  place-of SouthWest i p q r ii from to = absurd (false≢true p)
-  place-of NorthWest i p q r ii from to = absurd (false≢true p)
-  place-of Zero i p q r ii from to = absurd (false≢true p)
+  place-of side i p =
+      by-edge
+      (λ s. onEdge s l ≡ true → onEdge s i ≡ true → i < 100 → f ≤ i → i ≤ l
+      → ((i - f) / stride s < (l - f) / stride s + 1) × (f + (i - f) / stride s * stride s ≡ i)) side f p
+      (λ u q r ii from to. let v = eqb-true (l / 10) 0 q in let w = eqb-true (i / 10) 0 r in (omega arith, omega arith))
+      (λ u q r ii from to. let v = eqb-true (l % 10) 9 q in let w = eqb-true (i % 10) 9 r in (omega arith, omega arith))
+      (λ u q r ii from to. let v = eqb-true (l / 10) 9 q in let w = eqb-true (i / 10) 9 r in (omega arith, omega arith))
+      (λ u q r ii from to. let v = eqb-true (l % 10) 0 q in let w = eqb-true (i % 10) 0 r in (omega arith, omega arith))
 
 -- the cell x at place k of a step's window
 pub record At (s : List ℕ) (k x : ℕ) : Type 0 where
