@@ -18,14 +18,18 @@ convert-compass-dir-to-bits-dir-requires-2 c κs = search needs
 
 returns-2 : tie.Need-returns-2
 unfolding windowBits
-returns-2 c = rw (not-false (c .before .before .before .before .args .has-previous) (c .before .before .if1 .left), eq-eqb (c .before .before .before .before .args .window .start) (c .before .before .before .before .args .window .end) (c .before .if2 .taken)) (c .convert-compass-dir-to-bits-dir2 .ensures)
+returns-2 c =
+    let a = c .before .before .before .before .args in
+    rw (not-false (a .has-previous) (c .before .before .if1 .left), eq-eqb (a .window .start) (a .window .end) (c .before .if2 .taken)) (c .convert-compass-dir-to-bits-dir2 .ensures)
 
 optimise-portal-direction-requires : tie.Need-optimise-portal-direction-requires
 optimise-portal-direction-requires c κs = (c .before .before .before .pre .0 (not-false (c .before .before .before .args .has-previous) (c .before .if1 .left)), c .before .before .before .pre .1)
 
 returns-3 : tie.Need-returns-3
 unfolding windowBits
-returns-3 c = rw (not-false (c .before .before .before .before .args .has-previous) (c .before .before .if1 .left), ne-eqb (c .before .before .before .before .args .window .start) (c .before .before .before .before .args .window .end) (c .before .if2 .left)) (c .optimise-portal-direction .ensures)
+returns-3 c =
+    let a = c .before .before .before .before .args in
+    rw (not-false (a .has-previous) (c .before .before .if1 .left), ne-eqb (a .window .start) (a .window .end) (c .before .if2 .left)) (c .optimise-portal-direction .ensures)
 
 pub portal-direction-spec : {M : Type 1} → statement M
 portal-direction-spec =

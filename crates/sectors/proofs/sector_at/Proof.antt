@@ -19,7 +19,9 @@ returns-3 c = rw (le-leb 1 (c .before .before .before .args .column) (omega arit
 
 returns-4 : tie.Need-returns-4
 unfolding placed
-returns-4 c = rw (le-leb 1 (c .before .before .before .before .args .column) (omega arith), le-leb (c .before .before .before .before .args .column) 8 (omega arith), le-leb 1 (c .before .before .before .before .args .row) (omega arith), lt-leb (c .before .before .before .before .args .row) 8 (omega arith))
+returns-4 c =
+    let a = c .before .before .before .before .args in
+    rw (le-leb 1 (a .column) (omega arith), le-leb (a .column) 8 (omega arith), le-leb 1 (a .row) (omega arith), lt-leb (a .row) 8 (omega arith))
 
 mul-t5 : tie.Need-mul-t5
 mul-t5 c = search needs
@@ -29,7 +31,9 @@ add-t7 c = search needs
 
 returns-5 : tie.Need-returns-5
 unfolding placed
-returns-5 c = rw (le-leb 1 (c .before .before .before .before .args .column) (omega arith), le-leb (c .before .before .before .before .args .column) 8 (omega arith), le-leb 1 (c .before .before .before .before .args .row) (omega arith), le-leb (c .before .before .before .before .args .row) 8 (omega arith))
+returns-5 c =
+    let a = c .before .before .before .before .args in
+    rw (le-leb 1 (a .column) (omega arith), le-leb (a .column) 8 (omega arith), le-leb 1 (a .row) (omega arith), le-leb (a .row) 8 (omega arith))
 
 pub sector-at-spec : {M : Type 1} → statement M
 sector-at-spec = tie.close (tie.spec returns returns-2 returns-3 returns-4 mul-t5 add-t7 returns-5)
