@@ -1,4 +1,9 @@
 -- The cells of an edge, and those of them that a loop has collected so far.
+--     edge-run                  a side's edge is a run of ten cells; edge-length, edge-at and edge-at-most follow
+--     stride-within             a stride is 1 to 10
+--     by-edge                   what holds of each of the four sides holds of one on whose edge a cell lies
+--     taken, passed             the loop goes on to the next cell
+--     collected-all             and has them all in the end
 -- Assumes nothing.
 use mathlib.Core.Path.{_≡_, refl, ap}
 use mathlib.Core.Bool.{Bool, true, false, cond, false≢true}
@@ -20,7 +25,7 @@ use Rattle.utilities.specs.Lists.{consIf}
 use Rattle.route.specs.Window.{select, onEdge, edge, stride, listed}
 use Rattle.route.proofs.Runs.{run, run-length, run-at}
 
--- a side's edge is a run of ten cells; no other direction has an edge
+-- how many cells an edge has, and its first; a direction that is no side has none
 abbrev pub edgeCount : CompassDir → ℕ
 edgeCount side = cond (ltb (numberOf side) 4) 10 0
 
@@ -76,7 +81,6 @@ on-edge SouthWest i = refl
 on-edge NorthWest i = refl
 on-edge Zero i = refl
 
--- what holds of each of the four sides holds of one on whose edge a cell lies
 pub by-edge : (Q : CompassDir → Type 0) (side : CompassDir) (i : ℕ) → onEdge side i ≡ true
     → (i / 10 ≡ 0 → Q North) → (i % 10 ≡ 9 → Q East) → (i / 10 ≡ 9 → Q South) → (i % 10 ≡ 0 → Q West) → Q side
 unfolding onEdge
