@@ -45,15 +45,10 @@ opposite-differences NorthWest = refl
 opposite-differences Zero = refl
 
 pub opposite-points : (d : CompassDir) → points (opposite d) ≡ points d
-opposite-points North = refl
-opposite-points East = refl
-opposite-points South = refl
-opposite-points West = refl
-opposite-points NorthEast = refl
-opposite-points SouthEast = refl
-opposite-points SouthWest = refl
-opposite-points NorthWest = refl
-opposite-points Zero = refl
+opposite-points d =
+    let δ = differences d in
+    let e : δ .west + δ .east + δ .north + δ .south ≡ δ .east + δ .west + δ .south + δ .north = omega arith in
+    rw (opposite-differences d, e)
 
 pub within : (n x more less : ℕ) → sumWithin n x more less ≡ true → (less ≤ x + more) × (x + more ≤ n + less)
 within n x more less e =
