@@ -1,21 +1,22 @@
 -- Laws of the definitions, one turn of a loop at a time.
 --     wave-step, wave-end          the offers of the cells from place i on: those of the cell at i, then those from i + 1 on; none past the last
 --     corners-step, corners-end    the same for the test of the corners
---     changed-same, changed-other  one index more, at which the cells agree or differ
---     changed-few, changed-ready   the changed cells are a wavefront
+--     changed-more, pushed         one index more: a place written, and counted where the cells differ
+--     ready, changed-ready         places that begin with cells, with the changed ones, are a wavefront
 --     corner-more                  a corner more
 -- Assumes nothing.
-use mathlib.Core.Path.{_≡_, refl, sym, ap, _∙_}
+use mathlib.Core.Path.{_≡_, refl, sym, ap, subst, _∙_}
 use mathlib.Core.Bool.{Bool, true, false, not, _&&_}
-use mathlib.Core.List.{List, [], _∷_, _++_, append-nil}
+use mathlib.Core.List.{List, [], _∷_, _++_}
 use Prim.Native.Nat.{ℕ, zero, suc, _+_, _≤_, _<_}
 use native.Mathlib.Nat.{add-zero}
 use native.Mathlib.Numerals.{add-one}
 use native.Mathlib.Omega.{arith}
 use lib.Dec.{eqb}
-use lib.ListN.{length, getD, set, take}
-use lib.Seq.{slice, slice-cons, slice-empty, take-suc, length-take-le}
-use borrow.Author.Tests.{eq-eqb, ne-eqb, lt-ltb, le-ltb}
+use lib.ListN.{length, getD, set, take, drop}
+use lib.Seq.{slice, slice-cons, slice-empty, take-suc, take-append-add, set-split, getD-take, length-take-le}
+use mir.Val.{boolByte}
+use borrow.Author.Tests.{lt-ltb, le-ltb}
 use Rattle.utilities.specs.Lists.{consIf}
 use Rattle.utilities.specs.Compass.{orthogonal}
 use Rattle.fields.specs.Cell.{cellAt}
@@ -23,7 +24,7 @@ use Rattle.integration_field.specs.Word.{low}
 use Rattle.integration_field.specs.Listed.{padded}
 use Rattle.integration_field.specs.Wave.{offeredAround, offeredBy, changedFrom}
 use Rattle.integration_field.specs.Answer.{allCells}
-use Rattle.integration_field.proofs.Lists.{padded-length, padded-push, padded-at}
+use Rattle.integration_field.proofs.Lists.{padded-push}
 use Rattle.integration_build.specs.Wavefront.{Ready}
 
 -- ---- the offers of a wavefront
@@ -95,7 +96,7 @@ module _ (before after : List ℕ) where
   changedTo i = changedFrom 0 (take i before) (take i after)
 
   module _ (i : ℕ) (h : i < length before) (k : i < length after) where
-    changed-more : changedTo (i + 1) ≡ changedTo i ++ consIf (not (eqb (getD before i 0) (getD after i 0))) i []
+    pub changed-more : changedTo (i + 1) ≡ changedTo i ++ consIf (not (eqb (getD before i 0) (getD after i 0))) i []
     changed-more =
         let n : length (take i before) ≡ i = length-take-le i before (omega arith) in
         let m : length (take i after) ≡ i = length-take-le i after (omega arith) in
@@ -106,24 +107,22 @@ module _ (before after : List ℕ) where
         ∙ changed-snoc 0 (take i before) (take i after) (getD before i 0) (getD after i 0) (n ∙ sym m)
         ∙ ap (λ (j : ℕ). changedTo i ++ consIf (not (eqb (getD before i 0) (getD after i 0))) j []) q
 
-    pub changed-same : getD before i 0 ≡ getD after i 0 → changedTo (i + 1) ≡ changedTo i
-    changed-same e =
-        changed-more
-        ∙ ap (λ (b : Bool). changedTo i ++ consIf (not b) i []) (eq-eqb _ _ e)
-        ∙ append-nil (changedTo i)
+pub bit-few : (b : Bool) → boolByte b ≤ 1
+bit-few true = omega arith
+bit-few false = omega arith
 
-    pub changed-other : (getD before i 0 ≡ getD after i 0 → ⊥) → changedTo (i + 1) ≡ changedTo i ++ i ∷ []
-    changed-other e = changed-more ∙ ap (λ (b : Bool). changedTo i ++ consIf (not b) i []) (ne-eqb _ _ e)
-
-cons-few : (b : Bool) (x : ℕ) (l : List ℕ) (n : ℕ) → length l ≤ n → length (consIf b x l) ≤ suc n
-cons-few true x l n h = omega arith
-cons-few false x l n h = omega arith
-
-pub changed-few : (k : ℕ) (olds news : List ℕ) → length (changedFrom k olds news) ≤ length olds
-unfolding changedFrom
-changed-few k [] news = omega arith
-changed-few k (a ∷ olds) [] = omega arith
-changed-few k (a ∷ olds) (b ∷ news) = cons-few (not (eqb a b)) k (changedFrom (suc k) olds news) (length olds) (changed-few (suc k) olds news)
+-- a place written behind the first n, and counted where a test holds
+pub pushed : (b : Bool) (l : List ℕ) (n x : ℕ) → n < length l → take (n + boolByte b) (set l n x) ≡ take n l ++ consIf b x []
+pushed b l n x h =
+    let e : length (take n l) ≡ n = length-take-le n l (omega arith) in
+    ap (take (n + boolByte b)) (set-split l n x h)
+    ∙ ap (λ (k : ℕ). take (k + boolByte b) (take n l ++ x ∷ drop (suc n) l)) (sym e)
+    ∙ take-append-add (take n l) (x ∷ drop (suc n) l) (boolByte b)
+    ∙ ap (λ (r : List ℕ). take n l ++ r) (go b)
+  where
+    go : (b : Bool) → take (boolByte b) (x ∷ drop (suc n) l) ≡ consIf b x []
+    go true = refl
+    go false = refl
 
 -- every element is below n
 abbrev AllBelow : ℕ → List ℕ → Type 0
@@ -141,9 +140,15 @@ changed-below k n (a ∷ olds) [] h i l = absurd (omega arith)
 changed-below k n (a ∷ olds) (b ∷ news) h i l =
     cons-below (not (eqb a b)) k n (changedFrom (suc k) olds news) (omega arith) (λ j m. changed-below (suc k) n olds news (omega arith) j m) i l
 
--- a list of at most 100 indexes of cells is a wavefront
-pub front-ready : (l : List ℕ) → length l ≤ 100 → AllBelow 100 l → Ready (length l) (padded l)
-front-ready l h a = record { long = padded-length l h; count-in = h; cells-in = λ i k. rw (padded-at l i k) (a i k) }
+-- places that begin with indexes of cells are a wavefront
+pub ready : (places : List ℕ) (count : ℕ) → length places ≡ 100 → count ≤ 100 → AllBelow 100 (take count places) → Ready count places
+ready places count long few a = record {
+  long = long;
+  count-in = few;
+  cells-in = λ i k.
+      subst (λ (n : ℕ). n < 100) (getD-take count places i 0 k) (a i (omega (arith, length-take-le count places (omega arith))));
+}
 
-pub changed-ready : (before after : List ℕ) → length before ≡ 100 → Ready (length (changedFrom 0 before after)) (padded (changedFrom 0 before after))
-changed-ready before after e = front-ready (changedFrom 0 before after) (omega (arith, changed-few 0 before after)) (changed-below 0 100 before after (omega arith))
+pub changed-ready : (before after places : List ℕ) (count : ℕ) → length before ≡ 100 → length places ≡ 100 → count ≤ 100 → take count places ≡ changedFrom 0 before after
+    → Ready count places
+changed-ready before after places count e long few l = ready places count long few (subst (AllBelow 100) (sym l) (changed-below 0 100 before after (omega arith)))

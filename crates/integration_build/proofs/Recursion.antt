@@ -4,117 +4,104 @@
 --     settles-more     a wave that changes a cell, and then the waves from those cells
 --     built-is         any number of waves from 99 on gives the definition's answer
 -- Assumes nothing.
-use mathlib.Core.Path.{_≡_, refl, sym, ap, subst, _∙_}
-use mathlib.Core.Bool.{true, false}
+use mathlib.Core.Path.{_≡_, refl, sym, ap, ap₂, _∙_}
+use mathlib.Core.Bool.{Bool, true, false, not}
 use mathlib.Core.List.{List, [], _∷_}
-use Prim.Native.Nat.{ℕ, suc, _+_, _≤_}
+use Prim.Native.Nat.{ℕ, zero, suc, _+_, _-_, _≤_}
 use native.Mathlib.Numerals.{add-one}
 use native.Mathlib.Omega.{arith}
+use lib.Dec.{eqb}
 use lib.ListN.{length, take}
+use lib.Seq.{length-take-le}
+use borrow.Author.Tests.{eqb-true}
+use Rattle.utilities.specs.Lists.{consIf}
 use Rattle.integration_field.specs.declared.IntegrationField.{IntegrationField}
 use Rattle.integration_field.specs.Listed.{padded, listOf, withCorners}
-use Rattle.integration_field.specs.Wave.{offeredBy, changedFrom, Wave, next}
-use Rattle.integration_field.specs.Rest.{Rests}
-use Rattle.integration_field.specs.Build.{isEmpty, settle}
+use Rattle.integration_field.specs.Wave.{offeredBy, changedFrom, next}
+use Rattle.integration_field.specs.Build.{Built, isEmpty}
 use Rattle.integration_field.specs.Answer.{answerOf, Accepted}
-use Rattle.integration_field.proofs.Lists.{padded-list, corners-length}
+use Rattle.integration_field.proofs.Lists.{padded-length, padded-list, corners-length}
 use Rattle.integration_field.proofs.Offers.{offers-made}
-use Rattle.integration_field.proofs.Settled.{settle-none, settle-stop, settle-more, settle-build}
+use Rattle.integration_field.proofs.Settled.{settle-none, settle-more, settle-any, settle-build}
 use Rattle.integration_field.proofs.Least.{rests-within}
 use Rattle.integration_field.proofs.Answers.{all-cells, all-below}
-use Rattle.integration_build.proofs.Loops.{front-ready}
-use Rattle.integration_build.specs.declared.Wavefront.{Wavefront}
-use Rattle.integration_build.specs.declared.Propagated.{Propagated}
-use Rattle.integration_build.specs.Wavefront.{Ready, frontOf, waveOf, withCells, propagated, Settles}
+use Rattle.integration_build.proofs.Loops.{ready}
+use Rattle.integration_build.specs.Wavefront.{Ready, Settles}
 
-none-empty : (l : List ℕ) → length l ≡ 0 → isEmpty l ≡ true
-unfolding isEmpty
-none-empty [] e = refl
-none-empty (x ∷ l) e = absurd (omega arith)
+-- where no cell changed, the cells are as before
+unchanged : (i : ℕ) (olds news : List ℕ) → length news ≡ length olds → changedFrom i olds news ≡ [] → news ≡ olds
+unfolding changedFrom
+unchanged i [] [] n e = refl
+unchanged i [] (b ∷ news) n e = absurd (omega arith)
+unchanged i (a ∷ olds) [] n e = absurd (omega arith)
+unchanged i (a ∷ olds) (b ∷ news) n e = go (eqb a b) refl e (λ q. unchanged (suc i) olds news (omega arith) q)
+  where
+    go : (t : Bool) → eqb a b ≡ t → consIf (not t) i (changedFrom (suc i) olds news) ≡ [] → (changedFrom (suc i) olds news ≡ [] → news ≡ olds) → b ∷ news ≡ a ∷ olds
+    go true t e ih = ap₂ (λ (x : ℕ) (l : List ℕ). x ∷ l) (sym (eqb-true a b t)) (ih e)
+    go false t e ih = absurd (omega (arith, ap length e))
 
 some-full : (l : List ℕ) → (length l ≡ 0 → ⊥) → isEmpty l ≡ false
 unfolding isEmpty
 some-full [] e = absurd (e refl)
 some-full (x ∷ l) e = refl
 
-module _ (costs : List ℕ) where
-  -- equal waves settle alike
-  settle-same : (n : ℕ) (u v : Wave) → u ≡ v → (h : Rests costs n v) → (k : Rests costs n u) × (settle costs n u k ≡ settle costs n v h)
-  settle-same n u v e h = rw e (h, refl)
+module _ (costs cells wave : List ℕ) where
+  pub settles-none : Settles costs cells wave 0 cells 0
+  settles-none = record { within = omega arith; settled = λ h. sym (settle-none costs _ h) }
 
-  module _ (f : IntegrationField) (w : Wavefront) where
-    pub settles-none : Settles costs f w 0 (record { field = f; waves = 0 })
-    settles-none = record { within = omega arith; settled = λ h. sym (ap (propagated f) (settle-none costs (waveOf f w) h)) }
+  pub new-length : {new : List ℕ} → new ≡ offeredBy costs cells wave cells → length new ≡ length cells
+  new-length made = ap length made ∙ offers-made costs cells wave cells .size
 
-    -- the cells after the wave
-    abbrev pub new : List ℕ
-    new = offeredBy costs (f .field) (take (w .count) (w .cells)) (f .field)
-
-    pub new-length : length new ≡ length (f .field)
-    new-length = offers-made costs (f .field) (take (w .count) (w .cells)) (f .field) .size
-
-    next-is : next costs (waveOf f w) ≡ record { cells = new; changed = changedFrom 0 (f .field) new }
+  -- a wave made: the cells that it left, and in the first places those that it changed
+  module _ (new places : List ℕ) (some : ℕ) (made : new ≡ offeredBy costs cells wave cells) (found : Ready some places × (take some places ≡ changedFrom 0 cells new)) where
+    pub settles-still : (fuel : ℕ) → some ≡ 0 → Settles costs cells wave fuel new 0
     unfolding next
-    next-is = refl
+    settles-still fuel e =
+        let none : changedFrom 0 cells new ≡ [] = sym (found .1) ∙ ap (λ (n : ℕ). take n places) e in
+        let q : next costs (record { cells = cells; changed = wave }) .changed ≡ [] = ap (changedFrom 0 cells) (sym made) ∙ none in
+        record {
+          within = omega arith;
+          settled = λ h. ap (λ (x : List ℕ). record { cells = x; waves = 0 }) (unchanged 0 cells new (new-length made) none) ∙ sym (settle-any costs fuel 0 _ h q ∙ settle-none costs _ q);
+        }
 
-    pub settles-still : (n : ℕ) → length (changedFrom 0 (f .field) new) ≡ 0 → Settles costs f w (suc n) (record { field = f; waves = 0 })
-    settles-still n e = record {
-      within = omega arith;
-      settled = λ h. sym (ap (propagated f) (settle-stop costs n (waveOf f w) h (ap (λ (u : Wave). isEmpty (u .changed)) next-is ∙ none-empty (changedFrom 0 (f .field) new) e)));
-    }
+    pub settles-more : (fuel : ℕ) (left : List ℕ) (waves : ℕ) → (fuel ≡ 0 → ⊥) → (some ≡ 0 → ⊥)
+        → Settles costs new (take some places) (fuel - 1) left waves
+        → Settles costs cells wave fuel left (waves + 1)
+    unfolding next
+    settles-more zero left waves f e s = absurd (f refl)
+    settles-more (suc n) left waves f e s =
+        let less : suc n - 1 ≡ n = omega arith in
+        let after = offeredBy costs cells wave cells in
+        let t : Settles costs after (changedFrom 0 cells after) n left waves = rw (less, found .1, made) at s in
+        let many : length (changedFrom 0 cells after) ≡ some =
+        ap (λ (x : List ℕ). length (changedFrom 0 cells x)) (sym made) ∙ ap length (sym (found .1)) ∙ length-take-le some places (omega (arith, found .0 .count-in, found .0 .long)) in
+        record {
+          within = omega (arith, t .within);
+          settled = λ h.
+              ap (λ (k : ℕ). record { cells = left; waves = k }) (add-one waves)
+              ∙ ap (λ (b : Built). record { cells = b .cells; waves = suc (b .waves) }) (t .settled h)
+              ∙ sym (settle-more costs n _ h (some-full (changedFrom 0 cells after) (λ z. e (sym many ∙ z))));
+        }
 
-    front-is : waveOf (withCells f new) (frontOf (changedFrom 0 (f .field) new)) ≡ next costs (waveOf f w)
-    front-is = ap (λ (l : List ℕ). record { cells = new; changed = l }) (padded-list (changedFrom 0 (f .field) new)) ∙ sym next-is
+-- wave 0 of an accepted field: the listed corners, and 0 in the places beyond them
+module _ (costs : List ℕ) (f : IntegrationField) (long : length (f .«los_corners») ≡ 100) (a : Accepted costs f) (places : List ℕ) (e : places ≡ padded (listOf f)) where
+  many : length (listOf f) ≡ f .count
+  many = corners-length f long (a .count-in)
 
-    pub settles-more : (n : ℕ) (r : Propagated) → (length (changedFrom 0 (f .field) new) ≡ 0 → ⊥)
-        → Settles costs (withCells f new) (frontOf (changedFrom 0 (f .field) new)) n r
-        → Settles costs f w (suc n) (record { field = r .field; waves = r .waves + 1 })
-    settles-more n r e s = record {
-      within = omega (arith, s .within);
-      settled = λ h. go h (settle-same n (waveOf (withCells f new) (frontOf (changedFrom 0 (f .field) new))) (next costs (waveOf f w)) front-is h);
-    }
-      where
-        full : isEmpty (next costs (waveOf f w) .changed) ≡ false
-        full = ap (λ (u : Wave). isEmpty (u .changed)) next-is ∙ some-full (changedFrom 0 (f .field) new) e
+  listed : take (f .count) places ≡ listOf f
+  listed = ap₂ take (sym many) e ∙ padded-list (listOf f)
 
-        front : Wave
-        front = waveOf (withCells f new) (frontOf (changedFrom 0 (f .field) new))
+  pub corners-ready : Ready (f .count) places
+  corners-ready =
+      ready places (f .count) (ap length e ∙ padded-length (listOf f) (omega (arith, many, a .count-in))) (a .count-in)
+      (rw listed (all-below (listOf f) (a .corners-in)))
 
-        go : (h : Rests costs (suc n) (waveOf f w)) → (k : Rests costs n front) × (settle costs n front k ≡ settle costs n (next costs (waveOf f w)) h)
-            → record { field = r .field; waves = r .waves + 1 } ≡ propagated f (settle costs (suc n) (waveOf f w) h)
-        go h p =
-            ap (λ (q : Propagated). record { field = q .field; waves = q .waves + 1 }) (s .settled (p .0) ∙ ap (propagated f) (p .1))
-            ∙ ap (λ (k : ℕ). record { field = withCells f (settle costs n (next costs (waveOf f w)) h .cells); waves = k }) (add-one (settle costs n (next costs (waveOf f w)) h .waves))
-            ∙ sym (ap (propagated f) (settle-more costs n (waveOf f w) h full))
-
--- the listed corners are a wavefront
-pub corners-ready : (costs : List ℕ) (f : IntegrationField) → length (f .«los_corners») ≡ 100 → Accepted costs f → Ready (length (listOf f)) (padded (listOf f))
-corners-ready costs f long a = front-ready (listOf f) (omega (arith, corners-length f long (a .count-in), a .count-in)) (all-below (listOf f) (a .corners-in))
-
--- any number of waves from 99 on is enough for the listed corners
-pub built-is : (costs : List ℕ) (f : IntegrationField) {m : ℕ} (r : Propagated) → length (f .field) ≡ 100 → length (f .«los_corners») ≡ 100 → Accepted costs f
-    → Settles costs (record { field = f .field; «los_corners» = padded (listOf f); count = f .count }) (frontOf (listOf f)) m r
-    → 99 ≤ m
-    → record { number = 0; field = r .field; waves = r .waves } ≡ answerOf 0 costs f
-built-is costs f {m} r full long a s h = go (settle-same costs m (waveOf g (frontOf l)) u (ap (λ (x : List ℕ). record { cells = f .field; changed = x }) (padded-list l)) enough)
-  where
-    l : List ℕ
-    l = listOf f
-
-    g : IntegrationField
-    g = withCorners (f .field) l
-
-    u : Wave
-    u = record { cells = f .field; changed = l }
-
-    enough : Rests costs m u
-    enough = rests-within costs (f .field) l full (all-cells l (a .corners-in)) m h
-
-    t : Settles costs g (frontOf l) m r
-    t = subst (λ (n : ℕ). Settles costs (record { field = f .field; «los_corners» = padded l; count = n }) (frontOf l) m r) (sym (corners-length f long (a .count-in))) s
-
-    go : (k : Rests costs m (waveOf g (frontOf l))) × (settle costs m (waveOf g (frontOf l)) k ≡ settle costs m u enough)
-        → record { number = 0; field = r .field; waves = r .waves } ≡ answerOf 0 costs f
-    go p =
-        ap (λ (q : Propagated). record { number = 0; field = q .field; waves = q .waves })
-        (t .settled (p .0) ∙ ap (propagated g) (p .1 ∙ settle-build costs (f .field) l m enough))
+  -- any number of waves from 99 on is enough
+  pub built-is : length (f .field) ≡ 100 → {m : ℕ} {left : List ℕ} {waves : ℕ} → Settles costs (f .field) (take (f .count) places) m left waves → 99 ≤ m
+      → record { number = 0; field = record { field = left; «los_corners» = places; count = f .count }; waves = waves } ≡ answerOf 0 costs f
+  built-is full {m} {left} {waves} s h =
+      let enough = rests-within costs (f .field) (listOf f) full (all-cells (listOf f) (a .corners-in)) m h in
+      let t : Settles costs (f .field) (listOf f) m left waves = rw listed at s in
+      ap₂ (λ (l : List ℕ) (n : ℕ). record { number = 0; field = record { field = left; «los_corners» = l; count = n }; waves = waves }) e (sym many)
+      ∙ ap (λ (b : Built). record { number = 0; field = withCorners (b .cells) (listOf f); waves = b .waves })
+      (t .settled enough ∙ settle-build costs (f .field) (listOf f) m enough)

@@ -5,28 +5,16 @@ use integration_field::BuildAnswer;
 use integration_field::IntegrationField;
 use utilities::CompassDir;
 ghost use mathlib.Core.Path.{_≡_};
-ghost use Prim.Native.Nat.{ℕ, _<_, _≤_};
+ghost use Prim.Native.Nat.{_<_, _≤_};
 ghost use lib.ListN.{length, take};
 ghost use Rattle.utilities.specs.Compass.{orthogonal};
 ghost use Rattle.fields.specs.Cell.{cellAt, stepped};
-ghost use Rattle.integration_field.specs.Listed.{listOf};
+ghost use Rattle.integration_field.specs.Listed.{listOf, padded};
 ghost use Rattle.integration_field.specs.Wave.{isWritten, relaxed, offered, offeredAround, offeredBy, changedFrom};
 ghost use Rattle.integration_field.specs.Answer.{answerOf, allCells, Accepted, buildAnswer};
 ghost use Rattle.integration_field.specs.Promise.{LeastWalks, Counted};
 ghost use Rattle.least_walks.specs.Promise.{BuildsStarted};
-ghost use Rattle.integration_build.specs.Wavefront.{Ready, frontOf, Settles};
-
-// Indexes of cells: `count` of them, in the first places of `cells`, and 0 in the others.
-pub struct Wavefront {
-    pub cells: [usize; 100],
-    pub count: usize,
-}
-
-// A field after the waves from a wavefront on, and how many of them changed a cell.
-pub struct Propagated {
-    pub field: IntegrationField,
-    pub waves: usize,
-}
+ghost use Rattle.integration_build.specs.Wavefront.{Ready, Settles};
 
 // A cost byte as a number of a cell's width.
 fn wide(cost: u8) -> u32
@@ -105,59 +93,45 @@ fn offer_wave(
     }
 }
 
-// The cells that a wave changed, each once, in the order of their indexes.
-fn changed(before: &[u32; 100], after: &[u32; 100]) -> Wavefront
-    requires { ⌜ (length (now before) ≡ 100) × (length (now after) ≡ 100) ⌝ }
-    ensures { λ r. ⌜ r ≡ frontOf (changedFrom 0 (now (before .entry)) (now (after .entry))) ⌝ }
+// The cells that a wave changed, each once, in the order of their indexes. Answers how many.
+fn changed(before: &[u32; 100], after: &[u32; 100], next: &mut [usize; 100]) -> usize
+    requires { ⌜ (length (now before) ≡ 100) × ((length (now after) ≡ 100) × (length (now next) ≡ 100)) ⌝ }
+    ensures { λ r. ⌜ (Ready r (now (next .exit))) × (take r (now (next .exit)) ≡ changedFrom 0 (now (before .entry)) (now (after .entry))) ⌝ }
 {
-    let mut cells = [0; 100];
     let mut count = 0;
     let mut i = 0;
     while i < 100 {
-        if before[i] != after[i] {
-            cells[count] = i;
-            count += 1;
-        }
+        // written before it is known to count: no branch depends on a cell
+        next[count] = i;
+        count += (before[i] != after[i]) as usize;
         i += 1;
     }
-    Wavefront { cells, count }
+    count
 }
 
-// The waves from a wavefront on, one a call, at most `fuel` of them.
+// The waves from a wavefront on, one a call, at most `fuel` of them. Answers how many changed a cell.
 fn propagate_integrated_wavefront(
     costs: &[u8],
-    field: IntegrationField,
-    wavefront: Wavefront,
+    cells: &mut [u32; 100],
+    wavefront: &[usize; 100],
+    count: usize,
     fuel: usize,
-) -> Propagated
-    requires { ⌜ (Ready (wavefront .count) (wavefront .cells)) × (length (now costs) ≡ 100) ⌝ }
-    ensures { λ r. ⌜ Settles (now (costs .entry)) field wavefront fuel r ⌝ }
+) -> usize
+    requires { ⌜ (Ready count (now wavefront)) × ((length (now cells) ≡ 100) × (length (now costs) ≡ 100)) ⌝ }
+    ensures { λ r. ⌜ Settles (now (costs .entry)) (now (cells .entry)) (take count (now (wavefront .entry))) fuel (now (cells .exit)) r ⌝ }
 {
     if fuel == 0 {
-        return Propagated { field, waves: 0 };
+        return 0;
     }
-    let before = field.field;
-    let mut cells = field.field;
-    let count = wavefront.count;
-    offer_wave(&mut cells, costs, &before, &wavefront.cells, count);
-    let next = changed(&before, &cells);
-    let some = next.count;
+    let before = *cells;
+    offer_wave(cells, costs, &before, wavefront, count);
+    let mut next = [0; 100];
+    let some = changed(&before, cells, &mut next);
     if some == 0 {
-        return Propagated { field, waves: 0 };
+        return 0;
     }
-    let los_corners = field.los_corners;
-    let listed = field.count;
-    let left = IntegrationField {
-        field: cells,
-        los_corners,
-        count: listed,
-    };
-    let rest = propagate_integrated_wavefront(costs, left, next, fuel - 1);
-    let last = rest.field;
-    Propagated {
-        field: last,
-        waves: rest.waves + 1,
-    }
+    let rest = propagate_integrated_wavefront(costs, cells, &next, some, fuel - 1);
+    rest + 1
 }
 
 // Whether each listed corner is the index of a cell.
@@ -176,9 +150,9 @@ fn corners_inside(corners: &[usize; 100], count: usize) -> bool
 }
 
 // Wave 0: the listed corners, and 0 in the places beyond them.
-fn corner_wave(corners: &[usize; 100], count: usize) -> Wavefront
+fn corner_wave(corners: &[usize; 100], count: usize) -> [usize; 100]
     requires { ⌜ (count ≤ 100) × (length (now corners) ≡ 100) ⌝ }
-    ensures { λ r. ⌜ r ≡ frontOf (take count (now (corners .entry))) ⌝ }
+    ensures { λ r. ⌜ r ≡ padded (take count (now (corners .entry))) ⌝ }
 {
     let mut cells = [0; 100];
     let mut i = 0;
@@ -186,7 +160,7 @@ fn corner_wave(corners: &[usize; 100], count: usize) -> Wavefront
         cells[i] = corners[i];
         i += 1;
     }
-    Wavefront { cells, count }
+    cells
 }
 
 // A field whose corners are cells, built: no number of waves from 99 on gives another answer than 100.
@@ -195,20 +169,18 @@ fn built(costs: &[u8], field: IntegrationField) -> BuildAnswer
     ensures { λ r. ⌜ r ≡ answerOf 0 (now (costs .entry)) field ⌝ }
 {
     let count = field.count;
-    let wave = corner_wave(&field.los_corners, count);
-    let cells = field.field;
-    let los_corners = wave.cells;
-    let listed = IntegrationField {
+    let los_corners = corner_wave(&field.los_corners, count);
+    let mut cells = field.field;
+    let waves = propagate_integrated_wavefront(costs, &mut cells, &los_corners, count, 100);
+    let left = IntegrationField {
         field: cells,
         los_corners,
         count,
     };
-    let last = propagate_integrated_wavefront(costs, listed, wave, 100);
-    let left = last.field;
     BuildAnswer {
         number: 0,
         field: left,
-        waves: last.waves,
+        waves,
     }
 }
 

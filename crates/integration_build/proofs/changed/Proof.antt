@@ -1,59 +1,57 @@
--- `integration_build::changed` meets its contract. The loop's invariant: the places hold the changed cells below i.
+-- `integration_build::changed` meets its contract. The loop's invariant: the places before the count hold the changed cells below i.
 -- Assumes nothing.
-use mathlib.Core.Path.{_≡_, refl, sym, ap, _∙_}
-use mathlib.Core.Logic.{⊎-elim}
-use mathlib.Core.List.{List, [], _∷_, _++_}
+use mathlib.Core.Path.{_≡_, refl, sym, ap, ap₂, _∙_}
+use mathlib.Core.Bool.{not}
+use mathlib.Core.List.{List, [], _++_}
 use Prim.Native.Nat.{ℕ, _+_, _-_, _<_, _≤_}
 use native.Mathlib.Omega.{arith}
-use lib.ListN.{take, length, set, length-append}
-use lib.Seq.{length-take-le, take-all}
+use lib.Dec.{eqb}
+use lib.ListN.{take, length, getD, length-set}
+use lib.Seq.{take-all}
 use borrow.Author.Needs.{needs}
-use Rattle.integration_field.specs.Listed.{padded}
+use Rattle.utilities.specs.Lists.{consIf}
 use Rattle.integration_field.specs.Wave.{changedFrom}
-use Rattle.integration_field.proofs.Lists.{padded-push}
-use Rattle.integration_build.proofs.Loops.{changedTo, changed-same, changed-other, changed-few}
+use Rattle.integration_build.proofs.Loops.{changedTo, changed-more, changed-ready, bit-few, pushed}
 use Rattle.integration_build.proofs.changed.Statement.{statement}
 use Rattle.integration_build.proofs.changed.Tie as tie
 
 abbrev Inv-loop : tie.InvT-loop
-Inv-loop before after cells₀ count₀ i₀ cells count i =
-    (i ≤ 100) × (cells ≡ padded (changedTo before after i)) × (count ≡ length (changedTo before after i))
+Inv-loop before after next₀ count₀ i₀ next count i =
+    (i ≤ 100) × (count ≤ i) × (length next ≡ 100) × (take count next ≡ changedTo before after i)
 
 abbrev μ-loop : tie.MeasureT-loop
-μ-loop before after cells₀ count₀ i₀ cells count i = 100 - i
+μ-loop before after next₀ count₀ i₀ next count i = 100 - i
 
 loop-holds : tie.Need-loop-holds Inv-loop μ-loop
 unfolding changedFrom
-loop-holds c = (search needs, refl, refl)
+loop-holds c = (search needs, search needs, c .pre .1 .1, refl)
 
-mul-if1 : tie.Need-mul-if1 Inv-loop μ-loop
-mul-if1 c = search needs
+mul-next : tie.Need-mul-next Inv-loop μ-loop
+mul-next c = search needs
 
-element-copy-out-if1 : tie.Need-element-copy-out-if1 Inv-loop μ-loop
-element-copy-out-if1 c = search needs
+element-write-next : tie.Need-element-write-next Inv-loop μ-loop
+element-write-next c = search needs
 
-mul-if1-2 : tie.Need-mul-if1-2 Inv-loop μ-loop
-mul-if1-2 c = search needs
+mul-count : tie.Need-mul-count Inv-loop μ-loop
+mul-count c = search needs
 
-element-copy-out-if1-2 : tie.Need-element-copy-out-if1-2 Inv-loop μ-loop
-element-copy-out-if1-2 c = search needs
+element-copy-out-count : tie.Need-element-copy-out-count Inv-loop μ-loop
+element-copy-out-count c = search needs
 
-room : (c : tie.Then1 Inv-loop μ-loop) → c .before .before .before .before .loop .count < 100
-room c =
-    let a = c .before .before .before .before .before .args in
-    let l = c .before .before .before .before .loop in
-    let long : length (a .before .now) ≡ 100 = c .before .before .before .before .before .pre .0 in
-    let n : length (take (l .i) (a .before .now)) ≡ l .i = length-take-le (l .i) (a .before .now) (omega (arith, l .inv .0)) in
-    omega (arith, l .inv .2, changed-few 0 (take (l .i) (a .before .now)) (take (l .i) (a .after .now)), c .before .before .before .loop-test .taken)
+mul-count-2 : tie.Need-mul-count-2 Inv-loop μ-loop
+mul-count-2 c = search needs
 
-mul-cells : tie.Need-mul-cells Inv-loop μ-loop
-mul-cells c = let h = room c in omega arith
+element-copy-out-count-2 : tie.Need-element-copy-out-count-2 Inv-loop μ-loop
+element-copy-out-count-2 c = search needs
 
-array-write-cells : tie.Need-array-write-cells Inv-loop μ-loop
-array-write-cells c = room c
+cast-count : tie.Need-cast-count Inv-loop μ-loop
+cast-count c = search needs
 
 add-count : tie.Need-add-count Inv-loop μ-loop
-add-count c = let h = room c in omega arith
+add-count c =
+    let l = c .before .before .before .loop in
+    let a = c .before .before .before .before .args in
+    omega (arith, l .inv .0, l .inv .1, bit-few (not (eqb (getD (a .before .now) (l .i) 0) (getD (a .after .now) (l .i) 0))))
 
 add-i : tie.Need-add-i Inv-loop μ-loop
 add-i c = search needs
@@ -63,42 +61,30 @@ loop-less c = search needs
 
 loop-again : tie.Need-loop-again Inv-loop μ-loop
 loop-again c =
-    let a = c .before .before .before .before .before .args in
-    let l = c .before .before .before .before .loop in
-    let b = a .before .now in
-    let d = a .after .now in
-    let m = changedTo b d (l .i) in
-    let long : length b ≡ 100 = c .before .before .before .before .before .pre .0 in
-    let wide : length d ≡ 100 = c .before .before .before .before .before .pre .1 in
-    let turn : l .i < 100 = c .before .before .before .loop-test .taken in
-    let n : length (take (l .i) b) ≡ l .i = length-take-le (l .i) b (omega arith) in
-    let few : length m < 100 = omega (arith, changed-few 0 (take (l .i) b) (take (l .i) d)) in
-    ⊎-elim
-    (λ w.
-    let e : changedTo b d (l .i + 1) ≡ m ++ l .i ∷ [] = changed-other b d (l .i) (omega arith) (omega arith) (w .0 .taken) in (
+    let s = c .before .before .before .before in
+    let l = c .before .before .before .loop in
+    let b = s .args .before .now in
+    let d = s .args .after .now in
+    let t = not (eqb (getD b (l .i) 0) (getD d (l .i) 0)) in
+    let turn : l .i < 100 = c .before .before .loop-test .taken in (
       search needs,
-      w .1 ∙ ap (λ (x : List ℕ). set x (l .count) (l .i)) (l .inv .1) ∙ ap (λ (k : ℕ). set (padded m) k (l .i)) (l .inv .2)
-          ∙ padded-push m (l .i) few
-          ∙ ap padded (sym e),
-      w .2 ∙ ap (λ (k : ℕ). k + 1) (l .inv .2) ∙ sym (length-append m (l .i ∷ [])) ∙ ap length (sym e),
-    ))
-    (λ w.
-    let e : changedTo b d (l .i + 1) ≡ m = changed-same b d (l .i) (omega arith) (omega arith) (w .0 .left) in
-    (search needs, w .1 ∙ l .inv .1 ∙ ap padded (sym e), w .2 ∙ l .inv .2 ∙ ap length (sym e)))
-    (c .if1 .came)
+      omega (arith, l .inv .1, bit-few t),
+      simp length-set (l .inv .2),
+      pushed t (l .next) (l .count) (l .i) (omega (arith, l .inv .1, l .inv .2))
+          ∙ ap (λ (m : List ℕ). m ++ consIf t (l .i) []) (l .inv .3)
+          ∙ sym (changed-more b d (l .i) (omega (arith, s .pre .0)) (omega (arith, s .pre .1 .0))),
+    )
 
 returns : tie.Need-returns Inv-loop μ-loop
 returns c =
-    let a = c .before .before .args in
+    let s = c .before .before in
     let l = c .before .loop in
-    let e : l .i ≡ 100 = omega arith in
-    let long : length (a .before .now) ≡ 100 = c .before .before .pre .0 in
-    let wide : length (a .after .now) ≡ 100 = c .before .before .pre .1 in
-    let t : changedTo (a .before .now) (a .after .now) (l .i) ≡ changedFrom 0 (a .before .now) (a .after .now) =
-    ap (λ (x : List ℕ). changedFrom 0 x (take (l .i) (a .after .now))) (take-all (l .i) (a .before .now) (omega arith))
-    ∙ ap (λ (x : List ℕ). changedFrom 0 (a .before .now) x) (take-all (l .i) (a .after .now) (omega arith)) in
-    ap (λ (x : List ℕ). record { cells = x; count = l .count }) (l .inv .1 ∙ ap padded t)
-    ∙ ap (λ (k : ℕ). record { cells = padded (changedFrom 0 (a .before .now) (a .after .now)); count = k }) (l .inv .2 ∙ ap length t)
+    let b = s .args .before .now in
+    let d = s .args .after .now in
+    let i-is : l .i ≡ 100 = omega arith in
+    let listed : take (l .count) (l .next) ≡ changedFrom 0 b d =
+    l .inv .3 ∙ ap₂ (changedFrom 0) (take-all (l .i) b (omega (arith, s .pre .0))) (take-all (l .i) d (omega (arith, s .pre .1 .0))) in
+    (changed-ready b d (l .next) (l .count) (s .pre .0) (l .inv .2) (omega arith) listed, listed)
 
 pub changed-spec : {M : Type 1} → statement M
 changed-spec =
@@ -107,12 +93,13 @@ changed-spec =
     Inv-loop
     μ-loop
     loop-holds
-    mul-if1
-    element-copy-out-if1
-    mul-if1-2
-    element-copy-out-if1-2
-    mul-cells
-    array-write-cells
+    mul-next
+    element-write-next
+    mul-count
+    element-copy-out-count
+    mul-count-2
+    element-copy-out-count-2
+    cast-count
     add-count
     add-i
     loop-less

@@ -1,11 +1,10 @@
 -- `integration_build::corner_wave` meets its contract. The loop's invariant: the places hold the first i corners.
 -- Assumes nothing.
-use mathlib.Core.Path.{_≡_, refl, sym, ap, _∙_}
+use mathlib.Core.Path.{_≡_, refl, ap, _∙_}
 use mathlib.Core.List.{List}
 use Prim.Native.Nat.{ℕ, _-_, _<_, _≤_}
 use native.Mathlib.Omega.{arith}
 use lib.ListN.{length, take, set, getD}
-use lib.Seq.{length-take-le}
 use borrow.Author.Needs.{needs}
 use Rattle.integration_field.specs.Listed.{padded}
 use Rattle.integration_build.proofs.Loops.{corner-more}
@@ -55,10 +54,7 @@ returns c =
     let a = c .before .before .args in
     let l = c .before .loop in
     let e : l .i ≡ a .count = omega arith in
-    let long : length (a .corners .now) ≡ 100 = c .before .before .pre .1 in
-    let n : length (take (a .count) (a .corners .now)) ≡ a .count = length-take-le (a .count) (a .corners .now) (omega (arith, c .before .before .pre .0)) in
-    ap (λ (x : List ℕ). record { cells = x; count = a .count }) (l .inv .1 ∙ ap (λ (k : ℕ). padded (take k (a .corners .now))) e)
-    ∙ ap (λ (k : ℕ). record { cells = padded (take (a .count) (a .corners .now)); count = k }) (sym n)
+    l .inv .1 ∙ ap (λ (k : ℕ). padded (take k (a .corners .now))) e
 
 pub corner-wave-spec : {M : Type 1} → statement M
 corner-wave-spec =
