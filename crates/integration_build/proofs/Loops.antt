@@ -6,7 +6,7 @@
 --     corner-more                  a corner more
 -- Assumes nothing.
 use mathlib.Core.Path.{_≡_, refl, sym, ap, subst, _∙_}
-use mathlib.Core.Bool.{Bool, true, false, not, _&&_}
+use mathlib.Core.Bool.{Bool, true, false, not}
 use mathlib.Core.List.{List, [], _∷_, _++_}
 use Prim.Native.Nat.{ℕ, zero, suc, _+_, _≤_, _<_}
 use native.Mathlib.Nat.{add-zero}
@@ -34,13 +34,11 @@ module _ (costs old wave : List ℕ) (count : ℕ) where
       → offeredBy costs old (slice i count wave) cells
       ≡ offeredBy costs old (slice (i + 1) count wave) (offeredAround costs (low (getD old (getD wave i 0) 0)) (cellAt (getD wave i 0)) orthogonal cells)
   unfolding offeredBy
-  wave-step i cells h k =
-      ap (λ (l : List ℕ). offeredBy costs old l cells) (slice-cons i count wave 0 h k)
-      ∙ ap (λ (n : ℕ). offeredBy costs old (slice n count wave) (offeredAround costs (low (getD old (getD wave i 0) 0)) (cellAt (getD wave i 0)) orthogonal cells)) (sym (add-one i))
+  wave-step i cells h k = rw (add-one i, slice-cons i count wave 0 h k)
 
   pub wave-end : (cells : List ℕ) → offeredBy costs old (slice count count wave) cells ≡ cells
   unfolding offeredBy
-  wave-end cells = ap (λ (l : List ℕ). offeredBy costs old l cells) (slice-empty count wave)
+  wave-end cells = rw (slice-empty count wave)
 
 -- ---- the test of the corners
 
@@ -48,20 +46,15 @@ module _ (corners : List ℕ) (count : ℕ) where
   pub corners-step : (i : ℕ) → i < count → count ≤ length corners → getD corners i 0 < 100
       → allCells (slice i count corners) ≡ allCells (slice (i + 1) count corners)
   unfolding allCells
-  corners-step i h k l =
-      ap allCells (slice-cons i count corners 0 h k)
-      ∙ ap (λ (b : Bool). b && allCells (slice (suc i) count corners)) (lt-ltb (getD corners i 0) 100 l)
-      ∙ ap (λ (n : ℕ). allCells (slice n count corners)) (sym (add-one i))
+  corners-step i h k l = rw (add-one i, slice-cons i count corners 0 h k, lt-ltb (getD corners i 0) 100 l)
 
   pub corners-out : (i : ℕ) → i < count → count ≤ length corners → 100 ≤ getD corners i 0 → allCells (slice i count corners) ≡ false
   unfolding allCells
-  corners-out i h k l =
-      ap allCells (slice-cons i count corners 0 h k)
-      ∙ ap (λ (b : Bool). b && allCells (slice (suc i) count corners)) (le-ltb (getD corners i 0) 100 l)
+  corners-out i h k l = rw (slice-cons i count corners 0 h k, le-ltb (getD corners i 0) 100 l)
 
   pub corners-end : allCells (slice count count corners) ≡ true
   unfolding allCells
-  corners-end = ap allCells (slice-empty count corners)
+  corners-end = rw (slice-empty count corners)
 
   -- a corner more in the list
   pub corner-more : (i : ℕ) → i < length corners → i < 100 → set (padded (take i corners)) i (getD corners i 0) ≡ padded (take (i + 1) corners)
@@ -95,17 +88,12 @@ module _ (before after : List ℕ) where
   abbrev pub changedTo : ℕ → List ℕ
   changedTo i = changedFrom 0 (take i before) (take i after)
 
-  module _ (i : ℕ) (h : i < length before) (k : i < length after) where
-    pub changed-more : changedTo (i + 1) ≡ changedTo i ++ consIf (not (eqb (getD before i 0) (getD after i 0))) i []
-    changed-more =
-        let n : length (take i before) ≡ i = length-take-le i before (omega arith) in
-        let m : length (take i after) ≡ i = length-take-le i after (omega arith) in
-        let q : 0 + length (take i before) ≡ i = omega arith in
-        ap changedTo (add-one i)
-        ∙ ap (λ (l : List ℕ). changedFrom 0 l (take (suc i) after)) (take-suc before i 0 h)
-        ∙ ap (λ (l : List ℕ). changedFrom 0 (take i before ++ getD before i 0 ∷ []) l) (take-suc after i 0 k)
-        ∙ changed-snoc 0 (take i before) (take i after) (getD before i 0) (getD after i 0) (n ∙ sym m)
-        ∙ ap (λ (j : ℕ). changedTo i ++ consIf (not (eqb (getD before i 0) (getD after i 0))) j []) q
+  pub changed-more : (i : ℕ) → i < length before → i < length after → changedTo (i + 1) ≡ changedTo i ++ consIf (not (eqb (getD before i 0) (getD after i 0))) i []
+  changed-more i h k =
+      let n : length (take i before) ≡ i = length-take-le i before (omega arith) in
+      let m : length (take i after) ≡ i = length-take-le i after (omega arith) in
+      let q : 0 + length (take i before) ≡ i = omega arith in
+      rw (add-one i, take-suc before i 0 h, take-suc after i 0 k, changed-snoc 0 (take i before) (take i after) (getD before i 0) (getD after i 0) (n ∙ sym m), q)
 
 pub bit-few : (b : Bool) → boolByte b ≤ 1
 bit-few true = omega arith
@@ -115,10 +103,7 @@ bit-few false = omega arith
 pub pushed : (b : Bool) (l : List ℕ) (n x : ℕ) → n < length l → take (n + boolByte b) (set l n x) ≡ take n l ++ consIf b x []
 pushed b l n x h =
     let e : length (take n l) ≡ n = length-take-le n l (omega arith) in
-    ap (take (n + boolByte b)) (set-split l n x h)
-    ∙ ap (λ (k : ℕ). take (k + boolByte b) (take n l ++ x ∷ drop (suc n) l)) (sym e)
-    ∙ take-append-add (take n l) (x ∷ drop (suc n) l) (boolByte b)
-    ∙ ap (λ (r : List ℕ). take n l ++ r) (go b)
+    rw (set-split l n x h) (rw e at (take-append-add (take n l) (x ∷ drop (suc n) l) (boolByte b)) ∙ ap (λ (r : List ℕ). take n l ++ r) (go b))
   where
     go : (b : Bool) → take (boolByte b) (x ∷ drop (suc n) l) ≡ consIf b x []
     go true = refl

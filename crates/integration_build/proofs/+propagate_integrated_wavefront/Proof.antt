@@ -29,6 +29,19 @@ abbrev calls : ℕ → lts.Claims
 calls t = (offers.Asked, offers.Learnt, changed.Asked, changed.Learnt, below t, go.Post)
 
 module _ (t : ℕ) where
+  -- where the wave's offers are made; where it was seen that there is fuel; the call
+  abbrev Made : Type 0
+  Made = lts.After-offer-wave (calls t) (at t) go.Post
+
+  abbrev fuelled : Made → lts.Else1 (calls t) (at t) go.Post
+  fuelled m = m .before .before .before .before
+
+  abbrev start : Made → lts.Start (calls t) (at t) go.Post
+  start m = fuelled m .before .before
+
+  some-fuel : (m : Made) → 0 < start m .args .fuel
+  some-fuel m = pos-of-ne-zero (fuelled m .if1 .left)
+
   returns : lts.Need-returns (calls t) (at t) go.Post
   returns c = rw (c .if1 .taken) (settles-none _ _ _)
 
@@ -39,37 +52,39 @@ module _ (t : ℕ) where
 
   changed-requires : lts.Need-changed-requires (calls t) (at t) go.Post
   changed-requires c κs =
-      let p = c .before .before .before .before .before .before .before .before .before .pre .1 in
-      (p .1 .0, (new-length _ _ _ (c .before .before .before .offer-wave .ensures) ∙ p .1 .0, refl))
+      let m = c .before .before .before in
+      let long = start m .pre .1 .1 .0 in
+      (long, (new-length _ _ _ (m .offer-wave .ensures) ∙ long, refl))
 
   returns-2 : lts.Need-returns-2 (calls t) (at t) go.Post
   returns-2 c =
-      settles-still _ _ _ _ _ _ (c .before .before .before .before .before .offer-wave .ensures) (c .before .changed .ensures) _ (c .if2 .taken)
+      let found = c .before in
+      let m = found .before .before .before .before in
+      settles-still _ _ _ _ _ _ (m .offer-wave .ensures) (found .changed .ensures) _ (c .if2 .taken)
 
   sub-fuel : lts.Need-sub-propagate-integrated-wavefront (calls t) (at t) go.Post
-  sub-fuel c = pos-of-ne-zero (c .before .before .before .before .before .before .before .before .before .before .before .if1 .left)
+  sub-fuel c = some-fuel (c .before .before .before .before .before .before .before)
 
   go-requires : lts.Need-propagate-integrated-wavefront-requires (calls t) (at t) go.Post
   go-requires c κs =
       let found = c .before .before .before in
-      let made = found .before .before .before .before in
-      let s = made .before .before .before .before .before .before in
-      let some : 0 < s .args .fuel = pos-of-ne-zero (made .before .before .before .before .if1 .left) in
-      let less : s .args .fuel - 1 < t = omega (arith, s .pre .0) in
-      (less, (found .changed .ensures .0, (new-length _ _ _ (made .offer-wave .ensures) ∙ s .pre .1 .1 .0, s .pre .1 .1 .1)))
+      let m = found .before .before .before .before in
+      let p = start m .pre in
+      let less : start m .args .fuel - 1 < t = omega (arith, p .0, some-fuel m) in
+      (less, (found .changed .ensures .0, (new-length _ _ _ (m .offer-wave .ensures) ∙ p .1 .1 .0, p .1 .1 .1)))
 
   add-waves : lts.Need-add-result (calls t) (at t) go.Post
   add-waves c =
-      let s = c .before .before .before .before .before .before .before .before .before .before .before .before .before .before in
-      let some : 0 < s .args .fuel = pos-of-ne-zero (c .before .before .before .before .before .before .before .before .before .before .before .before .if1 .left) in
-      omega (arith, c .propagate-integrated-wavefront .ensures .within, s .fits .fuel)
+      let m = c .before .before .before .before .before .before .before .before in
+      omega (arith, c .propagate-integrated-wavefront .ensures .within, start m .fits .fuel, some-fuel m)
 
   returns-3 : lts.Need-returns-3 (calls t) (at t) go.Post
   returns-3 c =
-      let found = c .before .before .before .before in
-      let made = found .before .before .before .before in
-      settles-more _ _ _ _ _ _ (made .offer-wave .ensures) (found .changed .ensures) _ _ _
-      (made .before .before .before .before .if1 .left) (c .before .before .before .if2 .left) (c .propagate-integrated-wavefront .ensures)
+      let more = c .before .before .before in
+      let found = more .before in
+      let m = found .before .before .before .before in
+      settles-more _ _ _ _ _ _ (m .offer-wave .ensures) (found .changed .ensures) _ _ _ (fuelled m .if1 .left) (more .if2 .left)
+      (c .propagate-integrated-wavefront .ensures)
 
 pub +propagate-integrated-wavefront-spec : {M : Type 1} → statement M
 +propagate-integrated-wavefront-spec =

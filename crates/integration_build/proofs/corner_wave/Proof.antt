@@ -4,7 +4,7 @@ use mathlib.Core.Path.{_≡_, refl, ap, _∙_}
 use mathlib.Core.List.{List}
 use Prim.Native.Nat.{ℕ, _-_, _<_, _≤_}
 use native.Mathlib.Omega.{arith}
-use lib.ListN.{length, take, set, getD}
+use lib.ListN.{take, set, getD}
 use borrow.Author.Needs.{needs}
 use Rattle.integration_field.specs.Listed.{padded}
 use Rattle.integration_build.proofs.Loops.{corner-more}
@@ -41,13 +41,11 @@ loop-less c = search needs
 
 loop-again : tie.Need-loop-again Inv-loop μ-loop
 loop-again c =
-    let a = c .before .before .before .args in
+    let s = c .before .before .before in
     let l = c .before .before .loop in
-    let long : length (a .corners .now) ≡ 100 = c .before .before .before .pre .1 in
-    let room : l .i < 100 = omega (arith, c .before .before .before .pre .0) in (
-      search needs,
-      ap (λ (x : List ℕ). set x (l .i) (getD (a .corners .now) (l .i) 0)) (l .inv .1) ∙ corner-more (a .corners .now) (a .count) (l .i) (omega arith) room,
-    )
+    let corners = s .args .corners .now in
+    let room : l .i < 100 = omega (arith, s .pre .0) in
+    (search needs, ap (λ (x : List ℕ). set x (l .i) (getD corners (l .i) 0)) (l .inv .1) ∙ corner-more corners (s .args .count) (l .i) (omega (arith, s .pre .1)) room)
 
 returns : tie.Need-returns Inv-loop μ-loop
 returns c =

@@ -27,12 +27,15 @@ mul-if1 c = search needs
 element-copy-out-if1 : tie.Need-element-copy-out-if1 Inv-loop μ-loop
 element-copy-out-if1 c = search needs
 
+room : (s : tie.Start Inv-loop μ-loop) → s .args .count ≤ length (s .args .corners .now)
+room s = search needs
+
 returns : tie.Need-returns Inv-loop μ-loop
 returns c =
-    let a = c .before .before .before .before .args in
-    let l = c .before .before .before .loop in
-    let long : length (a .corners .now) ≡ 100 = c .before .before .before .before .pre .1 in
-    sym (l .inv .1 ∙ corners-out (a .corners .now) (a .count) (l .i) (c .before .before .loop-test .taken) (omega (arith, c .before .before .before .before .pre .0)) (c .if1 .taken))
+    let turn = c .before .before in
+    let l = turn .before .loop in
+    let s = turn .before .before in
+    sym (l .inv .1 ∙ corners-out (s .args .corners .now) (s .args .count) (l .i) (turn .loop-test .taken) (room s) (omega (arith, c .if1 .taken)))
 
 add-i : tie.Need-add-i Inv-loop μ-loop
 add-i c = search needs
@@ -42,12 +45,10 @@ loop-less c = search needs
 
 loop-again : tie.Need-loop-again Inv-loop μ-loop
 loop-again c =
-    let a = c .before .before .before .before .args in
-    let l = c .before .before .before .loop in
-    let long : length (a .corners .now) ≡ 100 = c .before .before .before .before .pre .1 in (
-      search needs,
-      l .inv .1 ∙ corners-step (a .corners .now) (a .count) (l .i) (c .before .before .loop-test .taken) (omega (arith, c .before .before .before .before .pre .0)) (omega (arith, c .if1 .left)),
-    )
+    let turn = c .before .before in
+    let l = turn .before .loop in
+    let s = turn .before .before in
+    (search needs, l .inv .1 ∙ corners-step (s .args .corners .now) (s .args .count) (l .i) (turn .loop-test .taken) (room s) (omega (arith, c .if1 .left)))
 
 returns-2 : tie.Need-returns-2 Inv-loop μ-loop
 returns-2 c =

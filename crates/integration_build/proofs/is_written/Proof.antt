@@ -1,7 +1,9 @@
 -- `integration_build::is_written` meets its contract. Its tests are those of the definition.
 -- Assumes nothing.
-use mathlib.Core.Path.{sym, _∙_}
+use mathlib.Core.Path.{_≡_, sym, _∙_}
+use mathlib.Core.Bool.{false}
 use borrow.Author.Needs.{needs}
+use Rattle.integration_field.specs.Word.{isImpassable}
 use Rattle.integration_build.proofs.is_written.Statement.{statement}
 use Rattle.integration_build.proofs.is_written.Tie as tie
 
@@ -11,17 +13,20 @@ is-impassable-requires c κs = search needs
 returns : tie.Need-returns
 returns c = simp (sym (c .before .is-impassable .ensures) ∙ c .if1 .taken)
 
+no-wall : (c : tie.Else1) → isImpassable (c .before .before .args .old) ≡ false
+no-wall c = sym (c .before .is-impassable .ensures) ∙ c .if1 .left
+
 is-los-requires : tie.Need-is-los-requires
 is-los-requires c κs = search needs
 
 returns-2 : tie.Need-returns-2
-returns-2 c = simp (sym (c .before .before .before .is-impassable .ensures) ∙ c .before .before .if1 .left, sym (c .before .is-los .ensures) ∙ c .if2 .taken)
+returns-2 c = simp (no-wall (c .before .before), sym (c .before .is-los .ensures) ∙ c .if2 .taken)
 
 low-bits-requires : tie.Need-low-bits-requires
 low-bits-requires c κs = search needs
 
 returns-3 : tie.Need-returns-3
-returns-3 c = simp (sym (c .before .before .before .before .is-impassable .ensures) ∙ c .before .before .before .if1 .left, sym (c .before .before .is-los .ensures) ∙ c .before .if2 .left, c .low-bits .ensures)
+returns-3 c = simp (no-wall (c .before .before .before), sym (c .before .before .is-los .ensures) ∙ c .before .if2 .left, c .low-bits .ensures)
 
 pub is-written-spec : {M : Type 1} → statement M
 is-written-spec =

@@ -27,10 +27,13 @@ offer-towards-requires-4 c κs = search needs
 returns : tie.Need-returns
 unfolding offeredAround
 returns c =
-    let a = c .before .before .before .before .before .before .before .before .before .args in
+    let south = c .before .before in
+    let east = south .before .before in
+    let north = east .before .before in
+    let a = north .before .before .before .args in
     let go : CompassDir → List ℕ → List ℕ = λ d x. offered (now (a .costs)) (a .value) (stepped (cellAt (a .cell)) d) x in
     c .offer-towards4 .ensures
-    ∙ ap (go West) (c .before .before .offer-towards3 .ensures ∙ ap (go South) (c .before .before .before .before .offer-towards2 .ensures ∙ ap (go East) (c .before .before .before .before .before .before .offer-towards .ensures)))
+    ∙ ap (go West) (south .offer-towards3 .ensures ∙ ap (go South) (east .offer-towards2 .ensures ∙ ap (go East) (north .offer-towards .ensures)))
 
 pub offer-around-spec : {M : Type 1} → statement M
 offer-around-spec =

@@ -29,31 +29,37 @@ enum-told c = search needs
 
 returns : tie.Need-returns
 returns c =
-    let a = c .before .before .before .before .before .args in
+    let step = c .before .before in
+    let a = step .before .before .before .args in
     ap (λ (s : Stepped). offered (now (a .costs)) (a .value) s (now (a .cells)))
-    (sym (c .enum-told .given .1) ∙ c .before .before .get-in-compass-direction .ensures ∙ ap (λ (x : FieldCell). stepped x (a .dir)) (c .before .before .before .from-index .ensures))
+    (sym (c .enum-told .given .1) ∙ step .get-in-compass-direction .ensures ∙ ap (λ (x : FieldCell). stepped x (a .dir)) (step .before .from-index .ensures))
 
--- where the step arrives
-arrives : (c : tie.After-known-told) → stepped (cellAt (c .before .before .before .before .before .before .args .cell)) (c .before .before .before .before .before .before .args .dir) ≡ Cell (c .before .neighbour .given .0 .0)
+-- the call, and where its step arrives
+abbrev start : tie.After-known-told → tie.Start
+start c = c .before .before .before .before .before .before
+
+abbrev neighbour : tie.After-known-told → FieldCell
+neighbour c = c .before .neighbour .given .0 .0
+
+arrives : (c : tie.After-known-told) → stepped (cellAt (start c .args .cell)) (start c .args .dir) ≡ Cell (neighbour c)
 arrives c =
-    ap (λ (x : FieldCell). stepped x (c .before .before .before .before .before .before .args .dir)) (sym (c .before .before .before .before .from-index .ensures))
-    ∙ sym (c .before .before .before .get-in-compass-direction .ensures)
-    ∙ c .before .neighbour .given .1
+    let step = c .before .before .before in
+    ap (λ (x : FieldCell). stepped x (start c .args .dir)) (sym (step .before .from-index .ensures)) ∙ sym (step .get-in-compass-direction .ensures) ∙ c .before .neighbour .given .1
 
 as-1d-index-requires : tie.Need-as-1d-index-requires
 as-1d-index-requires c κs = search needs
 
-within : (c : tie.After-as-1d-index) → Inside (c .before .before .neighbour .given .0 .0)
-within c = stepped-cell (cellAt (c .before .before .before .before .before .before .before .args .cell)) (c .before .before .before .before .before .before .before .args .dir) (c .before .before .neighbour .given .0 .0) (arrives (c .before)) .within
+within : (c : tie.After-known-told) → Inside (neighbour c)
+within c = stepped-cell (cellAt (start c .args .cell)) (start c .args .dir) (neighbour c) (arrives c) .within
 
-index-is : (c : tie.After-as-1d-index) → c .as-1d-index .result ≡ indexOf (c .before .before .neighbour .given .0 .0)
-index-is c = c .as-1d-index .ensures ∙ index-inside 100 (c .before .before .neighbour .given .0 .0) (within c)
+index-is : (c : tie.After-as-1d-index) → c .as-1d-index .result ≡ indexOf (neighbour (c .before))
+index-is c = c .as-1d-index .ensures ∙ index-inside 100 (neighbour (c .before)) (within (c .before))
 
 index-in : (c : tie.After-as-1d-index) → c .as-1d-index .result < 100
-index-in c = omega (arith, index-is c, index-below (c .before .before .neighbour .given .0 .0) (within c))
+index-in c = omega (arith, index-is c, index-below (neighbour (c .before)) (within (c .before)))
 
 shared-slice-read-wide : tie.Need-shared-slice-read-wide
-shared-slice-read-wide c = omega (arith, index-in (c .before), c .before .before .before .before .before .before .before .before .pre .1)
+shared-slice-read-wide c = omega (arith, index-in (c .before), start (c .before .before) .pre .1)
 
 wide-requires : tie.Need-wide-requires
 wide-requires c κs = search needs
@@ -66,11 +72,12 @@ relax-requires c κs = index-in (c .before .before .before)
 
 returns-2 : tie.Need-returns-2
 returns-2 c =
-    let a = c .before .before .before .before .before .before .before .before .before .before .before .args in
+    let index = c .before .before .before .before in
+    let a = start (index .before) .args in
     c .relax .ensures
-    ∙ ap (λ (w : ℕ). relaxed (a .value + w) (c .before .before .before .before .as-1d-index .result) (now (a .cells))) (c .before .before .wide .ensures .0)
-    ∙ ap (λ (i : ℕ). relaxed (a .value + getD (now (a .costs)) i 0) i (now (a .cells))) (index-is (c .before .before .before .before))
-    ∙ sym (ap (λ (s : Stepped). offered (now (a .costs)) (a .value) s (now (a .cells))) (arrives (c .before .before .before .before .before)))
+    ∙ ap (λ (w : ℕ). relaxed (a .value + w) (index .as-1d-index .result) (now (a .cells))) (c .before .before .wide .ensures .0)
+    ∙ ap (λ (i : ℕ). relaxed (a .value + getD (now (a .costs)) i 0) i (now (a .cells))) (index-is index)
+    ∙ sym (ap (λ (s : Stepped). offered (now (a .costs)) (a .value) s (now (a .cells))) (arrives (index .before)))
 
 pub offer-towards-spec : {M : Type 1} → statement M
 offer-towards-spec =

@@ -2,7 +2,7 @@
 -- Assumes nothing.
 use mathlib.Core.Path.{_≡_, refl, sym, ap, _∙_}
 use mathlib.Core.List.{List}
-use Prim.Native.Nat.{ℕ, _+_, _-_, _≤_}
+use Prim.Native.Nat.{ℕ, _+_, _-_, _<_, _≤_}
 use native.Mathlib.Omega.{arith}
 use lib.ListN.{length, take, getD}
 use lib.Seq.{slice}
@@ -30,17 +30,22 @@ mul-cell c = search needs
 element-copy-out-cell : tie.Need-element-copy-out-cell Inv-loop μ-loop
 element-copy-out-cell c = search needs
 
+cell-in : (c : tie.After-cell Inv-loop μ-loop) → getD (c .before .before .before .before .args .wave .now) (c .before .before .loop .i) 0 < 100
+cell-in c = c .before .before .before .before .pre .0 .cells-in (c .before .before .loop .i) (c .before .loop-test .taken)
+
 mul-low-bits : tie.Need-mul-low-bits Inv-loop μ-loop
-mul-low-bits c = let h = c .before .before .before .before .pre .0 .cells-in (c .before .before .loop .i) (c .before .loop-test .taken) in omega arith
+mul-low-bits c = let h = cell-in c in omega arith
 
 element-copy-out-low-bits : tie.Need-element-copy-out-low-bits Inv-loop μ-loop
-element-copy-out-low-bits c = c .before .before .before .before .pre .0 .cells-in (c .before .before .loop .i) (c .before .loop-test .taken)
+element-copy-out-low-bits c = cell-in c
 
 low-bits-requires : tie.Need-low-bits-requires Inv-loop μ-loop
 low-bits-requires c κs = search needs
 
 offer-around-requires : tie.Need-offer-around-requires Inv-loop μ-loop
-offer-around-requires c κs = (omega (arith, c .before .low-bits .ensures), c .before .before .before .before .before .before .before .pre .1)
+offer-around-requires c κs =
+    let s = c .before .before .before .before .before .before .before in
+    (omega (arith, c .before .low-bits .ensures), s .pre .1)
 
 add-i : tie.Need-add-i Inv-loop μ-loop
 add-i c = search needs
@@ -50,13 +55,15 @@ loop-less c = search needs
 
 loop-again : tie.Need-loop-again Inv-loop μ-loop
 loop-again c =
-    let a = c .before .before .before .before .before .before .before .before .args in
-    let l = c .before .before .before .before .before .before .loop in
-    let room : a .count ≤ length (a .wave .now) = omega (arith, c .before .before .before .before .before .before .before .before .pre .0 .count-in, c .before .before .before .before .before .before .before .before .pre .0 .long) in
+    let turn = c .before .before .before .before .before in
+    let l = turn .before .loop in
+    let s = turn .before .before .before in
+    let a = s .args in
+    let room : a .count ≤ length (a .wave .now) = omega (arith, s .pre .0 .count-in, s .pre .0 .long) in
     let cell = getD (a .wave .now) (l .i) 0 in (
       search needs,
       l .inv .1
-          ∙ wave-step (a .costs .now) (a .before .now) (a .wave .now) (a .count) (l .i) (l .cells) (c .before .before .before .before .before .loop-test .taken) room
+          ∙ wave-step (a .costs .now) (a .before .now) (a .wave .now) (a .count) (l .i) (l .cells) (turn .loop-test .taken) room
           ∙ sym (ap (λ (x : List ℕ). offeredBy (a .costs .now) (a .before .now) (slice (l .i + 1) (a .count) (a .wave .now)) x)
           (c .offer-around .ensures ∙ ap (λ (v : ℕ). offeredAround (a .costs .now) v (cellAt cell) orthogonal (l .cells)) (c .before .before .low-bits .ensures))),
     )
