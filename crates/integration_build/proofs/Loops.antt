@@ -56,14 +56,13 @@ module _ (corners : List ℕ) (count : ℕ) where
   unfolding allCells
   corners-end = rw (slice-empty count corners)
 
-  -- a corner more in the list
-  pub corner-more : (i : ℕ) → i < length corners → i < 100 → set (padded (take i corners)) i (getD corners i 0) ≡ padded (take (i + 1) corners)
-  corner-more i h l =
-      let n : length (take i corners) ≡ i = length-take-le i corners (omega arith) in
-      ap (λ (k : ℕ). set (padded (take i corners)) k (getD corners i 0)) (sym n)
-      ∙ padded-push (take i corners) (getD corners i 0) (omega arith)
-      ∙ ap padded (sym (take-suc corners i 0 h))
-      ∙ ap (λ (k : ℕ). padded (take k corners)) (sym (add-one i))
+-- a corner more in the list
+pub corner-more : (corners : List ℕ) (i : ℕ) → i < length corners → i < 100 → set (padded (take i corners)) i (getD corners i 0) ≡ padded (take (i + 1) corners)
+corner-more corners i h l =
+    let n : length (take i corners) ≡ i = length-take-le i corners (omega arith) in
+    ap (λ (k : ℕ). set (padded (take i corners)) k (getD corners i 0)) (sym n)
+    ∙ padded-push (take i corners) (getD corners i 0) (omega arith)
+    ∙ rw (add-one i, take-suc corners i 0 h)
 
 -- ---- the changed cells
 

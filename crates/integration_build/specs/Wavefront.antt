@@ -1,4 +1,4 @@
--- What the waves of the code are to those of the definition.
+-- What the waves of the code are to those of the definition (01, "Code places and their forms": one wave a call, with a number falling from 100).
 -- Assumes nothing.
 use mathlib.Core.Path.{_≡_}
 use mathlib.Core.List.{List}

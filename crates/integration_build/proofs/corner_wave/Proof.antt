@@ -45,7 +45,7 @@ loop-again c =
     let l = c .before .before .loop in
     let corners = s .args .corners .now in
     let room : l .i < 100 = omega (arith, s .pre .0) in
-    (search needs, ap (λ (x : List ℕ). set x (l .i) (getD corners (l .i) 0)) (l .inv .1) ∙ corner-more corners (s .args .count) (l .i) (omega (arith, s .pre .1)) room)
+    (search needs, ap (λ (x : List ℕ). set x (l .i) (getD corners (l .i) 0)) (l .inv .1) ∙ corner-more corners (l .i) (omega (arith, s .pre .1)) room)
 
 returns : tie.Need-returns Inv-loop μ-loop
 returns c =
