@@ -42,9 +42,9 @@ fn relax(cells: &mut [u32; 100], index: usize, sum: u32)
     ensures { λ _. ⌜ now (cells .exit) ≡ relaxed sum index (now (cells .entry)) ⌝ }
 {
     let old = cells[index];
-    if is_written(old, sum) {
-        cells[index] = sum;
-    }
+    // written in either case: no branch depends on a cell
+    let new = if is_written(old, sum) { sum } else { old };
+    cells[index] = new;
 }
 
 // A value offered to the neighbour in one direction: the sum is compared before it is cut to 16 bits.

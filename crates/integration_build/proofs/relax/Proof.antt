@@ -1,6 +1,9 @@
--- `integration_build::relax` meets its contract. It writes where the definition does.
+-- `integration_build::relax` meets its contract. What it writes where the definition does not is the cell's own value.
 -- Assumes nothing.
 use mathlib.Core.Path.{sym, _∙_}
+use mathlib.Core.Logic.{⊎-elim}
+use lib.Seq.{set-getD}
+use denote.Ref.{now}
 use borrow.Author.Needs.{needs}
 use Rattle.integration_field.specs.Wave.{relaxed}
 use Rattle.integration_build.proofs.relax.Statement.{statement}
@@ -23,11 +26,13 @@ element-write-cells c = search needs
 
 returns : tie.Need-returns
 unfolding relaxed
-returns c = simp (sym (c .before .is-written .ensures) ∙ c .if1 .taken)
-
-returns-2 : tie.Need-returns-2
-unfolding relaxed
-returns-2 c = simp (sym (c .before .is-written .ensures) ∙ c .if1 .left)
+returns c =
+    let a = c .before .before .before .args in
+    let test = sym (c .before .is-written .ensures) in
+    ⊎-elim
+    (λ w. rw (w .1, test ∙ w .0 .taken))
+    (λ w. rw (w .1, test ∙ w .0 .left) (set-getD (now (a .cells)) (a .index) 0))
+    (c .if1 .came)
 
 pub relax-spec : {M : Type 1} → statement M
 relax-spec =
@@ -38,5 +43,4 @@ relax-spec =
     is-written-requires
     mul-cells
     element-write-cells
-    returns
-    returns-2)
+    returns)
