@@ -1,4 +1,3 @@
 pub mod Count
 pub mod Least
 pub mod End
-pub mod Unique

@@ -1,4 +1,5 @@
--- Waves over a grid of cells, stated of any values: `value k x` is what wave k leaves in cell x.
+-- Waves over a grid of cells (01, "Integration: build": wave 0 is the listed corners; wave k offers from each cell that wave k - 1 changed),
+-- stated of any values: `value k x` is what wave k leaves in cell x.
 -- Assumes nothing.
 use mathlib.Core.Path.{_≡_}
 use Prim.Native.Nat.{ℕ, zero, suc, _+_, _≤_, _<_}
