@@ -7,7 +7,7 @@
 --     answer-promises   both, of whatever equals the answer
 -- Assumes nothing.
 use mathlib.Core.Path.{_≡_, refl, sym, _∙_}
-use mathlib.Core.Bool.{Bool, true, false, not, cond, _&&_, _||_, true≢false}
+use mathlib.Core.Bool.{Bool, true, false, not, cond, _||_}
 use mathlib.Core.List.{List, [], _∷_, List·Memᴰ, List·Memᴰ·head, List·Memᴰ·tail}
 use Prim.Native.Nat.{ℕ, zero, suc, _≤_, _<_}
 use native.Mathlib.Omega.{arith}
@@ -17,13 +17,10 @@ use borrow.Author.Tests.{ltb-true, ltb-false, lt-ltb, le-ltb, eqb-true, eq-eqb, 
 use Rattle.integration_field.specs.declared.IntegrationField.{IntegrationField}
 use Rattle.integration_field.specs.declared.BuildAnswer.{BuildAnswer}
 use Rattle.integration_field.specs.Listed.{listOf}
+use Rattle.integration_field.specs.Rest.{and-true}
 use Rattle.integration_field.specs.Answer.{answerOf, allCells, buildNumber, Accepted, buildAnswer}
 use Rattle.integration_field.specs.Promise.{LeastWalks, Counted}
 use Rattle.integration_field.proofs.Least.{least-walks, waves-counted}
-
-and-true : (a b : Bool) → (a && b) ≡ true → (a ≡ true) × (b ≡ true)
-and-true true b e = (refl, e)
-and-true false b e = absurd (true≢false (sym e))
 
 pub all-cells : (l : List ℕ) → allCells l ≡ true → (x : ℕ) → List·Memᴰ x l → x < 100
 unfolding allCells

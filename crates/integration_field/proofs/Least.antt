@@ -4,13 +4,14 @@
 --     rests-within      any number of waves from 99 on is enough
 -- Assumes nothing.
 use mathlib.Core.Path.{_≡_, refl, sym, ap, _∙_}
-use mathlib.Core.Bool.{Bool, true, false, not, _&&_, true≢false}
+use mathlib.Core.Bool.{true, false, not, true≢false}
 use mathlib.Core.Logic.{_⊎_, inl, inr, _↔_}
 use mathlib.Core.List.{List, [], _∷_, List·Memᴰ, List·Memᴰ·head, List·Memᴰ·not-nil}
 use Prim.Native.Nat.{ℕ, zero, suc, _+_, _-_, _≤_, _<_}
 use native.Mathlib.Nat.{zero-add, suc-add, add-zero}
 use native.Mathlib.Omega.{arith}
 use native.Mathlib.Decide.{decLt}
+use borrow.Author.Tests.{not-true}
 use lib.ListN.{length, getD, List·getD-eq-default}
 use lib.Seq.{ext-getD}
 use Rattle.fields.specs.Neighbours.{BesideAt}
@@ -20,7 +21,7 @@ use Rattle.waves.proofs.Least.{walk-into, fallen-walk}
 use Rattle.waves.proofs.End.{few, least, counted}
 use Rattle.integration_field.specs.Word.{low, isOpen, isLos, isImpassable}
 use Rattle.integration_field.specs.Wave.{changedFrom, Wave, next, waveAt}
-use Rattle.integration_field.specs.Rest.{Rests}
+use Rattle.integration_field.specs.Rest.{and-true, Rests}
 use Rattle.integration_field.specs.Build.{isEmpty, build}
 use Rattle.integration_field.specs.Walks.{grid, MayEnter, Permitted}
 use Rattle.integration_field.specs.Promise.{Walked, LeastWalks, Changes, Counted}
@@ -43,13 +44,6 @@ some-one (x ∷ l) e = (x, List·Memᴰ·head refl)
 no-members : (l : List ℕ) → ((x : ℕ) → List·Memᴰ x l → ⊥) → l ≡ []
 no-members [] h = refl
 no-members (x ∷ l) h = absurd (h x (List·Memᴰ·head refl))
-
--- ---- words
-
-both-false : (a b : Bool) → (not a && not b) ≡ true → (a ≡ false) × (b ≡ false)
-both-false true b e = absurd (true≢false (sym e))
-both-false false true e = absurd (true≢false (sym e))
-both-false false false e = (refl, refl)
 
 -- ---- the waves of a field are waves
 
@@ -180,8 +174,8 @@ module _ (costs cells corners : List ℕ) where
 
     permitted : (x s : ℕ) → Below (grid costs cells corners) Open x s → MayEnter costs cells corners x s
     permitted x s p =
-        let f = both-false (isImpassable (getD cells x 0)) (isLos (getD cells x 0)) (p .0) in
-        record { no-wall = f .0; not-in-sight = f .1; below = p .1 }
+        let f = and-true (not (isImpassable (getD cells x 0))) (not (isLos (getD cells x 0))) (p .0) in
+        record { no-wall = not-true _ (f .0); not-in-sight = not-true _ (f .1); below = p .1 }
 
     attained : (k x : ℕ) → (getD (at k) x 0 ≡ getD cells x 0) ⊎ Walked costs cells corners x (getD (at k) x 0)
     attained k x = go (was k x)

@@ -6,5 +6,5 @@ pub mod Settled
 pub mod Least
 pub mod Answers
 pub mod Decided
-pub mod Examples
+pub mod Snake
 pub mod Diagonal

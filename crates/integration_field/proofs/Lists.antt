@@ -6,14 +6,13 @@
 --     padded-push       a place more, while there is room
 --     corners-listed    the corners of a field that is made of them
 --     corners-length    a field's corners are as many as its count
---     corners-at        a listed corner, by its place
 -- Assumes nothing.
 use mathlib.Core.Path.{_≡_, refl, sym, ap, _∙_}
 use mathlib.Core.List.{List, [], _∷_, _++_}
 use Prim.Native.Nat.{ℕ, zero, suc, _+_, _-_, _<_, _≤_}
 use native.Mathlib.Omega.{arith}
 use lib.ListN.{length, getD, set, take, replicate, List·getD-append}
-use lib.Seq.{take-append-seam, getD-append-add, length-take-le, getD-take}
+use lib.Seq.{take-append-seam, getD-append-add, length-take-le}
 use Rattle.utilities.proofs.Padded.{padded-length as to-length, padded-push as to-push}
 use Rattle.integration_field.specs.declared.IntegrationField.{IntegrationField}
 use Rattle.integration_field.specs.Listed.{padded, listOf, withCorners}
@@ -49,6 +48,3 @@ module _ (l : List ℕ) where
 module _ (f : IntegrationField) (long : length (f .«los_corners») ≡ 100) (few : f .count ≤ 100) where
   pub corners-length : length (listOf f) ≡ f .count
   corners-length = length-take-le (f .count) (f .«los_corners») (omega arith)
-
-  pub corners-at : (i : ℕ) → i < f .count → getD (listOf f) i 0 ≡ getD (f .«los_corners») i 0
-  corners-at i h = getD-take (f .count) (f .«los_corners») i 0 h

@@ -14,7 +14,7 @@ use native.Mathlib.Decide.{decLt, ℕ-discrete}
 use lib.Dec.{ltb, eqb}
 use lib.ListN.{length, getD, set, length-set, List·getD-eq-default}
 use lib.Seq.{getD-set-same, getD-set-other}
-use borrow.Author.Tests.{ltb-true, ltb-false, eq-eqb, ne-eqb}
+use borrow.Author.Tests.{ltb-true, ltb-false, not-true, eq-eqb, ne-eqb}
 use Rattle.utilities.specs.Lists.{consIf}
 use Rattle.utilities.specs.declared.CompassDir.{CompassDir}
 use Rattle.utilities.specs.Compass.{orthogonal}
@@ -194,10 +194,6 @@ cons-there false x l y m = m
 cons-cases {ℓ} : {X : Type ℓ} (b : Bool) (x : ℕ) (l : List ℕ) (y : ℕ) → List·Memᴰ y (consIf b x l) → (b ≡ true → y ≡ x → X) → (List·Memᴰ y l → X) → X
 cons-cases true x l y m f g = ⊎-elim (f refl) g (List·Memᴰ·cases-cons m)
 cons-cases false x l y m f g = g m
-
-not-true : (b : Bool) → not b ≡ true → b ≡ false
-not-true true e = sym e
-not-true false e = refl
 
 pub differs-changed : (i : ℕ) (olds news : List ℕ) (x : ℕ) → (getD news x 0 ≡ getD olds x 0 → ⊥) → length news ≡ length olds → List·Memᴰ (i + x) (changedFrom i olds news)
 unfolding changedFrom

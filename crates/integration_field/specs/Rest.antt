@@ -1,8 +1,8 @@
 -- Waves come to rest: each wave that changes a cell lowers the total of the values, so that one changes none. The definition of the
 -- built field leans on this, and on nothing else, to be a total function; how soon waves come to rest is `proofs/Least.antt`.
 -- Assumes nothing.
-use mathlib.Core.Path.{_≡_, refl, ap, _∙_}
-use mathlib.Core.Bool.{Bool, true, false, cond, _&&_}
+use mathlib.Core.Path.{_≡_, refl, sym, ap, _∙_}
+use mathlib.Core.Bool.{Bool, true, false, cond, _&&_, true≢false}
 use mathlib.Core.Logic.{_⊎_, inl, inr}
 use mathlib.Core.List.{List, [], _∷_}
 use Prim.Native.Nat.{ℕ, zero, suc, _+_, _≤_, _<_}
@@ -43,35 +43,32 @@ set-lower [] x s h = absurd (omega arith)
 set-lower (w ∷ ws) zero s h = omega arith
 set-lower (w ∷ ws) (suc x) s h = omega (arith, set-lower ws x s h)
 
-and-right : (a b : Bool) → (a && b) ≡ true → b ≡ true
-and-right true b e = e
-and-right false true e = refl
-and-right false false e = e
+pub and-true : (a b : Bool) → (a && b) ≡ true → (a ≡ true) × (b ≡ true)
+and-true true b e = (refl, e)
+and-true false b e = absurd (true≢false (sym e))
 
 relaxed-lowered : (s x : ℕ) (cells : List ℕ) → Lowered cells (relaxed s x cells)
 unfolding relaxed
 relaxed-lowered s x cells = go (isWritten (getD cells x 0) s) refl
   where
     go : (b : Bool) → isWritten (getD cells x 0) s ≡ b → Lowered cells (cond b (set cells x s) cells)
-    go true e = inr (set-lower cells x s (ltb-true s (low (getD cells x 0)) (and-right (isOpen (getD cells x 0)) _ e)))
+    go true e = inr (set-lower cells x s (ltb-true s (low (getD cells x 0)) (and-true (isOpen (getD cells x 0)) _ e .1)))
     go false e = inl refl
 
 module _ (costs : List ℕ) where
   step-lowered : (v : ℕ) (t : Stepped) (cells : List ℕ) → Lowered cells (offered costs v t cells)
-  step-lowered v (Cell c) cells = relaxed-lowered (v + getD costs (indexOf c) 0) (indexOf c) cells
+  step-lowered v (Cell c) cells = relaxed-lowered _ (indexOf c) cells
   step-lowered v Outside cells = inl refl
 
   around-lowered : (v : ℕ) (c : FieldCell) (ds : List CompassDir) (cells : List ℕ) → Lowered cells (offeredAround costs v c ds cells)
   unfolding offeredAround
   around-lowered v c [] cells = inl refl
-  around-lowered v c (d ∷ ds) cells = then (step-lowered v (stepped c d) cells) (around-lowered v c ds (offered costs v (stepped c d) cells))
+  around-lowered v c (d ∷ ds) cells = then (step-lowered v (stepped c d) cells) (around-lowered v c ds _)
 
   wave-lowered : (old is cells : List ℕ) → Lowered cells (offeredBy costs old is cells)
   unfolding offeredBy
   wave-lowered old [] cells = inl refl
-  wave-lowered old (i ∷ is) cells =
-      let v = low (getD old i 0) in
-      then (around-lowered v (cellAt i) orthogonal cells) (wave-lowered old is (offeredAround costs v (cellAt i) orthogonal cells))
+  wave-lowered old (i ∷ is) cells = then (around-lowered _ (cellAt i) orthogonal cells) (wave-lowered old is _)
 
   none-changed : (i : ℕ) (cells : List ℕ) → changedFrom i cells cells ≡ []
   unfolding changedFrom

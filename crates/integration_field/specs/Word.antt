@@ -28,9 +28,6 @@ isPortal x = flag 19 x
 abbrev pub isImpassable : ℕ → Bool
 isImpassable x = flag 25 x
 
-abbrev pub isCorner : ℕ → Bool
-isCorner x = flag 26 x
-
 -- a cell that takes offers (01, "Integration: build"): neither wall nor in sight
 abbrev pub isOpen : ℕ → Bool
 isOpen x = not (isImpassable x) && not (isLos x)

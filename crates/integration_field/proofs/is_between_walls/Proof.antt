@@ -14,28 +14,10 @@ returns c = same-row (now (c .before .args .cells)) (c .before .args .from) (c .
 returns-2 : tie.Need-returns-2
 returns-2 c = same-column (now (c .before .before .args .cells)) (c .before .before .args .from) (c .before .before .args .to) (c .before .before .pre .0) (c .before .before .pre .1) (c .before .if1 .left) (c .if2 .taken)
 
-mul-is-wall-at : tie.Need-mul-is-wall-at
-mul-is-wall-at c = search needs
-
-add-is-wall-at : tie.Need-add-is-wall-at
-add-is-wall-at c = search needs
-
-is-wall-at-requires : tie.Need-is-wall-at-requires
-is-wall-at-requires c κs = search needs
-
 returns-3 : tie.Need-returns-3
 returns-3 c =
     let b = c .before .before .before .before in
     one-free (now (b .args .cells)) (b .args .from) (b .args .to) (b .pre .0) (b .pre .1) (c .before .before .before .if1 .left) (c .before .before .if2 .left) (sym (c .before .is-wall-at .ensures) ∙ not-true _ (c .if3 .taken))
-
-mul-is-wall-at-2 : tie.Need-mul-is-wall-at-2
-mul-is-wall-at-2 c = search needs
-
-add-is-wall-at-2 : tie.Need-add-is-wall-at-2
-add-is-wall-at-2 c = search needs
-
-is-wall-at-requires-2 : tie.Need-is-wall-at-requires-2
-is-wall-at-requires-2 c κs = search needs
 
 returns-4 : tie.Need-returns-4
 returns-4 c =
@@ -44,16 +26,10 @@ returns-4 c =
     ∙ other-decides (now (b .args .cells)) (b .args .from) (b .args .to) (b .pre .0) (b .pre .1) (c .before .before .before .before .if1 .left) (c .before .before .before .if2 .left) (sym (c .before .before .is-wall-at .ensures) ∙ not-false _ (c .before .if3 .left))
 
 pub is-between-walls-spec : {M : Type 1} → statement M
-is-between-walls-spec =
-    tie.close
-    (tie.spec
+is-between-walls-spec = tie.close (tie.spec
     returns
     returns-2
-    mul-is-wall-at
-    add-is-wall-at
-    is-wall-at-requires
+    (λ c. search needs) (λ c. search needs) (λ c κs. search needs)
     returns-3
-    mul-is-wall-at-2
-    add-is-wall-at-2
-    is-wall-at-requires-2
+    (λ c. search needs) (λ c. search needs) (λ c κs. search needs)
     returns-4)

@@ -4,8 +4,5 @@ use Rattle.integration_field.proofs.Flags.{mask-flag}
 use Rattle.integration_field.proofs.is_blocked.Statement.{statement}
 use Rattle.integration_field.proofs.is_blocked.Tie as tie
 
-returns : tie.Need-returns
-returns c = mask-flag (c .args .cost) 18
-
 pub is-blocked-spec : {M : Type 1} → statement M
-is-blocked-spec = tie.close (tie.spec returns)
+is-blocked-spec = tie.close (tie.spec (λ c. mask-flag (c .args .cost) 18))

@@ -4,8 +4,5 @@ use Rattle.integration_field.proofs.Flags.{mask-flag}
 use Rattle.integration_field.proofs.is_goal.Statement.{statement}
 use Rattle.integration_field.proofs.is_goal.Tie as tie
 
-returns : tie.Need-returns
-returns c = mask-flag (c .args .cost) 17
-
 pub is-goal-spec : {M : Type 1} → statement M
-is-goal-spec = tie.close (tie.spec returns)
+is-goal-spec = tie.close (tie.spec (λ c. mask-flag (c .args .cost) 17))

@@ -4,8 +4,5 @@ use Rattle.integration_field.proofs.Flags.{mask-flag}
 use Rattle.integration_field.proofs.is_los.Statement.{statement}
 use Rattle.integration_field.proofs.is_los.Tie as tie
 
-returns : tie.Need-returns
-returns c = mask-flag (c .args .cost) 16
-
 pub is-los-spec : {M : Type 1} → statement M
-is-los-spec = tie.close (tie.spec returns)
+is-los-spec = tie.close (tie.spec (λ c. mask-flag (c .args .cost) 16))

@@ -4,8 +4,5 @@ use Rattle.integration_field.proofs.Flags.{mask-flag}
 use Rattle.integration_field.proofs.is_portal.Statement.{statement}
 use Rattle.integration_field.proofs.is_portal.Tie as tie
 
-returns : tie.Need-returns
-returns c = mask-flag (c .args .cost) 19
-
 pub is-portal-spec : {M : Type 1} → statement M
-is-portal-spec = tie.close (tie.spec returns)
+is-portal-spec = tie.close (tie.spec (λ c. mask-flag (c .args .cost) 19))

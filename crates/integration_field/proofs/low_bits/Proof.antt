@@ -4,8 +4,5 @@ use lib.Bits.{and-mask}
 use Rattle.integration_field.proofs.low_bits.Statement.{statement}
 use Rattle.integration_field.proofs.low_bits.Tie as tie
 
-returns : tie.Need-returns
-returns c = and-mask (c .args .cost) 16
-
 pub low-bits-spec : {M : Type 1} → statement M
-low-bits-spec = tie.close (tie.spec returns)
+low-bits-spec = tie.close (tie.spec (λ c. and-mask (c .args .cost) 16))
