@@ -4,14 +4,13 @@
 --     once-built         the same of what `init` answers
 --     builds-started     the same of what `build` answers
 -- Assumes nothing.
-use mathlib.Core.Path.{_≡_, refl, sym, ap, subst, _∙_}
-use mathlib.Core.Bool.{Bool, true, false, cond}
+use mathlib.Core.Path.{_≡_, refl, subst, _∙_}
+use mathlib.Core.Bool.{Bool, true, false}
 use mathlib.Core.List.{List, [], _∷_, List·Memᴰ}
 use Prim.Native.Nat.{ℕ, zero, suc, _<_}
 use native.Mathlib.Omega.{arith}
 use lib.ListN.{getD, length}
-use lib.Dec.{eqb}
-use borrow.Author.Tests.{lt-ltb, eqb-true, eqb-false}
+use borrow.Author.Tests.{lt-ltb}
 use Rattle.route.specs.Step.{isWindow, stepNumber}
 use Rattle.integration_field.specs.Listed.{listOf}
 use Rattle.integration_field.specs.declared.IntegrationField.{IntegrationField}
@@ -21,8 +20,8 @@ use Rattle.integration_field.specs.Answer.{answerOf, allCells, Accepted, buildA
 use Rattle.integration_field.proofs.Answers.{number-accepted}
 use Rattle.started_field.specs.declared.InitAnswer.{InitAnswer}
 use Rattle.integration_field.proofs.Least.{least-walks, waves-counted}
-use Rattle.started_field.specs.Started.{started, StartedField, initNumber, initRefused, initAccepted, initAnswer}
-use Rattle.started_field.proofs.Started.{started-field, accepted}
+use Rattle.started_field.specs.Started.{started, StartedField, initNumber, initAnswer}
+use Rattle.started_field.proofs.Started.{started-field, accepted, answered}
 use Rattle.least_walks.specs.Walks.{GoalCell, Wall}
 use Rattle.least_walks.specs.Promise.{Demand3, OnceBuilt, BuildsStarted}
 use Rattle.least_walks.proofs.Started.{Ground, started-least}
@@ -89,11 +88,4 @@ pub builds-started : (costs : List ℕ) (f : IntegrationField) (r : BuildAnswer)
 builds-started costs f r e = record { started-built = λ step good q. builds costs step good f r e q }
 
 pub once-built : (costs step : List ℕ) (r : InitAnswer) → r ≡ initAnswer costs step → r .number ≡ 0 → OnceBuilt costs step (r .field)
-unfolding initAnswer
-once-built costs step r e n = go (eqb (initNumber costs step) 0) refl e
-  where
-    go : (b : Bool) → eqb (initNumber costs step) 0 ≡ b → r ≡ cond b (initAccepted (started costs step)) (initRefused (initNumber costs step)) → OnceBuilt costs step (r .field)
-    go true q f =
-        let a = accepted costs step (eqb-true (initNumber costs step) 0 q) in
-        rw f (demand3 costs step (a .0) (a .1))
-    go false q f = absurd (eqb-false (initNumber costs step) 0 q (sym (ap (λ (a : InitAnswer). a .number) f) ∙ n))
+once-built costs step = answered costs step (OnceBuilt costs step) (λ good. let a = accepted costs step good in demand3 costs step (a .0) (a .1))

@@ -106,7 +106,7 @@ module _ (costs cells corners : List ℕ) (Wall Goal : ℕ → Type 0) where
           go (inl e) = e
           go (inr w) = absurd (omega (arith, g .goal-zero x h, w .lower))
 
-      others-stay : (x : ℕ) → Wall x ⊎ (InSight costs cells corners Wall Goal x ⊎ Goal x) → getD built x 0 ≡ getD cells x 0
+      others-stay : (x : ℕ) → Wall x ⊎ (InSight cells x ⊎ Goal x) → getD built x 0 ≡ getD cells x 0
       others-stay x (inl w) = least .walls-stay x (g .wall-flag x w)
       others-stay x (inr (inl l)) = least .sight-stays x l
       others-stay x (inr (inr h)) = goal-stays x h

@@ -9,11 +9,7 @@ use Rattle.integration_field.specs.Listed.{listOf}
 use Rattle.integration_field.specs.Build.{builtField, waveCount}
 use Rattle.integration_field.specs.Promise.{Counted}
 use Rattle.started_field.specs.Started.{started, initNumber}
-use Rattle.least_walks.specs.Walks.{GoalCell, Wall, StartedWalk, StartedLeast}
-
--- a permitted walk of the step's started field: of so many moves, into a cell, and the sum that it comes to
-abbrev pub PermittedWalk : List ℕ → List ℕ → ℕ → ℕ → ℕ → Type 0
-PermittedWalk costs step = StartedWalk costs (started costs step .field) (listOf (started costs step)) (Wall costs step) (GoalCell step)
+use Rattle.least_walks.specs.Walks.{GoalCell, Wall, StartedLeast}
 
 -- `built` are the cells after building, `waves` the count answered
 pub record Demand3 (costs step built : List ℕ) (waves : ℕ) : Type 0 where

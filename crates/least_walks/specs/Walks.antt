@@ -24,17 +24,17 @@ pub record Wall (costs step : List ℕ) (x : ℕ) : Type 0 where
   pub not-goal : GoalCell step x → ⊥
   pub not-window : WindowCell step x → ⊥
 
+-- in sight is a cell that `init` leaves with LOS
+abbrev pub InSight : List ℕ → ℕ → Type 0
+InSight cells x = isLos (getD cells x 0) ≡ true
+
 -- `cells` and `corners` are those of the started field; which cells are walls and which is the goal is told beside them
 module _ (costs cells corners : List ℕ) (Impassable Goal : ℕ → Type 0) where
-  -- in sight is a cell that `init` leaves with LOS
-  abbrev pub InSight : ℕ → Type 0
-  InSight x = isLos (getD cells x 0) ≡ true
-
   -- a cell of the sector that is neither wall, in sight nor goal
   pub record Enterable (x : ℕ) : Type 0 where
     pub inside : x < 100
     pub no-wall : Impassable x → ⊥
-    pub not-in-sight : InSight x → ⊥
+    pub not-in-sight : InSight cells x → ⊥
     pub no-goal : Goal x → ⊥
 
   -- A walk begins in a listed corner, at the value that `init` gave it. Each move goes to an orthogonal neighbour inside the sector that is
@@ -52,6 +52,6 @@ module _ (costs cells corners : List ℕ) (Impassable Goal : ℕ → Type 0) whe
     pub not-above : (x : ℕ) → Enterable x → low (getD built x 0) ≤ before x
     pub none-below : (k x s : ℕ) → StartedWalk k x s → low (getD built x 0) ≤ s
     pub attained : (x : ℕ) → Enterable x → (low (getD built x 0) ≡ before x) ⊎ ((k : ℕ) × StartedWalk k x (low (getD built x 0)))
-    pub others-stay : (x : ℕ) → Impassable x ⊎ (InSight x ⊎ Goal x) → getD built x 0 ≡ getD cells x 0
+    pub others-stay : (x : ℕ) → Impassable x ⊎ (InSight cells x ⊎ Goal x) → getD built x 0 ≡ getD cells x 0
     -- where no permitted walk ends in a cell, the value before building stays
     pub unwalked-stays : (x : ℕ) → Enterable x → ((k s : ℕ) → StartedWalk k x s → ⊥) → low (getD built x 0) ≡ before x

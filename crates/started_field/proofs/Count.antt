@@ -3,6 +3,7 @@
 --     count-room     a list with an entry that fails the test has fewer that pass than places
 --     once-room      distinct places that all pass are no more than the count
 --     each-more      what holds of each entry of a list, and of one more
+--     each-one       what holds of an entry alone
 --     once-more      a list without repeats, and one more entry that it does not have
 --     at-set         an entry after a place was set
 -- Assumes nothing.
@@ -28,12 +29,9 @@ abbrev pub bit : Bool → ℕ
 bit true = 1
 bit false = 0
 
-bit-small : (b : Bool) → bit b ≤ 1
+pub bit-small : (b : Bool) → bit b ≤ 1
 bit-small true = omega arith
 bit-small false = omega arith
-
-bit-both : (a b : Bool) → a ≡ true → b ≡ false → bit a ≡ suc (bit b)
-bit-both a b p q = rw (p, q)
 
 unfoldable pub count : (ℕ → Bool) → List ℕ → ℕ
 count f [] = 0
@@ -59,11 +57,14 @@ module _ (f : ℕ → Bool) where
       omega (arith, count-length xs)
   count-room (x ∷ xs) (suc n) h e = omega (arith, bit-small (f x), count-room xs n (omega arith) e)
 
-  pub once-room : f 0 ≡ false → (l cells : List ℕ) → Each (λ n. (n < length cells) × (f (getD cells n 0) ≡ true)) l → Once l
-      → length l ≤ count f cells
+  -- a place whose entry passes
+  abbrev pub Passes : List ℕ → ℕ → Type 0
+  Passes cells n = (n < length cells) × (f (getD cells n 0) ≡ true)
+
+  pub once-room : f 0 ≡ false → (l cells : List ℕ) → Each (Passes cells) l → Once l → length l ≤ count f cells
   once-room z [] cells e o = omega arith
   once-room z (x ∷ xs) cells e o =
-      let rest : Each (λ n. (n < length (set cells x 0)) × (f (getD (set cells x 0) n 0) ≡ true)) xs = λ i h.
+      let rest : Each (Passes (set cells x 0)) xs = λ i h.
       let n : getD xs i 0 < length cells = e (suc i) (omega arith) .0 in
       (omega (arith, length-set cells x 0), ap f (getD-set-other cells x (getD xs i 0) 0 0 (λ q. o 0 (suc i) (omega arith) (omega arith) (sym q))) ∙ e (suc i) (omega arith) .1) in
       let less : length xs ≤ count f (set cells x 0) = once-room z xs (set cells x 0) rest (λ i j h k. o (suc i) (suc j) (omega arith) (omega arith)) in
@@ -98,6 +99,9 @@ module _ (l : List ℕ) (n : ℕ) where
         | yes p ↦ o i j h p (sym (more-before i before) ∙ q ∙ more-before j p)
         | no p ↦ e i before (sym (more-before i before) ∙ q ∙ more-last j (omega (arith, more-length)))
       ]
+
+pub each-one : (Q : ℕ → Type 0) (n : ℕ) → Q n → Each Q (n ∷ [])
+each-one Q n = each-more [] n Q (λ i h. absurd (omega arith))
 
 pub at-set : (Q : ℕ → Type 0) (l : List ℕ) (n v m : ℕ) → n < length l → (m ≡ n → Q v) → ((m ≡ n → ⊥) → Q (getD l m 0)) → Q (getD (set l n v) m 0)
 at-set Q l n v m h same other =

@@ -7,9 +7,10 @@ use mathlib.Core.Path.{_≡_, refl, sym, _∙_, ap, subst}
 use mathlib.Core.Bool.{Bool, true, false, cond, _||_}
 use mathlib.Core.List.{List, [], _∷_}
 use mathlib.Core.Logic.{inl, inr, ⊎-elim}
-use Prim.Native.Nat.{ℕ, zero, suc, _+_, _<_, _≤_, _/_, _%_}
+use Prim.Native.Nat.{ℕ, suc, _+_, _<_, _≤_, _/_, _%_}
 use native.Mathlib.Omega.{arith}
 use native.Mathlib.Decide.{decLt}
+use borrow.Author.Needs.{needs}
 use borrow.Author.Tests.{eq-eqb}
 use lib.ListN.{length, getD}
 use Rattle.utilities.specs.declared.CompassDir.{CompassDir}
@@ -18,18 +19,18 @@ use Rattle.utilities.specs.Compass.{orthogonal, opposite}
 use Rattle.fields.specs.declared.FieldCell.{FieldCell}
 use Rattle.fields.specs.declared.Stepped.the-variants.{Cell}
 use Rattle.fields.specs.Cell.{cell, Inside, cellAt, indexOf, stepped}
-use Rattle.fields.proofs.Steps.{Arrives, stepped-cell, steps-to, index-below, index-of-cell, cell-inside, cell-of-index}
+use Rattle.fields.proofs.Steps.{Arrives, stepped-cell, steps-to, step-back, index-below, index-of-cell, cell-inside, cell-of-index}
 use Rattle.integration_field.specs.Word.{isLos, isGoal, isBlocked, isImpassable}
 use Rattle.integration_field.specs.Diagonal.{wallAt, betweenWalls}
-use Rattle.started_field.specs.Sight.{Sight, marked, stopped, lineMarked, seen, firstSide, extended, sideTried, wallMet, neighbourLooked, looked, lookedAround}
+use Rattle.started_field.specs.Sight.{Sight, cornerWord, sightWord, listed, marked, stopped, lineMarked, seen, firstSide, extended, sideTried, wallMet, neighbourLooked, looked, lookedAround}
 use Rattle.started_field.specs.Lines.{Lines}
-use Rattle.started_field.proofs.Count.{Each, Once, count, once-room, at-set}
+use Rattle.started_field.proofs.Count.{Each, count, Passes, once-room, each-more, each-one, once-more, at-set}
 use Rattle.started_field.proofs.Words.{corner-flags}
-use Rattle.started_field.proofs.Kept.{isSide, listed, Found, Keeps, kept-marked, kept-line, kept-side, kept-wall, kept-looked, kept-around}
-use Rattle.started_field.proofs.Sides.{by-side, back, square, odd, side-opposite, side-sideways, sideways-back, sideways-away}
-use Rattle.started_field.proofs.Wave.{isMet, met-los, met-goal, met-blocked, met-wall, met, Wave, wave-keeps}
+use Rattle.started_field.proofs.Kept.{Found, Keeps, kept-marked, kept-line, kept-side, kept-wall, kept-looked, kept-around}
+use Rattle.started_field.proofs.Sides.{isSide, by-side, square, odd, side-opposite, side-sideways, sideways-back, sideways-away}
+use Rattle.started_field.proofs.Wave.{isMet, met-los, met-goal, met-blocked, met-wall, Free, met, Wave, wave-keeps}
 
--- a cell has a neighbour in its row, and one in its column
+-- a neighbour of a cell
 record Neighbour (c : FieldCell) : Type 0 where
   way : CompassDir
   at : FieldCell
@@ -39,93 +40,30 @@ record Neighbour (c : FieldCell) : Type 0 where
 abbrev neighbour : (c : FieldCell) (d : CompassDir) (n : FieldCell) → isSide d ≡ true → Arrives c d n → Neighbour c
 neighbour c d n o a = record { way = d; at = n; is-side = o; step = steps-to c d n a }
 
+-- a cell has a neighbour in its row, and one in its column
 module _ (c : FieldCell) (i : Inside c) where
-  abbrev InRow : Type 0
-  InRow = (n : Neighbour c) × (n .at .row ≡ c .row) × (n .at .column ≡ c .column → ⊥)
+  in-row : (n : Neighbour c) × (n .at .row ≡ c .row) × (n .at .column ≡ c .column → ⊥)
+  in-row = elim (decLt (c .column) 9) [
+    | yes h ↦ (neighbour c East (cell (c .column + 1) (c .row)) refl (search needs), refl, omega arith)
+    | no h ↦ (neighbour c West (cell 8 (c .row)) refl (search needs), refl, omega arith)
+  ]
 
-  abbrev InColumn : Type 0
-  InColumn = (n : Neighbour c) × (n .at .column ≡ c .column) × (n .at .row ≡ c .row → ⊥)
-
-  in-row : InRow
-  in-row = elim (decLt (c .column) 9) [ yes h ↦ east h | no h ↦ west h ]
-    where
-      east : c .column < 9 → InRow
-      east h =
-          let to = cell (c .column + 1) (c .row) in
-          let a : Arrives c East to = record {
-            pointing = refl;
-            column-from = omega arith;
-            row-from = omega arith;
-            column-at = omega arith;
-            row-at = omega arith;
-            within = omega arith;
-          } in
-          (neighbour c East to refl a, refl, omega arith)
-
-      west : (c .column < 9 → ⊥) → InRow
-      west h =
-          let to = cell 8 (c .row) in
-          let a : Arrives c West to = record {
-            pointing = refl;
-            column-from = omega arith;
-            row-from = omega arith;
-            column-at = omega arith;
-            row-at = omega arith;
-            within = omega arith;
-          } in
-          (neighbour c West to refl a, refl, omega arith)
-
-  in-column : InColumn
-  in-column = elim (decLt (c .row) 9) [ yes h ↦ south h | no h ↦ north h ]
-    where
-      south : c .row < 9 → InColumn
-      south h =
-          let to = cell (c .column) (c .row + 1) in
-          let a : Arrives c South to = record {
-            pointing = refl;
-            column-from = omega arith;
-            row-from = omega arith;
-            column-at = omega arith;
-            row-at = omega arith;
-            within = omega arith;
-          } in
-          (neighbour c South to refl a, refl, omega arith)
-
-      north : (c .row < 9 → ⊥) → InColumn
-      north h =
-          let to = cell (c .column) 8 in
-          let a : Arrives c North to = record {
-            pointing = refl;
-            column-from = omega arith;
-            row-from = omega arith;
-            column-at = omega arith;
-            row-at = omega arith;
-            within = omega arith;
-          } in
-          (neighbour c North to refl a, refl, omega arith)
+  in-column : (n : Neighbour c) × (n .at .column ≡ c .column) × (n .at .row ≡ c .row → ⊥)
+  in-column = elim (decLt (c .row) 9) [
+    | yes h ↦ (neighbour c South (cell (c .column) (c .row + 1)) refl (search needs), refl, omega arith)
+    | no h ↦ (neighbour c North (cell (c .column) 8) refl (search needs), refl, omega arith)
+  ]
 
 -- three different places that pass a test are no more than the count
-three : (f : ℕ → Bool) (cells : List ℕ) (a b c : ℕ) → f 0 ≡ false → a < length cells → b < length cells → c < length cells
-    → f (getD cells a 0) ≡ true → f (getD cells b 0) ≡ true → f (getD cells c 0) ≡ true
+three : (f : ℕ → Bool) (cells : List ℕ) (a b c : ℕ) → f 0 ≡ false → Passes f cells a → Passes f cells b → Passes f cells c
     → (a ≡ b → ⊥) → (a ≡ c → ⊥) → (b ≡ c → ⊥) → 3 ≤ count f cells
-three f cells a b c z ha hb hc ta tb tc ab ac bc = once-room f z (a ∷ b ∷ c ∷ []) cells all once
-  where
-    all : Each (λ n. (n < length cells) × (f (getD cells n 0) ≡ true)) (a ∷ b ∷ c ∷ [])
-    all zero h = (ha, ta)
-    all (suc zero) h = (hb, tb)
-    all (suc (suc zero)) h = (hc, tc)
-    all (suc (suc (suc i))) h = absurd (omega arith)
-
-    once : Once (a ∷ b ∷ c ∷ [])
-    once zero zero h k = absurd (omega arith)
-    once zero (suc zero) h k = ab
-    once zero (suc (suc zero)) h k = ac
-    once zero (suc (suc (suc j))) h k = absurd (omega arith)
-    once (suc zero) zero h k = absurd (omega arith)
-    once (suc zero) (suc zero) h k = absurd (omega arith)
-    once (suc zero) (suc (suc zero)) h k = bc
-    once (suc zero) (suc (suc (suc j))) h k = absurd (omega arith)
-    once (suc (suc i)) j h k = absurd (omega arith)
+three f cells a b c z pa pb pc ab ac bc =
+    let P = Passes f cells in
+    once-room f z (a ∷ b ∷ c ∷ []) cells
+    (each-more (a ∷ b ∷ []) c P (each-more (a ∷ []) b P (each-one P a pa) pb) pc)
+    (once-more (a ∷ b ∷ []) c
+    (once-more (a ∷ []) b (λ i j h k. absurd (omega arith)) (each-one (λ m. m ≡ b → ⊥) a ab))
+    (each-more (a ∷ []) b (λ m. m ≡ c → ⊥) (each-one (λ m. m ≡ c → ⊥) a ac) bc))
 
 index-column : (c : FieldCell) → Inside c → indexOf c % 10 ≡ c .column
 index-column c i = omega arith
@@ -142,7 +80,7 @@ marked-blocked value n s h v = go (isBlocked (getD (s .cells) n 0)) refl
   where
     go : (b : Bool) → isBlocked (getD (s .cells) n 0) ≡ b → isBlocked (getD (cond b s (listed value n s) .cells) n 0) ≡ true
     go true e = e
-    go false e = at-set (λ x. isBlocked x ≡ true) (s .cells) n (value + 0x4040000) n h (λ q. corner-flags value v .blocked-is) (λ q. absurd (q refl))
+    go false e = at-set (λ x. isBlocked x ≡ true) (s .cells) n (cornerWord value) n h (λ q. corner-flags value v .blocked-is) (λ q. absurd (q refl))
 
 -- nothing
 abbrev pub Never : ℕ → Type 0
@@ -205,10 +143,22 @@ module _ (goal : ℕ) (goal-in : goal < 100) (walls : ℕ → Bool) where
     First Kept Met = Wave goal walls 1 Odd Kept Met
 
     abbrev Frees : ℕ → Type 0
-    Frees n = (n < 100) × (n ≡ goal → ⊥)
+    Frees = Free goal walls
 
     pub first-keeps : (Kept Met : ℕ → Type 0) → Keeps cornerLine 1 walls IsGoal Frees (First Kept Met)
     first-keeps Kept Met = wave-keeps goal walls cornerLine lines 1 1 (omega arith) (omega arith) (omega arith) IsGoal Odd Kept Met away (next Kept)
+
+    -- throughout the first wave, of which these cells are BLOCKED and those are met
+    first-with : (Kept Met : ℕ → Type 0) (t : Sight) → First Never Never t → ((c : ℕ) → Kept c → isBlocked (getD (t .cells) c 0) ≡ true)
+        → ((c : ℕ) → Met c → isMet (getD (t .cells) c 0) ≡ true) → First Kept Met t
+    first-with Kept Met t p b m = record {
+      sound = p .sound;
+      met-least = p .met-least;
+      met-queued = p .met-queued;
+      all-next = p .all-next;
+      stays = λ c h. b c;
+      stays-met = λ c h. m c;
+    }
 
     abbrev look : CompassDir → Sight → Sight
     look d s = looked cornerLine 1 goal d (stepped (cellAt goal) d) s
@@ -239,14 +189,7 @@ module _ (goal : ℕ) (goal-in : goal < 100) (walls : ℕ → Bool) where
       this-in = index-below n (stepped-cell (cellAt goal) d n step .within)
 
       meets-by : (t : Sight) → First Never Never t → isMet (getD (t .cells) (indexOf n) 0) ≡ true → First Never This t
-      meets-by t p e = record {
-        sound = p .sound;
-        met-least = p .met-least;
-        met-queued = p .met-queued;
-        all-next = p .all-next;
-        stays = λ c h k. absurd k;
-        stays-met = λ c h k. subst (λ (m : ℕ). isMet (getD (t .cells) m 0) ≡ true) (sym k) e;
-      }
+      meets-by t p e = first-with Never This t p (λ c k. absurd k) (λ c k. subst (λ (m : ℕ). isMet (getD (t .cells) m 0) ≡ true) (sym k) e)
 
       meets : (t : Sight) → First Never Never t → First Never This (look d t)
       unfolding neighbourLooked seen
@@ -265,7 +208,7 @@ module _ (goal : ℕ) (goal-in : goal < 100) (walls : ℕ → Bool) where
           go false eb false eg false ew false el =
               meets-by (seen 1 (indexOf n) t)
               (first-keeps Never Never .sees goal d n t p refl o step (record { los-is = el; goal-is = eg; blocked-is = eb; impassable-is = ew }))
-              (at-set (λ y. isMet y ≡ true) (t .cells) (indexOf n) (1 + 0x10000) (indexOf n) (omega (arith, this-in, p .sound .room .full)) (λ q. refl) (λ q. absurd (q refl)))
+              (at-set (λ y. isMet y ≡ true) (t .cells) (indexOf n) (sightWord 1) (indexOf n) (omega (arith, this-in, p .sound .room .full)) (λ q. refl) (λ q. absurd (q refl)))
 
       pub neighbour-met : (s : Sight) → First Never Never s → isMet (getD (lookedAround cornerLine 1 goal orthogonal s .cells) (indexOf n) 0) ≡ true
       neighbour-met s p = around Never This d o meets s p .stays-met (indexOf n) this-in refl
@@ -274,24 +217,19 @@ module _ (goal : ℕ) (goal-in : goal < 100) (walls : ℕ → Bool) where
     first-meets s p =
         let t = lookedAround cornerLine 1 goal orthogonal s in
         let q = kept-around cornerLine 1 walls IsGoal Frees (First Never Never) (first-keeps Never Never) goal refl s p in
+        let full : length (t .cells) ≡ 100 = q .sound .room .full in
         let i = cell-inside goal goal-in in
         let a = in-row (cellAt goal) i in
         let b = in-column (cellAt goal) i in
         let ia = stepped-cell (cellAt goal) (a .0 .way) (a .0 .at) (a .0 .step) .within in
         let ib = stepped-cell (cellAt goal) (b .0 .way) (b .0 .at) (b .0 .step) .within in
-        let full : length (t .cells) ≡ 100 = q .sound .room .full in
-        let ra : indexOf (a .0 .at) / 10 ≡ goal / 10 = index-row (a .0 .at) ia ∙ a .1 in
-        let ca : indexOf (a .0 .at) % 10 ≡ goal % 10 → ⊥ = λ e. a .2 (sym (index-column (a .0 .at) ia) ∙ e) in
-        let cb : indexOf (b .0 .at) % 10 ≡ goal % 10 = index-column (b .0 .at) ib ∙ b .1 in
-        let rb : indexOf (b .0 .at) / 10 ≡ goal / 10 → ⊥ = λ e. b .2 (sym (index-row (b .0 .at) ib) ∙ e) in
         three isMet (t .cells) goal (indexOf (a .0 .at)) (indexOf (b .0 .at)) refl
-        (rw full goal-in) (rw full (index-below (a .0 .at) ia)) (rw full (index-below (b .0 .at) ib))
-        (ap isMet (q .sound .at-goal))
-        (neighbour-met (a .0 .way) (a .0 .at) (a .0 .is-side) (a .0 .step) s p)
-        (neighbour-met (b .0 .way) (b .0 .at) (b .0 .is-side) (b .0 .step) s p)
-        (λ e. ca (ap (λ (m : ℕ). m % 10) (sym e)))
-        (λ e. rb (ap (λ (m : ℕ). m / 10) (sym e)))
-        (λ e. rb (ap (λ (m : ℕ). m / 10) (sym e) ∙ ra))
+        (omega arith, ap isMet (q .sound .at-goal))
+        (omega arith, neighbour-met (a .0 .way) (a .0 .at) (a .0 .is-side) (a .0 .step) s p)
+        (omega arith, neighbour-met (b .0 .way) (b .0 .at) (b .0 .is-side) (b .0 .step) s p)
+        (λ e. a .2 (omega arith))
+        (λ e. b .2 (omega arith))
+        (λ e. b .2 (omega (arith, a .1)))
 
     -- a cell that hides the goal, and is no wall, is made a corner
     module _ (c : ℕ) (c-in : c < 100) (h : Hides c) (free : walls c ≡ false) where
@@ -312,27 +250,20 @@ module _ (goal : ℕ) (goal-in : goal < 100) (walls : ℕ → Bool) where
 
       -- the goal sees the wall, beside it the free cell, and beside the wall this one
       sees-wall : stepped (cellAt goal) (opposite (h .side)) ≡ Cell (h .wall-cell)
-      sees-wall = back (h .side) (h .wall-cell) (cellAt goal) side-side x-inside to-goal
+      sees-wall = step-back (h .wall-cell) (h .side) (cellAt goal) x-inside to-goal
 
       sees-free : stepped (cellAt goal) (opposite (h .way)) ≡ Cell (h .free-cell)
       sees-free =
-          back (h .way) (h .free-cell) (cellAt goal) (h .is-side) (stepped-cell (cellAt c) (h .side) (h .free-cell) (h .found .beside) .within)
+          step-back (h .free-cell) (h .way) (cellAt goal) (stepped-cell (cellAt c) (h .side) (h .free-cell) (h .found .beside) .within)
           (square (h .way) (h .side) (cellAt c) (h .wall-cell) (h .free-cell) (cellAt goal) (h .found .ahead) to-goal (h .found .beside))
 
       sees-this : stepped (cellAt (indexOf (h .wall-cell))) (opposite (h .way)) ≡ Cell (cellAt c)
       sees-this =
           ap (λ (y : FieldCell). stepped y (opposite (h .way))) (cell-of-index (h .wall-cell) x-inside)
-          ∙ back (h .way) (cellAt c) (h .wall-cell) (h .is-side) (cell-inside c c-in) (h .found .ahead)
+          ∙ step-back (cellAt c) (h .way) (h .wall-cell) (cell-inside c c-in) (h .found .ahead)
 
       blocks-by : (t : Sight) → First Never Never t → isBlocked (getD (t .cells) c 0) ≡ true → First Only Never t
-      blocks-by t p e = record {
-        sound = p .sound;
-        met-least = p .met-least;
-        met-queued = p .met-queued;
-        all-next = p .all-next;
-        stays = λ m k q. subst (λ (i : ℕ). isBlocked (getD (t .cells) i 0) ≡ true) (sym q) e;
-        stays-met = λ m k q. absurd q;
-      }
+      blocks-by t p e = first-with Only Never t p (λ m k. subst (λ (i : ℕ). isBlocked (getD (t .cells) i 0) ≡ true) (sym k) e) (λ m k. absurd k)
 
       mark-blocks : (t : Sight) → First Never Never t → First Only Never (marked (1 + 1 + 0) c t)
       mark-blocks t p =

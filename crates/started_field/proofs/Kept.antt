@@ -1,14 +1,14 @@
 -- What marking a cell and seeing a cell keep, a whole wave of sight keeps: one induction for every fact about sight.
 -- Assumes nothing.
 use mathlib.Core.Path.{_≡_, refl, sym, _∙_}
-use mathlib.Core.Bool.{Bool, true, false, cond, _||_}
-use mathlib.Core.List.{List, [], _∷_, _++_}
-use mathlib.Core.Logic.{_⊎_, inl, inr}
+use mathlib.Core.Bool.{Bool, true, false, cond, _||_, true≢false}
+use mathlib.Core.List.{List, [], _∷_}
+use mathlib.Core.Logic.{inl, inr}
 use Prim.Native.Nat.{ℕ, suc, _+_, _≤_}
 use native.Mathlib.Omega.{arith}
-use lib.ListN.{length, getD, set}
+use lib.ListN.{length, getD}
 use Rattle.utilities.specs.declared.CompassDir.{CompassDir}
-use Rattle.utilities.specs.declared.CompassDir.the-variants.{North, East, South, West, NorthEast, SouthEast, SouthWest, NorthWest, Zero}
+use Rattle.utilities.specs.declared.CompassDir.the-variants.{North, East, South, West}
 use Rattle.utilities.specs.Compass.{orthogonal, opposite}
 use Rattle.fields.specs.declared.FieldCell.{FieldCell}
 use Rattle.fields.specs.declared.Stepped.{Stepped}
@@ -18,6 +18,7 @@ use Rattle.integration_field.specs.Word.{isLos, isGoal, isBlocked, isImpassable
 use Rattle.integration_field.specs.Diagonal.{wallAt}
 use Rattle.started_field.specs.Sight.{
   Sight,
+  listed,
   marked,
   stopped,
   lineMarked,
@@ -35,32 +36,16 @@ use Rattle.started_field.specs.Sight.{
 }
 use Rattle.started_field.proofs.Count.{Each}
 use Rattle.started_field.proofs.Words.{Flags}
-
--- one of the four sides
-abbrev pub isSide : CompassDir → Bool
-isSide North = true
-isSide East = true
-isSide South = true
-isSide West = true
-isSide NorthEast = false
-isSide SouthEast = false
-isSide SouthWest = false
-isSide NorthWest = false
-isSide Zero = false
-
--- a cell that was not BLOCKED, made a corner
-abbrev pub listed : ℕ → ℕ → Sight → Sight
-listed value n s = record { cells = set (s .cells) n (value + 0x4040000); corners = s .corners ++ (n ∷ []); queue = s .queue }
+use Rattle.started_field.proofs.Sides.{isSide, Sideways}
 
 -- the wave cell `from` looks in direction d at the wall x, and tries a side: cell a is beside the wave cell, the corner b beside the wall
 pub record Found (walls : ℕ → Bool) (from : ℕ) (d : CompassDir) (x : FieldCell) (side : CompassDir) (a b : FieldCell) : Type 0 where
   pub ahead : stepped (cellAt from) d ≡ Cell x
   pub wall : walls (indexOf x) ≡ true
-  pub sideways : (side ≡ firstSide d) ⊎ (side ≡ opposite (firstSide d))
+  pub sideways : Sideways d side
   pub beside : stepped (cellAt from) side ≡ Cell a
   pub beside-free : walls (indexOf a) ≡ false
   pub cornered : stepped (cellAt (indexOf x)) side ≡ Cell b
-  pub corner-free : walls (indexOf b) ≡ false
 
 -- The facts `P` of sight are kept in a wave: over cells `From`, where the cells of lines are `Free`, and the walls stay `walls`.
 pub record Keeps (cornerLine : ℕ → List ℕ) (wave : ℕ) (walls : ℕ → Bool) (From Free : ℕ → Type 0) (P : Sight → Type 0) : Type 0 where
@@ -74,7 +59,7 @@ pub record Keeps (cornerLine : ℕ → List ℕ) (wave : ℕ) (walls : ℕ → B
       → Each Free (cornerLine (indexOf b)) × (length (cornerLine (indexOf b)) ≤ 10)
 
 or-false : (a b : Bool) → (a || b) ≡ false → (a ≡ false) × (b ≡ false)
-or-false true b e = let z : _≡_ {A = ℕ} 0 1 = cc in absurd (omega arith)
+or-false true b e = absurd (true≢false e)
 or-false false b e = (refl, e)
 
 module _ (cornerLine : ℕ → List ℕ) (wave : ℕ) (walls : ℕ → Bool) (From Free : ℕ → Type 0) (P : Sight → Type 0) (k : Keeps cornerLine wave walls From Free P) where
@@ -106,8 +91,7 @@ module _ (cornerLine : ℕ → List ℕ) (wave : ℕ) (walls : ℕ → Bool) (Fr
 
   -- the wave cell looks at a wall, in one of the four directions
   module _ (from : ℕ) (d : CompassDir) (x : FieldCell) (inWave : From from) (side-way : isSide d ≡ true) (ahead : stepped (cellAt from) d ≡ Cell x) (wall : walls (indexOf x) ≡ true) where
-    pub kept-side : (side : CompassDir) (s : Sight) → (side ≡ firstSide d) ⊎ (side ≡ opposite (firstSide d)) → P s
-        → P (sideTried cornerLine wave from (indexOf x) side s)
+    pub kept-side : (side : CompassDir) (s : Sight) → Sideways d side → P s → P (sideTried cornerLine wave from (indexOf x) side s)
     unfolding sideTried
     kept-side side s w p = go (stepped (cellAt from) side) (stepped (cellAt (indexOf x)) side) refl refl
       where
@@ -124,7 +108,6 @@ module _ (cornerLine : ℕ → List ℕ) (wave : ℕ) (walls : ℕ → Bool) (Fr
               beside = ea;
               beside-free = sym (k .same-walls s p (indexOf a)) ∙ et;
               cornered = eb;
-              corner-free = sym (k .same-walls s p (indexOf b)) ∙ eu;
             }) in
             kept-extended (indexOf b) s p (line .0) (line .1)
 

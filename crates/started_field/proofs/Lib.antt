@@ -1,8 +1,9 @@
 pub mod Count
 pub mod Words
+pub mod Before
+pub mod Sides
 pub mod Kept
 pub mod Room
-pub mod Sides
 pub mod Wave
 pub mod FirstWave
 pub mod Waves

@@ -1,68 +1,46 @@
--- Steps to the four sides: back again, around a square, and their parity.
+-- Steps to the four sides: around a square, and their parity.
 --     by-side                     what holds of the four sides holds of each
---     back                        a step is undone by the opposite step
 --     square                      two steps in either order arrive at the same cell
 --     odd                         a step changes the parity of column plus row
 --     sideways-away               a step and a step sideways do not come back
 -- Assumes nothing.
 use mathlib.Core.Path.{_≡_, refl, sym, subst}
-use mathlib.Core.Bool.{true, false}
+use mathlib.Core.Bool.{Bool, true, false, true≢false}
 use mathlib.Core.Logic.{_⊎_, inl, inr, ⊎-elim}
-use Prim.Native.Nat.{ℕ, _+_, _%_}
+use Prim.Native.Nat.{_+_, _%_}
 use native.Mathlib.Omega.{arith}
 use Rattle.utilities.specs.declared.CompassDir.{CompassDir}
 use Rattle.utilities.specs.declared.CompassDir.the-variants.{North, East, South, West, NorthEast, SouthEast, SouthWest, NorthWest, Zero}
-use Rattle.utilities.specs.Compass.{differences, points, opposite}
+use Rattle.utilities.specs.Compass.{opposite}
 use Rattle.fields.specs.declared.FieldCell.{FieldCell}
 use Rattle.fields.specs.declared.Stepped.the-variants.{Cell}
-use Rattle.fields.specs.Cell.{Inside, stepped}
+use Rattle.fields.specs.Cell.{stepped}
 use Rattle.fields.proofs.Steps.{Arrives, stepped-cell, steps-to}
+use borrow.Author.Needs.{needs}
 use Rattle.started_field.specs.Sight.{firstSide}
-use Rattle.started_field.proofs.Kept.{isSide}
 
-pub false-true : {A : Type 0} → false ≡ true → A
-false-true e = let z : _≡_ {A = ℕ} 0 1 = cc in absurd (omega arith)
+-- one of the four sides
+abbrev pub isSide : CompassDir → Bool
+isSide North = true
+isSide East = true
+isSide South = true
+isSide West = true
+isSide NorthEast = false
+isSide SouthEast = false
+isSide SouthWest = false
+isSide NorthWest = false
+isSide Zero = false
 
 pub by-side : (Q : CompassDir → Type 0) → Q North → Q East → Q South → Q West → (d : CompassDir) → isSide d ≡ true → Q d
 by-side Q n e s w North o = n
 by-side Q n e s w East o = e
 by-side Q n e s w South o = s
 by-side Q n e s w West o = w
-by-side Q n e s w NorthEast o = false-true o
-by-side Q n e s w SouthEast o = false-true o
-by-side Q n e s w SouthWest o = false-true o
-by-side Q n e s w NorthWest o = false-true o
-by-side Q n e s w Zero o = false-true o
-
--- the four differences of a direction are those of its opposite, the other way round
-record Turned (d : CompassDir) : Type 0 where
-  points-back : points (opposite d) ≡ true
-  east-west : differences (opposite d) .east ≡ differences d .west
-  west-east : differences (opposite d) .west ≡ differences d .east
-  south-north : differences (opposite d) .south ≡ differences d .north
-  north-south : differences (opposite d) .north ≡ differences d .south
-  one-way : (differences d .east + differences d .west + differences d .south + differences d .north) ≡ 1
-
-turned : (d : CompassDir) → isSide d ≡ true → Turned d
-turned = by-side Turned of-north of-east of-south of-west
-  where
-    of-north : Turned North
-    of-north = record { points-back = refl; east-west = refl; west-east = refl; south-north = refl; north-south = refl; one-way = refl }
-
-    of-east : Turned East
-    of-east = record { points-back = refl; east-west = refl; west-east = refl; south-north = refl; north-south = refl; one-way = refl }
-
-    of-south : Turned South
-    of-south = record { points-back = refl; east-west = refl; west-east = refl; south-north = refl; north-south = refl; one-way = refl }
-
-    of-west : Turned West
-    of-west = record { points-back = refl; east-west = refl; west-east = refl; south-north = refl; north-south = refl; one-way = refl }
-
-pub back : (d : CompassDir) (c n : FieldCell) → isSide d ≡ true → Inside c → stepped c d ≡ Cell n → stepped n (opposite d) ≡ Cell c
-back d c n o i e =
-    let a = stepped-cell c d n e in
-    let t = turned d o in
-    steps-to n (opposite d) c (record { pointing = t .points-back; column-from = omega arith; row-from = omega arith; column-at = omega arith; row-at = omega arith; within = i })
+by-side Q n e s w NorthEast o = absurd (true≢false (sym o))
+by-side Q n e s w SouthEast o = absurd (true≢false (sym o))
+by-side Q n e s w SouthWest o = absurd (true≢false (sym o))
+by-side Q n e s w NorthWest o = absurd (true≢false (sym o))
+by-side Q n e s w Zero o = absurd (true≢false (sym o))
 
 pub square : (d side : CompassDir) (c x a g : FieldCell) → stepped c d ≡ Cell x → stepped x side ≡ Cell g → stepped c side ≡ Cell a
     → stepped a d ≡ Cell g
@@ -70,13 +48,13 @@ square d side c x a g ex eg ea =
     let p = stepped-cell c d x ex in
     let q = stepped-cell x side g eg in
     let r = stepped-cell c side a ea in
-    steps-to a d g (record { pointing = p .pointing; column-from = omega arith; row-from = omega arith; column-at = omega arith; row-at = omega arith; within = q .within })
+    steps-to a d g (search (needs, p .pointing, q .within))
 
 pub odd : (d : CompassDir) (c n : FieldCell) → isSide d ≡ true → stepped c d ≡ Cell n → (c .column + c .row + n .column + n .row) % 2 ≡ 1
 odd d c n o e =
-    let a = stepped-cell c d n e in
-    let t = turned d o in
-    omega arith
+    by-side (λ d. Arrives c d n → (c .column + c .row + n .column + n .row) % 2 ≡ 1)
+    (λ a. omega arith) (λ a. omega arith) (λ a. omega arith) (λ a. omega arith)
+    d o (stepped-cell c d n e)
 
 -- a direction sideways to d
 abbrev pub Sideways : CompassDir → CompassDir → Type 0

@@ -1,11 +1,11 @@
--- The theorems at the started field of costs and a step.
---     started-sizes      theorem (a): 100 places, and any falling number of at least 100
---     any-number         .. gives the same sight
---     started-field      theorems (b) and (c), for every step that is accepted
---     answer-told        the same of what `init` answers
+-- The started field of costs and a step.
+--     started-sizes, any-number    100 places and any falling number of at least 100 give the sight that is defined without either
+--     started-field                what it is, for every step that is accepted
+--     accepted                     what an accepted `init` is given
+--     answered, answer-told        the same of what `init` answers
 -- Assumes nothing.
 use mathlib.Core.Path.{_≡_, refl, sym, _∙_, ap}
-use mathlib.Core.Bool.{Bool, true, false, cond, not}
+use mathlib.Core.Bool.{Bool, true, false, cond, not, true≢false}
 use mathlib.Core.List.{List}
 use Prim.Native.Nat.{ℕ, _<_, _≤_}
 use native.Mathlib.Omega.{arith}
@@ -15,6 +15,7 @@ use borrow.Author.Tests.{eqb-true, eqb-false}
 use Rattle.route.specs.Step.{goalOf, isWindow, windowCells, stepNumber}
 use Rattle.route.proofs.Accepted.{accepted-goal, accepted-window}
 use Rattle.route.proofs.Windows.{window-at, window-few, window-increases}
+use Rattle.integration_field.specs.declared.IntegrationField.{IntegrationField}
 use Rattle.integration_field.specs.Listed.{withCorners}
 use Rattle.integration_field.proofs.Lists.{padded-length, padded-beyond, corners-listed}
 use Rattle.started_field.specs.Sight.{walls, sightAfter}
@@ -36,7 +37,6 @@ use Rattle.started_field.specs.declared.InitAnswer.{InitAnswer}
 use Rattle.started_field.proofs.Waves.{sizes, goal-started}
 use Rattle.started_field.proofs.Window.{window-started}
 use Rattle.started_field.proofs.Lines.{corner-lines}
-use Rattle.started_field.proofs.Wave.{true-false}
 
 module _ (costs : List ℕ) (hundred : length costs ≡ 100) where
   pub started-sizes : (goal : ℕ) → goal < 100 → Sizes (cornerLine goal) (walls costs) goal
@@ -67,13 +67,13 @@ module _ (costs : List ℕ) (hundred : length costs ≡ 100) where
       go true e =
           let w = accepted-window step ok e in
           made step _ (windowCells step) (omega (arith, window-few step w))
-          (λ f. true-false (sym e ∙ f))
+          (λ f. absurd (true≢false (sym e ∙ f)))
           (λ f. window-started costs hundred (windowCells step) (λ i h. window-at step w i h .below) (λ i j h k q. omega (arith, window-increases step w i j h k)))
       go false e =
           let h = accepted-goal step ok e in
           made step _ (sightFrom costs (goalOf step) .corners) (started-sizes (goalOf step) h .corners-fit 100)
           (λ f. goal-started (goalOf step) h costs hundred (cornerLine (goalOf step)) (corner-lines (goalOf step)) 100)
-          (λ f. true-false (sym f ∙ e))
+          (λ f. absurd (true≢false (sym f ∙ e)))
 
 -- what an accepted `init` is given
 pub accepted : (costs step : List ℕ) → initNumber costs step ≡ 0 → (length costs ≡ 100) × (stepNumber step ≡ 0)
@@ -84,16 +84,20 @@ accepted costs step e = go (eqb (length costs) 100) refl e
     go true q z = (eqb-true (length costs) 100 q, z)
     go false q z = absurd (omega arith)
 
-pub accepted-field : (costs step : List ℕ) → initNumber costs step ≡ 0 → StartedField costs step (started costs step)
+accepted-field : (costs step : List ℕ) → initNumber costs step ≡ 0 → StartedField costs step (started costs step)
 accepted-field costs step e =
     let a = accepted costs step e in
     started-field costs (a .0) step (a .1)
 
--- the same of an answer of `init`: where its number is 0, its field is told
-pub answer-told : (costs step : List ℕ) (r : InitAnswer) → r ≡ initAnswer costs step → r .number ≡ 0 → StartedField costs step (r .field)
+-- what holds of the started field of an accepted step holds of an answer of `init` whose number is 0
+pub answered : (costs step : List ℕ) (P : IntegrationField → Type 0) → (initNumber costs step ≡ 0 → P (started costs step))
+    → (r : InitAnswer) → r ≡ initAnswer costs step → r .number ≡ 0 → P (r .field)
 unfolding initAnswer
-answer-told costs step r e n = go (eqb (initNumber costs step) 0) refl e
+answered costs step P p r e n = go (eqb (initNumber costs step) 0) refl e
   where
-    go : (b : Bool) → eqb (initNumber costs step) 0 ≡ b → r ≡ cond b (initAccepted (started costs step)) (initRefused (initNumber costs step)) → StartedField costs step (r .field)
-    go true q f = rw f (accepted-field costs step (eqb-true (initNumber costs step) 0 q))
+    go : (b : Bool) → eqb (initNumber costs step) 0 ≡ b → r ≡ cond b (initAccepted (started costs step)) (initRefused (initNumber costs step)) → P (r .field)
+    go true q f = rw f (p (eqb-true (initNumber costs step) 0 q))
     go false q f = absurd (eqb-false (initNumber costs step) 0 q (sym (ap (λ (a : InitAnswer). a .number) f) ∙ n))
+
+pub answer-told : (costs step : List ℕ) (r : InitAnswer) → r ≡ initAnswer costs step → r .number ≡ 0 → StartedField costs step (r .field)
+answer-told costs step = answered costs step (StartedField costs step) (accepted-field costs step)

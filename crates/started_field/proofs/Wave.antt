@@ -1,7 +1,7 @@
 -- What holds of sight throughout a wave: its cells, its list, and how many cells it has met.
 -- Assumes nothing.
 use mathlib.Core.Path.{_≡_, refl, sym, _∙_, ap, subst}
-use mathlib.Core.Bool.{Bool, true, false, _||_}
+use mathlib.Core.Bool.{Bool, true, false, _||_, or-true, true≢false}
 use mathlib.Core.List.{List, [], _∷_, _++_}
 use Prim.Native.Nat.{ℕ, suc, _+_, _<_, _≤_}
 use native.Mathlib.Omega.{arith}
@@ -13,23 +13,20 @@ use Rattle.fields.specs.Cell.{cellAt, indexOf, stepped}
 use Rattle.fields.proofs.Steps.{stepped-cell, index-below}
 use Rattle.integration_field.specs.Word.{isLos, isGoal, isBlocked, isImpassable}
 use Rattle.integration_field.specs.Diagonal.{wallAt}
-use Rattle.started_field.specs.Sight.{Sight, seen}
+use Rattle.started_field.specs.Sight.{Sight, cornerWord, sightWord, listed, seen}
 use Rattle.started_field.specs.Lines.{Lines}
 use Rattle.started_field.specs.Room.{Room}
 use Rattle.started_field.specs.StartedCell.{Among, SightCell}
 use Rattle.started_field.specs.StartedCell.SightCell.{in-sight, corner}
-use Rattle.started_field.proofs.Count.{Each, bit, count, count-set, count-room, each-more, at-set, more-length, more-before, more-last}
+use Rattle.started_field.proofs.Count.{Each, bit, bit-small, count, count-set, count-room, each-more, at-set, more-length, more-before, more-last}
 use Rattle.started_field.proofs.Words.{Flags, corner-flags, seen-flags}
-use Rattle.started_field.proofs.Kept.{isSide, listed, Found, Keeps}
+use Rattle.started_field.proofs.Kept.{Found, Keeps}
+use Rattle.started_field.proofs.Sides.{isSide}
 use Rattle.started_field.proofs.Room.{room-listed, room-seen, walls-stay}
 
 -- LOS, GOAL, BLOCKED or a wall: nothing is left to see there
 abbrev pub isMet : ℕ → Bool
 isMet x = isLos x || (isGoal x || (isBlocked x || isImpassable x))
-
-or-true : (a : Bool) → (a || true) ≡ true
-or-true true = refl
-or-true false = refl
 
 pub met-los : (x : ℕ) → isLos x ≡ true → isMet x ≡ true
 met-los x e = rw e
@@ -42,13 +39,6 @@ met-blocked x e = rw (e, or-true (isGoal x)) (or-true (isLos x))
 
 pub met-wall : (x : ℕ) → isImpassable x ≡ true → isMet x ≡ true
 met-wall x e = rw (e, or-true (isBlocked x), or-true (isGoal x)) (or-true (isLos x))
-
-pub true-false : {A : Type 0} → true ≡ false → A
-true-false e = let z : _≡_ {A = ℕ} 0 1 = cc in absurd (omega arith)
-
-bit-most : (b : Bool) → bit b ≤ 1
-bit-most true = omega arith
-bit-most false = omega arith
 
 among-more : (x n : ℕ) (l : List ℕ) → Among x l → Among x (l ++ n ∷ [])
 among-more x n l a = (a .0, omega (arith, more-length l n, a .1), more-before l n (a .0) (a .1) ∙ a .2)
@@ -65,53 +55,50 @@ module _ (goal : ℕ) (walls : ℕ → Bool) where
     pub at-other : (i : ℕ) → i < 100 → walls i ≡ false → (i ≡ goal → ⊥) → SightCell (getD (s .cells) i 0)
     pub all-listed : (i : ℕ) → i < 100 → isBlocked (getD (s .cells) i 0) ≡ true → Among i (s .corners)
 
-  -- a word that is no wall's, written at a cell that is neither wall nor goal
-  module _ (s : Sight) (p : Sound s) (n v : ℕ) (h : n < 100) (apart : n ≡ goal → ⊥) (w : wallAt (s .cells) n ≡ false) (f : isImpassable v ≡ false) (c : SightCell v) where
-    fits : n < length (s .cells)
-    fits = omega (arith, p .room .full)
-
-    goal-after : getD (set (s .cells) n v) goal 0 ≡ 0x20000
-    goal-after = at-set (λ x. x ≡ 0x20000) (s .cells) n v goal fits (λ q. absurd (apart (sym q))) (λ q. p .at-goal)
-
-    wall-after : (i : ℕ) → i < 100 → walls i ≡ true → getD (set (s .cells) n v) i 0 ≡ 0x200FFFF
-    wall-after i k t = at-set (λ x. x ≡ 0x200FFFF) (s .cells) n v i fits (λ q. true-false (sym t ∙ ap walls q ∙ sym (p .same n) ∙ w)) (λ q. p .at-wall i k t)
-
-    other-after : (i : ℕ) → i < 100 → walls i ≡ false → (i ≡ goal → ⊥) → SightCell (getD (set (s .cells) n v) i 0)
-    other-after i k t q = at-set SightCell (s .cells) n v i fits (λ e. c) (λ e. p .at-other i k t q)
+  -- a word that is no wall's is written at a cell that is neither wall nor goal
+  sound-written : (s : Sight) → Sound s → (n v : ℕ) (corners queue : List ℕ) → n < 100 → (n ≡ goal → ⊥) → wallAt (s .cells) n ≡ false
+      → isImpassable v ≡ false → SightCell v
+      → Room (record { cells = set (s .cells) n v; corners = corners; queue = queue })
+      → ((i : ℕ) → i < 100 → isBlocked (getD (set (s .cells) n v) i 0) ≡ true → Among i corners)
+      → Sound (record { cells = set (s .cells) n v; corners = corners; queue = queue })
+  sound-written s p n v corners queue h apart w f c room all =
+      let fits : n < length (s .cells) = omega (arith, p .room .full) in
+      record {
+        room = room;
+        same = walls-stay walls (s .cells) n v fits (p .same) w f;
+        at-goal = at-set (λ x. x ≡ 0x20000) (s .cells) n v goal fits (λ q. absurd (apart (sym q))) (λ q. p .at-goal);
+        at-wall = λ i k t. at-set (λ x. x ≡ 0x200FFFF) (s .cells) n v i fits
+            (λ q. absurd (true≢false (sym t ∙ ap walls q ∙ sym (p .same n) ∙ w)))
+            (λ q. p .at-wall i k t);
+        at-other = λ i k t q. at-set SightCell (s .cells) n v i fits (λ e. c) (λ e. p .at-other i k t q);
+        all-listed = all;
+      }
 
   pub sound-listed : (s : Sight) → Sound s → (value n : ℕ) → n < 100 → (n ≡ goal → ⊥) → value ≤ 110 → wallAt (s .cells) n ≡ false
       → isBlocked (getD (s .cells) n 0) ≡ false → Sound (listed value n s)
   sound-listed s p value n h apart v w b =
-      let f = corner-flags value (omega arith) in
-      let c : SightCell (value + 0x4040000) = corner value v refl in
-      record {
-        room = room-listed s (p .room) value n h (omega arith) b;
-        same = walls-stay walls (s .cells) n (value + 0x4040000) (omega (arith, p .room .full)) (p .same) w (f .impassable-is);
-        at-goal = goal-after s p n (value + 0x4040000) h apart w (f .impassable-is) c;
-        at-wall = wall-after s p n (value + 0x4040000) h apart w (f .impassable-is) c;
-        at-other = other-after s p n (value + 0x4040000) h apart w (f .impassable-is) c;
-        all-listed = λ i k. at-set (λ x. isBlocked x ≡ true → Among i (s .corners ++ n ∷ [])) (s .cells) n (value + 0x4040000) i (omega (arith, p .room .full))
-            (λ q e. subst (λ m. Among m (s .corners ++ n ∷ [])) (sym q) (among-last n (s .corners)))
-            (λ q e. among-more i n (s .corners) (p .all-listed i k e));
-      }
+      sound-written s p n (cornerWord value) (s .corners ++ n ∷ []) (s .queue) h apart w (corner-flags value (omega arith) .impassable-is) (corner value v refl)
+      (room-listed s (p .room) value n h (omega arith) b)
+      (λ i k. at-set (λ x. isBlocked x ≡ true → Among i (s .corners ++ n ∷ [])) (s .cells) n (cornerWord value) i (omega (arith, p .room .full))
+      (λ q e. subst (λ m. Among m (s .corners ++ n ∷ [])) (sym q) (among-last n (s .corners)))
+      (λ q e. among-more i n (s .corners) (p .all-listed i k e)))
 
   pub sound-seen : (s : Sight) → Sound s → (wave n : ℕ) → n < 100 → 1 ≤ wave → wave ≤ 99 → Flags (getD (s .cells) n 0) false false false false
       → Sound (seen wave n s)
   unfolding seen
   sound-seen s p wave n h least most was =
       let f = seen-flags wave (omega arith) in
-      let c : SightCell (wave + 0x10000) = in-sight wave least most refl in
-      let apart : n ≡ goal → ⊥ = λ q. true-false (sym (ap isGoal (p .at-goal)) ∙ ap (λ (m : ℕ). isGoal (getD (s .cells) m 0)) (sym q) ∙ was .goal-is) in
-      record {
-        room = room-seen s (p .room) wave n h (omega arith) (was .los-is) (was .blocked-is);
-        same = walls-stay walls (s .cells) n (wave + 0x10000) (omega (arith, p .room .full)) (p .same) (was .impassable-is) (f .impassable-is);
-        at-goal = goal-after s p n (wave + 0x10000) h apart (was .impassable-is) (f .impassable-is) c;
-        at-wall = wall-after s p n (wave + 0x10000) h apart (was .impassable-is) (f .impassable-is) c;
-        at-other = other-after s p n (wave + 0x10000) h apart (was .impassable-is) (f .impassable-is) c;
-        all-listed = λ i k. at-set (λ x. isBlocked x ≡ true → Among i (s .corners)) (s .cells) n (wave + 0x10000) i (omega (arith, p .room .full))
-            (λ q e. true-false (sym e ∙ f .blocked-is))
-            (λ q e. p .all-listed i k e);
-      }
+      sound-written s p n (sightWord wave) (s .corners) (s .queue ++ n ∷ []) h
+      (λ q. true≢false (sym (ap isGoal (p .at-goal)) ∙ ap (λ (m : ℕ). isGoal (getD (s .cells) m 0)) (sym q) ∙ was .goal-is))
+      (was .impassable-is) (f .impassable-is) (in-sight wave least most refl)
+      (room-seen s (p .room) wave n h (omega arith) (was .los-is) (was .blocked-is))
+      (λ i k. at-set (λ x. isBlocked x ≡ true → Among i (s .corners)) (s .cells) n (sightWord wave) i (omega (arith, p .room .full))
+      (λ q e. absurd (true≢false (sym e ∙ f .blocked-is)))
+      (λ q e. p .all-listed i k e))
+
+  -- cells that lines may mark
+  abbrev pub Free : ℕ → Type 0
+  Free n = (n < 100) × (n ≡ goal → ⊥)
 
   -- how many cells sight has met
   abbrev pub met : Sight → ℕ
@@ -130,21 +117,17 @@ module _ (goal : ℕ) (walls : ℕ → Bool) where
   module _ (cornerLine : ℕ → List ℕ) (lines : Lines goal cornerLine) (wave least : ℕ) (first : 1 ≤ wave) (hundred : wave ≤ 100) (under : wave ≤ least) (From Next Kept Met : ℕ → Type 0)
       (away : (from : ℕ) (d : CompassDir) (x : FieldCell) (side : CompassDir) (a b : FieldCell) → From from → isSide d ≡ true → Found walls from d x side a b → indexOf b ≡ goal → ⊥)
       (next : (from : ℕ) (d : CompassDir) (n : FieldCell) → From from → isSide d ≡ true → stepped (cellAt from) d ≡ Cell n → walls (indexOf n) ≡ false → (Kept (indexOf n) → ⊥) → Next (indexOf n)) where
-    -- cells that lines mark
-    abbrev pub Free : ℕ → Type 0
-    Free n = (n < 100) × (n ≡ goal → ⊥)
-
     marks : (value n : ℕ) (s : Sight) → Wave least Next Kept Met s → Free n → value ≤ wave + 10 → wallAt (s .cells) n ≡ false
         → isBlocked (getD (s .cells) n 0) ≡ false → Wave least Next Kept Met (listed value n s)
     marks value n s p f v w b =
         let h : n < 100 = f .0 in
-        let x = value + 0x4040000 in
+        let x = cornerWord value in
         let fit : n < length (s .cells) = omega (arith, p .sound .room .full) in
         let t : isBlocked x ≡ true = corner-flags value (omega arith) .blocked-is in
         let now : isMet x ≡ true = met-blocked x t in
         let after : bit (isMet x) ≡ 1 = ap bit now in
         let more = count-set isMet (s .cells) n x fit in
-        let small = bit-most (isMet (getD (s .cells) n 0)) in
+        let small = bit-small (isMet (getD (s .cells) n 0)) in
         record {
           sound = sound-listed s (p .sound) value n h (f .1) (omega arith) w b;
           met-least = omega (arith, p .met-least);
@@ -160,7 +143,7 @@ module _ (goal : ℕ) (walls : ℕ → Bool) where
     unfolding seen
     sees from d n s p inWave o e f =
         let h : indexOf n < 100 = index-below n (stepped-cell (cellAt from) d n e .within) in
-        let x = wave + 0x10000 in
+        let x = sightWord wave in
         let fit : indexOf n < length (s .cells) = omega (arith, p .sound .room .full) in
         let not-met : isMet (getD (s .cells) (indexOf n) 0) ≡ false = rw (f .los-is, f .goal-is, f .blocked-is, f .impassable-is) in
         let roomy : met s < length (s .cells) = count-room isMet (s .cells) (indexOf n) fit not-met in
@@ -174,9 +157,9 @@ module _ (goal : ℕ) (walls : ℕ → Bool) where
           met-least = omega (arith, p .met-least);
           met-queued = λ q. omega (arith, p .met-least);
           all-next = each-more (s .queue) (indexOf n) Next (p .all-next)
-              (next from d n inWave o e (sym (p .sound .same (indexOf n)) ∙ f .impassable-is) (λ q. true-false (sym (p .stays (indexOf n) h q) ∙ f .blocked-is)));
+              (next from d n inWave o e (sym (p .sound .same (indexOf n)) ∙ f .impassable-is) (λ q. true≢false (sym (p .stays (indexOf n) h q) ∙ f .blocked-is)));
           stays = λ c k q. at-set (λ y. isBlocked y ≡ true) (s .cells) (indexOf n) x c fit
-              (λ i. true-false (sym (p .stays c k q) ∙ ap (λ (m : ℕ). isBlocked (getD (s .cells) m 0)) i ∙ f .blocked-is))
+              (λ i. absurd (true≢false (sym (p .stays c k q) ∙ ap (λ (m : ℕ). isBlocked (getD (s .cells) m 0)) i ∙ f .blocked-is)))
               (λ i. p .stays c k q);
           stays-met = λ c k q. at-set (λ y. isMet y ≡ true) (s .cells) (indexOf n) x c fit (λ i. now) (λ i. p .stays-met c k q);
         }

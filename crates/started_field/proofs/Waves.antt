@@ -1,18 +1,17 @@
 -- Sight, wave by wave, over costs and a goal.
 --     ended           an empty queue changes nothing more
 --     sight-room      every wave begins with room
---     sizes           theorem (a)
---     goal-started    theorems (b) and (c)
+--     sizes           its lists fit 100 places, and it ends before its 100th wave
+--     goal-started    what each cell of a field started with a goal is
 -- Assumes nothing.
 use mathlib.Core.Path.{_≡_, refl, sym, _∙_, ap, subst}
-use mathlib.Core.Bool.{Bool, true, false, cond}
+use mathlib.Core.Bool.{Bool, true, false, true≢false}
 use mathlib.Core.List.{List, [], _∷_}
 use Prim.Native.Nat.{ℕ, zero, suc, _+_, _-_, _<_, _≤_}
 use native.Mathlib.Omega.{arith}
 use native.Mathlib.Decide.{ℕ-discrete}
-use borrow.Author.Tests.{eqb-true, eqb-false}
-use lib.Dec.{eqb}
-use lib.ListN.{length, getD, length-set, length-map}
+use native.Mathlib.Nat.{zero-add, suc-add}
+use lib.ListN.{length, getD, length-set}
 use lib.Seq.{getD-set-same}
 use Rattle.utilities.specs.declared.CompassDir.{CompassDir}
 use Rattle.fields.specs.declared.FieldCell.{FieldCell}
@@ -20,23 +19,20 @@ use Rattle.fields.specs.declared.Stepped.the-variants.{Cell}
 use Rattle.fields.specs.Cell.{cellAt, indexOf, stepped}
 use Rattle.integration_field.specs.Word.{isGoal, isBlocked, isImpassable}
 use Rattle.integration_field.specs.Diagonal.{wallAt}
-use Rattle.started_field.specs.Sight.{wallOr, walls, withGoal, Sight, waveLooked, sightAfter}
+use Rattle.started_field.specs.Sight.{walls, withGoal, Sight, begun, waveLooked, sightAfter}
 use Rattle.started_field.specs.Lines.{Lines}
 use Rattle.started_field.specs.Room.{Room}
 use Rattle.started_field.specs.Sizes.{Sizes}
 use Rattle.started_field.specs.StartedCell.{SightCell, GoalStays, GoalStarted}
 use Rattle.started_field.specs.StartedCell.SightCell.{in-sight, corner, unseen}
-use Rattle.started_field.proofs.Count.{Each, Once, count, count-length, once-room, at-set}
-use Rattle.started_field.proofs.Words.{word-at, corner-flags, seen-flags}
-use Rattle.started_field.proofs.Kept.{isSide, Found, kept-around, kept-wave}
+use Rattle.started_field.proofs.Count.{Each, count, count-length, Passes, once-room, each-one, at-set}
+use Rattle.started_field.proofs.Words.{corner-flags, seen-flags}
+use Rattle.started_field.proofs.Kept.{Found, kept-around, kept-wave}
 use Rattle.started_field.proofs.Room.{room-begins, room-corners, room-queued}
-use Rattle.started_field.proofs.Sides.{false-true}
-use Rattle.started_field.proofs.Wave.{isMet, true-false, Sound, met, Wave, wave-keeps}
+use Rattle.started_field.proofs.Sides.{isSide}
+use Rattle.started_field.proofs.Wave.{isMet, Sound, Free, met, Wave, wave-keeps}
+use Rattle.started_field.proofs.Before.{walls-length, Before, chosen, unchosen, wall-word, other-word, only-wall, fails}
 use Rattle.started_field.proofs.FirstWave.{Never, Hides, goal-found, hides-even, IsGoal, First, first-keeps, first-meets, first-blocks}
-
--- what a wave begins with
-abbrev pub begun : Sight → Sight
-begun s = record { cells = s .cells; corners = s .corners; queue = [] }
 
 sound-begins : (goal : ℕ) (walls : ℕ → Bool) (s : Sight) → Sound goal walls s → Sound goal walls (begun s)
 sound-begins goal walls s p =
@@ -53,78 +49,35 @@ module _ (cornerLine : ℕ → List ℕ) (cells : List ℕ) (goal : ℕ) where
 
   pub ended : (k n : ℕ) → k ≤ n → sightAfter cornerLine cells goal k .queue ≡ []
       → sightAfter cornerLine cells goal n ≡ sightAfter cornerLine cells goal k
-  ended k n h e = go (n - k) n (omega arith)
+  ended k n h e = let q : (n - k) + k ≡ n = omega arith in rw q at (go (n - k))
     where
-      go : (j m : ℕ) → m ≡ j + k → sightAfter cornerLine cells goal m ≡ sightAfter cornerLine cells goal k
-      go zero m q = ap (sightAfter cornerLine cells goal) (none m q)
-        where
-          none : (m : ℕ) → m ≡ 0 + k → m ≡ k
-          none m q = omega arith
-      go (suc j) m q =
-          let rest = go j (j + k) refl in
-          ap (sightAfter cornerLine cells goal) (next m j q) ∙ one-more (j + k) (ap (λ (t : Sight). t .queue) rest ∙ e) ∙ rest
-        where
-          next : (m j : ℕ) → m ≡ suc j + k → m ≡ suc (j + k)
-          next m j q = omega arith
+      go : (j : ℕ) → sightAfter cornerLine cells goal (j + k) ≡ sightAfter cornerLine cells goal k
+      go zero = rw zero-add
+      go (suc j) = rw suc-add (one-more (j + k) (ap (λ (t : Sight). t .queue) (go j) ∙ e) ∙ go j)
 
 -- the words before sight
 module _ (goal : ℕ) (goal-in : goal < 100) (costs : List ℕ) (hundred : length costs ≡ 100) where
   abbrev pub wallsOf : ℕ → Bool
   wallsOf n = wallAt (withGoal goal (walls costs)) n
 
-  walls-length : length (walls costs) ≡ 100
-  unfolding walls
-  walls-length = length-map costs wallOr ∙ hundred
+  abbrev Is : ℕ → ℕ → Type 0
+  Is = Before costs (λ i. i ≡ goal) 0x20000
 
-  -- what a cell is before sight
-  data Before (i x : ℕ) : Type 0 where
-    the-goal : i ≡ goal → x ≡ 0x20000 → Before i x
-    a-wall : (i ≡ goal → ⊥) → getD costs i 0 ≡ 255 → x ≡ 0x200FFFF → Before i x
-    an-other : (i ≡ goal → ⊥) → (getD costs i 0 ≡ 255 → ⊥) → x ≡ 65535 → Before i x
-
-  before : (i : ℕ) → i < 100 → Before i (getD (withGoal goal (walls costs)) i 0)
+  before : (i : ℕ) → i < 100 → Is i (getD (withGoal goal (walls costs)) i 0)
   unfolding withGoal
-  before i h = at-set (Before i) (walls costs) goal 0x20000 i (omega (arith, walls-length)) (λ q. the-goal q refl) (λ q. go q (eqb (getD costs i 0) 255) refl)
-    where
-      go : (i ≡ goal → ⊥) → (t : Bool) → eqb (getD costs i 0) 255 ≡ t → Before i (getD (walls costs) i 0)
-      go q true e = a-wall q (eqb-true (getD costs i 0) 255 e) (word-at costs i (omega arith) ∙ ap (λ (b : Bool). cond b 0x200FFFF 65535) e)
-      go q false e = an-other q (eqb-false (getD costs i 0) 255 e) (word-at costs i (omega arith) ∙ ap (λ (b : Bool). cond b 0x200FFFF 65535) e)
-
-  wall-word : (i x : ℕ) → Before i x → isImpassable x ≡ true → (x ≡ 0x200FFFF) × (getD costs i 0 ≡ 255) × (i ≡ goal → ⊥)
-  wall-word i x (the-goal q e) t = true-false (sym t ∙ ap isImpassable e)
-  wall-word i x (a-wall q c e) t = (e, c, q)
-  wall-word i x (an-other q c e) t = true-false (sym t ∙ ap isImpassable e)
-
-  other-word : (i x : ℕ) → Before i x → isImpassable x ≡ false → (i ≡ goal → ⊥) → x ≡ 65535
-  other-word i x (the-goal q e) t g = absurd (g q)
-  other-word i x (a-wall q c e) t g = false-true (sym t ∙ ap isImpassable e)
-  other-word i x (an-other q c e) t g = e
-
-  free-word : (i x : ℕ) → Before i x → (getD costs i 0 ≡ 255 → ⊥) → isImpassable x ≡ false
-  free-word i x (the-goal q e) f = ap isImpassable e
-  free-word i x (a-wall q c e) f = absurd (f c)
-  free-word i x (an-other q c e) f = ap isImpassable e
-
-  is-wall : (i x : ℕ) → Before i x → getD costs i 0 ≡ 255 → (i ≡ goal → ⊥) → isImpassable x ≡ true
-  is-wall i x (the-goal q e) c g = absurd (g q)
-  is-wall i x (a-wall q c e) d g = ap isImpassable e
-  is-wall i x (an-other q c e) d g = absurd (c d)
-
-  not-blocked : (i x : ℕ) → Before i x → isBlocked x ≡ true → ⊥
-  not-blocked i x (the-goal q e) t = true-false (sym t ∙ ap isBlocked e)
-  not-blocked i x (a-wall q c e) t = true-false (sym t ∙ ap isBlocked e)
-  not-blocked i x (an-other q c e) t = true-false (sym t ∙ ap isBlocked e)
+  before i h =
+      at-set (Is i) (walls costs) goal 0x20000 i (omega (arith, walls-length costs)) (λ q. chosen q refl) (unchosen costs (λ i. i ≡ goal) 0x20000 i (omega arith))
 
   abbrev start : Sight
   start = record { cells = withGoal goal (walls costs); corners = []; queue = [] }
 
   start-length : length (withGoal goal (walls costs)) ≡ 100
   unfolding withGoal
-  start-length = length-set (walls costs) goal 0x20000 ∙ walls-length
+  start-length = length-set (walls costs) goal 0x20000 ∙ walls-length costs ∙ hundred
 
   start-goal : getD (withGoal goal (walls costs)) goal 0 ≡ 0x20000
   unfolding withGoal
-  start-goal = getD-set-same (walls costs) goal 0x20000 0 (omega (arith, walls-length))
+  start-goal = getD-set-same (walls costs) goal 0x20000 0 (omega (arith, walls-length costs))
 
   start-sound : Sound goal wallsOf start
   start-sound = record {
@@ -139,20 +92,16 @@ module _ (goal : ℕ) (goal-in : goal < 100) (costs : List ℕ) (hundred : lengt
     };
     same = λ n. refl;
     at-goal = start-goal;
-    at-wall = λ i h t. wall-word i _ (before i h) t .0;
-    at-other = λ i h t g. unseen (other-word i _ (before i h) t g);
-    all-listed = λ i h t. absurd (not-blocked i _ (before i h) t);
+    at-wall = λ i h t. let w = only-wall costs _ _ refl i _ (before i h) t in wall-word costs _ _ i _ (before i h) (w .0) (w .1);
+    at-other = λ i h t g. unseen (other-word costs _ _ i _ (before i h) (λ c. true≢false (sym (ap isImpassable (wall-word costs _ _ i _ (before i h) c g)) ∙ t)) g);
+    all-listed = λ i h t. absurd (true≢false (sym t ∙ fails costs _ _ isBlocked refl refl refl i _ (before i h)));
   }
 
   one : 1 ≤ count isMet (withGoal goal (walls costs))
-  one = once-room isMet refl (goal ∷ []) (withGoal goal (walls costs)) all once
-    where
-      all : Each (λ n. (n < length (withGoal goal (walls costs))) × (isMet (getD (withGoal goal (walls costs)) n 0) ≡ true)) (goal ∷ [])
-      all zero h = (omega (arith, start-length), ap isMet start-goal)
-      all (suc i) h = absurd (omega arith)
-
-      once : Once (goal ∷ [])
-      once i j h k = absurd (omega arith)
+  one =
+      once-room isMet refl (goal ∷ []) (withGoal goal (walls costs))
+      (each-one (Passes isMet (withGoal goal (walls costs))) goal (omega (arith, start-length), ap isMet start-goal))
+      (λ i j h k. absurd (omega arith))
 
   module _ (cornerLine : ℕ → List ℕ) (lines : Lines goal cornerLine) where
     abbrev sight : ℕ → Sight
@@ -181,7 +130,7 @@ module _ (goal : ℕ) (goal-in : goal < 100) (costs : List ℕ) (hundred : lengt
     first-left : Left 1 (sight 1)
     unfolding sightAfter waveLooked
     first-left =
-        let p = kept-around cornerLine 1 wallsOf (IsGoal goal goal-in wallsOf cornerLine lines) (λ n. (n < 100) × (n ≡ goal → ⊥)) (First goal goal-in wallsOf cornerLine lines Never Never)
+        let p = kept-around cornerLine 1 wallsOf (IsGoal goal goal-in wallsOf cornerLine lines) (Free goal wallsOf) (First goal goal-in wallsOf cornerLine lines Never Never)
         (first-keeps goal goal-in wallsOf cornerLine lines Never Never) goal refl start start-first in
         record {
           sound = p .sound;
@@ -208,7 +157,7 @@ module _ (goal : ℕ) (goal-in : goal < 100) (costs : List ℕ) (hundred : lengt
             let some : 0 < length (s .queue) = omega (arith, ap length e) in
             let least : k + 2 ≤ met goal wallsOf s = l .met-queued some in
             let few : suc k ≤ 100 = omega (arith, count-length isMet (s .cells), l .sound .room .full) in
-            let p = kept-wave cornerLine (suc k) wallsOf Apart (λ n. (n < 100) × (n ≡ goal → ⊥)) (Wave goal wallsOf (k + 2) Apart Blocked Never)
+            let p = kept-wave cornerLine (suc k) wallsOf Apart (Free goal wallsOf) (Wave goal wallsOf (k + 2) Apart Blocked Never)
             (wave-keeps goal wallsOf cornerLine lines (suc k) (k + 2) (omega arith) few (omega arith) Apart Apart Blocked Never away next)
             (n ∷ ns) (begun s) (subst (Each Apart) e (l .all-apart))
             (record { sound = sound-begins goal wallsOf s (l .sound); met-least = least; met-queued = λ h. absurd (omega arith); all-next = λ i h. absurd (omega arith); stays = l .stays; stays-met = λ c h q. absurd q }) in
@@ -227,12 +176,6 @@ module _ (goal : ℕ) (goal-in : goal < 100) (costs : List ℕ) (hundred : lengt
     -- every wave begins with room, over cells of the sector
     pub sight-room : (k : ℕ) → Room (begun (sight k))
     sight-room k = sight-sound k .room
-
-    pub sight-queued : (k : ℕ) → Each (λ n. n < 100) (sight k .queue)
-    unfolding sightAfter
-    sight-queued zero zero h = goal-in
-    sight-queued zero (suc i) h = absurd (omega arith)
-    sight-queued (suc k) i h = left k .sound .room .queued-in i h
 
     pub sight-queue : (k : ℕ) → length (sight k .queue) ≤ 100
     unfolding sightAfter
@@ -257,9 +200,9 @@ module _ (goal : ℕ) (goal-in : goal < 100) (costs : List ℕ) (hundred : lengt
     }
 
     not-goal : (x : ℕ) → SightCell x → isGoal x ≡ true → ⊥
-    not-goal x (in-sight v a b e) t = true-false (sym t ∙ ap isGoal e ∙ seen-flags v (omega arith) .goal-is)
-    not-goal x (corner v a e) t = true-false (sym t ∙ ap isGoal e ∙ corner-flags v (omega arith) .goal-is)
-    not-goal x (unseen e) t = true-false (sym t ∙ ap isGoal e)
+    not-goal x (in-sight v a b e) t = true≢false (sym t ∙ ap isGoal e ∙ seen-flags v (omega arith) .goal-is)
+    not-goal x (corner v a e) t = true≢false (sym t ∙ ap isGoal e ∙ corner-flags v (omega arith) .goal-is)
+    not-goal x (unseen e) t = true≢false (sym t ∙ ap isGoal e)
 
     goal-stays : (k : ℕ) → GoalStays goal (sight k .cells)
     goal-stays k = record { goal-cell = sight-sound k .at-goal; goal-only = only }
@@ -268,7 +211,7 @@ module _ (goal : ℕ) (goal-in : goal < 100) (costs : List ℕ) (hundred : lengt
         only i h t = elim (ℕ-discrete i goal) [ yes e ↦ e | no e ↦ absurd (by-wall e (wallsOf i) refl) ]
           where
             by-wall : (i ≡ goal → ⊥) → (w : Bool) → wallsOf i ≡ w → ⊥
-            by-wall e true q = true-false (sym t ∙ ap isGoal (sight-sound k .at-wall i h q))
+            by-wall e true q = true≢false (sym t ∙ ap isGoal (sight-sound k .at-wall i h q))
             by-wall e false q = not-goal _ (sight-sound k .at-other i h q e) t
 
     pub goal-started : (k : ℕ) → GoalStarted costs goal (sight k .cells) (sight k .corners)
@@ -277,9 +220,9 @@ module _ (goal : ℕ) (goal-in : goal < 100) (costs : List ℕ) (hundred : lengt
         record {
           full = s .room .full;
           goal-stays = goal-stays k;
-          wall-cell = λ i h c g. s .at-wall i h (is-wall i _ (before i h) c g);
-          wall-only = λ i h t. let w = wall-word i _ (before i h) (sym (s .same i) ∙ t) in (w .1, w .2);
-          other-cell = λ i h c g. s .at-other i h (free-word i _ (before i h) c) g;
+          wall-cell = λ i h c g. s .at-wall i h (ap isImpassable (wall-word costs _ _ i _ (before i h) c g));
+          wall-only = λ i h t. only-wall costs _ _ refl i _ (before i h) (sym (s .same i) ∙ t);
+          other-cell = λ i h c g. s .at-other i h (ap isImpassable (other-word costs _ _ i _ (before i h) c g)) g;
           corner-in = s .room .corner-in;
           corner-once = s .room .corner-once;
           corner-blocked = s .room .corner-blocked;

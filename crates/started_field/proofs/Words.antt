@@ -3,18 +3,17 @@
 use mathlib.Core.Path.{_≡_, refl}
 use mathlib.Core.List.{List, [], _∷_}
 use mathlib.Core.Bool.{Bool, true, false}
-use Prim.Native.Nat.{ℕ, zero, suc, _+_, _/_, _%_, _^_, _<_}
+use Prim.Native.Nat.{ℕ, zero, suc, _/_, _%_, _^_, _<_}
 use native.Mathlib.Omega.{arith}
 use borrow.Author.Tests.{eq-eqb, ne-eqb}
 use lib.ListN.{length, getD}
 use Rattle.integration_field.specs.Word.{flag, isLos, isGoal, isBlocked, isImpassable}
-use Rattle.started_field.specs.Sight.{wallOr, walls}
+use Rattle.started_field.proofs.Count.{bit}
+use Rattle.started_field.specs.Sight.{wallOr, walls, cornerWord, sightWord}
 
-pub flag-on : (k x : ℕ) → x / 2 ^ k % 2 ≡ 1 → flag k x ≡ true
-flag-on k x e = eq-eqb (x / 2 ^ k % 2) 1 e
-
-pub flag-off : (k x : ℕ) → x / 2 ^ k % 2 ≡ 0 → flag k x ≡ false
-flag-off k x e = ne-eqb (x / 2 ^ k % 2) 1 (λ o. omega arith)
+flag-is : (k x : ℕ) (b : Bool) → x / 2 ^ k % 2 ≡ bit b → flag k x ≡ b
+flag-is k x true e = eq-eqb (x / 2 ^ k % 2) 1 e
+flag-is k x false e = ne-eqb (x / 2 ^ k % 2) 1 (λ o. omega arith)
 
 pub record Flags (x : ℕ) (los goal blocked impassable : Bool) : Type 0 where
   pub los-is : isLos x ≡ los
@@ -22,23 +21,15 @@ pub record Flags (x : ℕ) (los goal blocked impassable : Bool) : Type 0 where
   pub blocked-is : isBlocked x ≡ blocked
   pub impassable-is : isImpassable x ≡ impassable
 
--- a corner: a value plus BLOCKED and CORNER
-pub corner-flags : (v : ℕ) → v < 0x10000 → Flags (v + 0x4040000) false false true false
-corner-flags v h = record {
-  los-is = flag-off 16 (v + 0x4040000) (omega arith);
-  goal-is = flag-off 17 (v + 0x4040000) (omega arith);
-  blocked-is = flag-on 18 (v + 0x4040000) (omega arith);
-  impassable-is = flag-off 25 (v + 0x4040000) (omega arith);
-}
+flags : (x : ℕ) (los goal blocked impassable : Bool) → x / 2 ^ 16 % 2 ≡ bit los → x / 2 ^ 17 % 2 ≡ bit goal → x / 2 ^ 18 % 2 ≡ bit blocked
+    → x / 2 ^ 25 % 2 ≡ bit impassable → Flags x los goal blocked impassable
+flags x l g b i el eg eb ei = record { los-is = flag-is 16 x l el; goal-is = flag-is 17 x g eg; blocked-is = flag-is 18 x b eb; impassable-is = flag-is 25 x i ei }
 
--- in sight: a value plus LOS
-pub seen-flags : (v : ℕ) → v < 0x10000 → Flags (v + 0x10000) true false false false
-seen-flags v h = record {
-  los-is = flag-on 16 (v + 0x10000) (omega arith);
-  goal-is = flag-off 17 (v + 0x10000) (omega arith);
-  blocked-is = flag-off 18 (v + 0x10000) (omega arith);
-  impassable-is = flag-off 25 (v + 0x10000) (omega arith);
-}
+pub corner-flags : (v : ℕ) → v < 0x10000 → Flags (cornerWord v) false false true false
+corner-flags v h = flags (cornerWord v) false false true false (omega arith) (omega arith) (omega arith) (omega arith)
+
+pub seen-flags : (v : ℕ) → v < 0x10000 → Flags (sightWord v) true false false false
+seen-flags v h = flags (sightWord v) true false false false (omega arith) (omega arith) (omega arith) (omega arith)
 
 -- a cell's word before goal or window cells are put
 pub word-at : (l : List ℕ) (i : ℕ) → i < length l → getD (walls l) i 0 ≡ wallOr (getD l i 0)

@@ -37,11 +37,20 @@ pub record Sight : Type 0 where
   pub corners : List ℕ
   pub queue : List ℕ
 
--- A cell of a line, if not yet BLOCKED, becomes the value plus BLOCKED and CORNER, and is listed.
+-- the word of a corner: its value plus BLOCKED and CORNER; the word of a cell in sight: its wave cost plus LOS
+abbrev pub cornerWord : ℕ → ℕ
+cornerWord value = value + 0x4040000
+
+abbrev pub sightWord : ℕ → ℕ
+sightWord wave = wave + 0x10000
+
+-- a cell that becomes a corner is listed
+abbrev pub listed : ℕ → ℕ → Sight → Sight
+listed value n s = record { cells = set (s .cells) n (cornerWord value); corners = s .corners ++ (n ∷ []); queue = s .queue }
+
+-- A cell of a line becomes a corner, if not yet BLOCKED.
 unfoldable pub marked : ℕ → ℕ → Sight → Sight
-marked value n s =
-    cond (isBlocked (getD (s .cells) n 0)) s
-    (record { cells = set (s .cells) n (value + 0x4040000); corners = s .corners ++ (n ∷ []); queue = s .queue })
+marked value n s = cond (isBlocked (getD (s .cells) n 0)) s (listed value n s)
 
 -- The line stops before a wall, and before a cell entered by a diagonal move between two walls.
 abbrev pub stopped : List ℕ → ℕ → ℕ → Bool
@@ -52,9 +61,9 @@ unfoldable pub lineMarked : ℕ → ℕ → ℕ → List ℕ → Sight → Sight
 lineMarked wave i previous [] s = s
 lineMarked wave i previous (n ∷ ns) s = cond (stopped (s .cells) previous n) s (lineMarked wave (suc i) n ns (marked (wave + 1 + i) n s))
 
--- wave cost plus LOS, queued
+-- a cell that comes into sight is queued
 unfoldable pub seen : ℕ → ℕ → Sight → Sight
-seen wave n s = record { cells = set (s .cells) n (wave + 0x10000); corners = s .corners; queue = s .queue ++ (n ∷ []) }
+seen wave n s = record { cells = set (s .cells) n (sightWord wave); corners = s .corners; queue = s .queue ++ (n ∷ []) }
 
 -- a cell that exists and is no wall
 abbrev pub unlessWall : List ℕ → Stepped → Stepped
@@ -72,6 +81,10 @@ firstSide SouthEast = Zero
 firstSide SouthWest = Zero
 firstSide NorthWest = Zero
 firstSide Zero = Zero
+
+-- what a wave begins with: nothing is queued yet
+abbrev pub begun : Sight → Sight
+begun s = record { cells = s .cells; corners = s .corners; queue = [] }
 
 -- sight over the lines that corners draw: `cornerLine n` is the line of corner n, its cells in order
 module _ (cornerLine : ℕ → List ℕ) where
@@ -113,9 +126,7 @@ module _ (cornerLine : ℕ → List ℕ) where
   waveLooked wave [] s = s
   waveLooked wave (i ∷ is) s = waveLooked wave is (lookedAround wave i orthogonal s)
 
-  -- Waves from the goal, first wave cost 1: what wave k leaves. Wave 0 is the goal.
+  -- Waves from the goal, first wave cost 1: what wave k leaves. Wave 0 is the goal; each later wave begins with an empty queue.
   unfoldable pub sightAfter : List ℕ → ℕ → ℕ → Sight
   sightAfter cells goal zero = record { cells = withGoal goal cells; corners = []; queue = goal ∷ [] }
-  sightAfter cells goal (suc k) =
-      let s = sightAfter cells goal k in
-      waveLooked (suc k) (s .queue) (record { cells = s .cells; corners = s .corners; queue = [] })
+  sightAfter cells goal (suc k) = let s = sightAfter cells goal k in waveLooked (suc k) (s .queue) (begun s)
