@@ -6,7 +6,7 @@
 --     applied-then     one definition after another
 --     applied-none     a definition that changes nothing
 --     applied-same     an equal definition
---     all-same, all-then, all-ready    the same with a queue
+--     all-same, all-ready    the same with a queue
 -- Assumes nothing.
 use mathlib.Core.Path.{_≡_, refl, sym, ap, ap₂, subst, _∙_}
 use mathlib.Core.List.{List, []}
@@ -18,7 +18,7 @@ use Rattle.started_field.specs.Room.{Room}
 use Rattle.integration_init.specs.Held.{sightOf, Holds, HoldsAll, Ready, ReadyAll, Leaves, Applied}
 
 module _ (s : Sight) (cells corners : List ℕ) (count : ℕ) where
-  pub held-sight : Holds s cells corners count → (queue : List ℕ) → sightOf cells corners count queue ≡ record { cells = s .cells; corners = s .corners; queue = queue }
+  held-sight : Holds s cells corners count → (queue : List ℕ) → sightOf cells corners count queue ≡ record { cells = s .cells; corners = s .corners; queue = queue }
   held-sight h queue =
       let e : take count corners ≡ s .corners = ap₂ (λ (n : ℕ) (l : List ℕ). take n l) (h .count-held) (h .corners-held) ∙ padded-list (s .corners) in
       ap₂ (λ (x y : List ℕ). record { cells = x; corners = y; queue = queue }) (h .cells-held) e
@@ -70,8 +70,3 @@ module _ (cells corners : List ℕ) (count : ℕ) (ready : Ready cells corners c
 module _ (t : Sight) (cells corners : List ℕ) (count : ℕ) (queue : List ℕ) (queued : ℕ) (h : HoldsAll t cells corners count queue queued) where
   pub all-same : (u : Sight) → u ≡ t → HoldsAll u cells corners count queue queued
   all-same u e = subst (λ (v : Sight). HoldsAll v cells corners count queue queued) (sym e) h
-
-  pub all-then : (step : Sight → Sight) (cells' corners' : List ℕ) (count' : ℕ) (queue' : List ℕ) (queued' : ℕ)
-      → HoldsAll (step (sightOf cells corners count (take queued queue))) cells' corners' count' queue' queued' → HoldsAll (step t) cells' corners' count' queue' queued'
-  all-then step cells' corners' count' queue' queued' g =
-      subst (λ (v : Sight). HoldsAll (step v) cells' corners' count' queue' queued') (held-all t cells corners count queue queued h) g

@@ -9,7 +9,7 @@ use mathlib.Core.List.{List, [], _∷_, _++_}
 use Prim.Native.Nat.{ℕ, zero, suc, _+_, _<_}
 use native.Mathlib.Numerals.{add-one}
 use native.Mathlib.Omega.{arith}
-use lib.ListN.{length, getD, set, take, replicate, length-map, List·getD-map, List·getD-append}
+use lib.ListN.{length, getD, set, take, replicate, List·getD-map, List·getD-append}
 use lib.Seq.{slice, slice-cons, slice-empty, take-suc, take-suc-set, take-all, length-take-le, take-append-seam}
 use Rattle.utilities.proofs.Padded.{padded-length}
 use Rattle.route.specs.declared.WindowCells.{WindowCells}
@@ -22,25 +22,22 @@ use Rattle.integration_field.proofs.Lists.{padded-push}
 use Rattle.started_field.specs.Sight.{wallOr, walls, withPortals, withGoal, sightAfter}
 use Rattle.started_field.specs.Started.{startedAt}
 use Rattle.started_field.specs.CornerLine.{cornerLine}
+use Rattle.started_field.proofs.Before.{walls-length}
 use Rattle.started_field.proofs.Lines.{corner-lines}
 use Rattle.started_field.proofs.Waves.{sight-room}
 use Rattle.integration_init.specs.Held.{sightOf, Ready, Wavefront, Window}
 
 module _ (costs cells : List ℕ) (hundred : length costs ≡ 100) (full : length cells ≡ 100) where
-  walls-length : length (walls costs) ≡ 100
-  unfolding walls
-  walls-length = length-map costs wallOr ∙ hundred
-
   pub wall-step : (i x : ℕ) → i < 100 → x ≡ wallOr (getD costs i 0) → take i cells ≡ take i (walls costs) → take (i + 1) (set cells i x) ≡ take (i + 1) (walls costs)
   unfolding walls
   wall-step i x h e t =
       rw add-one
       (take-suc-set cells i x (omega arith)
       ∙ ap₂ (λ (l : List ℕ) (y : ℕ). l ++ y ∷ []) t (e ∙ sym (List·getD-map wallOr costs i 0))
-      ∙ sym (take-suc (walls costs) i 65535 (omega (arith, walls-length))))
+      ∙ sym (take-suc (walls costs) i 65535 (omega (arith, walls-length costs))))
 
   pub wall-end : take 100 cells ≡ take 100 (walls costs) → cells ≡ walls costs
-  wall-end t = sym (take-all 100 cells (omega arith)) ∙ t ∙ take-all 100 (walls costs) (omega (arith, walls-length))
+  wall-end t = sym (take-all 100 cells (omega arith)) ∙ t ∙ take-all 100 (walls costs) (omega (arith, walls-length costs))
 
 module _ (window : List ℕ) (count : ℕ) (w : Window window count) where
   pub portal-step : (i : ℕ) (cells : List ℕ) → i < count → withPortals (slice i count window) cells ≡ withPortals (slice (i + 1) count window) (set cells (getD window i 0) 0x80000)

@@ -46,7 +46,7 @@ fn is_stopped(cells: &[u32; 100], previous: usize, n: usize) -> bool
     integration_field::is_between_walls(cells, from, to)
 }
 
-// A cell of a line, if not yet blocked, is marked and listed. Answers how many are listed.
+// Marks and lists a cell of a line, if it is not blocked yet. Answers how many are listed.
 fn mark(
     cells: &mut [u32; 100],
     corners: &mut [usize; 100],
@@ -66,7 +66,7 @@ fn mark(
     count + 1
 }
 
-// The cell at one side, where there is one and it is no wall.
+// The cell at one side of a cell, where there is one and it is no wall.
 fn open_side(cells: &[u32; 100], from: usize, side: CompassDir) -> Stepped
     requires { ⌜ from < 100 ⌝ }
     ensures { λ r. ⌜ r ≡ unlessWall (now (cells .entry)) (stepped (cellAt from) side) ⌝ }
@@ -80,7 +80,7 @@ fn open_side(cells: &[u32; 100], from: usize, side: CompassDir) -> Stepped
     Stepped::Cell(n)
 }
 
-// The side of a wall that is tried first; the other is opposite.
+// The side of a wall that is tried first, by the direction in which the wall was met; the other side is opposite.
 fn first_side(dir: CompassDir) -> CompassDir
     ensures { λ r. ⌜ r ≡ firstSide dir ⌝ }
 {
@@ -97,7 +97,7 @@ fn first_side(dir: CompassDir) -> CompassDir
     }
 }
 
-// The cells of a corner's line are marked up to where it stops; the i-th gets wave cost + 1 + i.
+// Marks the cells of a corner's line up to where it stops; the i-th gets wave cost + 1 + i. Answers how many are listed.
 fn mark_line(
     cells: &mut [u32; 100],
     corners: &mut [usize; 100],
@@ -129,7 +129,7 @@ fn mark_line(
     listed
 }
 
-// A corner draws its line, to where the sector ends away from the goal.
+// Draws a corner's line, which ends at the edge of the sector, away from the goal. Answers how many are listed.
 fn extend_los_corner(
     cells: &mut [u32; 100],
     corners: &mut [usize; 100],
@@ -147,7 +147,7 @@ fn extend_los_corner(
     mark_line(cells, corners, count, corner, line, wavefront_cost)
 }
 
-// One side of a wall that cell `from` met: a corner, where neither side cell is a wall.
+// Tries one side of a wall that cell `from` met: its side cell is a corner, where neither that nor the side cell of `from` is a wall.
 fn try_side(
     cells: &mut [u32; 100],
     corners: &mut [usize; 100],
@@ -171,7 +171,7 @@ fn try_side(
     extend_los_corner(cells, corners, count, index, goal, wavefront_cost)
 }
 
-// Both sides of a wall, across the direction in which it was met.
+// Tries both sides of a wall, across the direction in which it was met.
 fn meet_wall(
     cells: &mut [u32; 100],
     corners: &mut [usize; 100],
@@ -208,7 +208,7 @@ fn meet_wall(
     )
 }
 
-// One neighbour of cell `from`: nothing, a wall met, or a cell that comes into sight and is queued.
+// Looks at neighbour n of cell `from`: it is left as it is, or is a wall and met, or comes into sight and is queued.
 fn look_at(
     cells: &mut [u32; 100],
     corners: &mut [usize; 100],
@@ -247,7 +247,7 @@ fn look_at(
     }
 }
 
-// The neighbour of cell `from` in one direction, where there is one.
+// Looks at the neighbour of cell `from` in one direction, where there is one.
 fn look(
     cells: &mut [u32; 100],
     corners: &mut [usize; 100],
@@ -278,7 +278,7 @@ fn look(
     )
 }
 
-// The neighbours of cell `from`, in the order N, E, S, W.
+// Looks at the neighbours of cell `from`, in the order N, E, S, W.
 fn look_around(
     cells: &mut [u32; 100],
     corners: &mut [usize; 100],
@@ -310,7 +310,7 @@ fn look_around(
     counted
 }
 
-// One wave: the neighbours of each of its cells, which queue the next.
+// Looks around from each cell of a wave, and queues the next wave.
 fn look_wave(
     cells: &mut [u32; 100],
     corners: &mut [usize; 100],
@@ -337,7 +337,7 @@ fn look_wave(
     counts
 }
 
-// Sight, one wave a call: from each wave on, as long as there is a wave and the falling number is not 0. Answers how many corners are listed.
+// Spreads sight, one wave a call, until a wave is empty or the falling number is 0. Answers how many corners are listed.
 fn propagate_los(
     cells: &mut [u32; 100],
     corners: &mut [usize; 100],
@@ -382,7 +382,7 @@ fn propagate_los(
     )
 }
 
-// A cell before any goal or sight.
+// A cell's word as its cost gives it.
 fn wall_or(cost: u8) -> u32
     ensures { λ r. ⌜ r ≡ wallOr cost ⌝ }
 {
@@ -392,7 +392,7 @@ fn wall_or(cost: u8) -> u32
     65535
 }
 
-// Every cell before any goal or sight: the walls are marked.
+// Every cell's word as its cost gives it.
 fn mark_walls(costs: &[u8], cells: &mut [u32; 100])
     requires { ⌜ (length (now costs) ≡ 100) × (length (now cells) ≡ 100) ⌝ }
     ensures { λ _. ⌜ now (cells .exit) ≡ walls (now (costs .entry)) ⌝ }
@@ -404,7 +404,7 @@ fn mark_walls(costs: &[u8], cells: &mut [u32; 100])
     }
 }
 
-// The cells of a window are marked as portals, and listed as corners in order.
+// Marks the cells of a window as portals, and lists them as corners in order.
 fn mark_portals(cells: &mut [u32; 100], corners: &mut [usize; 100], window: WindowCells)
     requires { ⌜ (Window (window .cells) (window .count)) × (now corners ≡ padded []) ⌝ }
     ensures { λ _. ⌜ (now (cells .exit) ≡ withPortals (take (window .count) (window .cells)) (now (cells .entry))) × (now (corners .exit) ≡ padded (take (window .count) (window .cells))) ⌝ }

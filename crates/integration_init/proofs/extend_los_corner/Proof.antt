@@ -17,20 +17,11 @@ use Rattle.integration_init.proofs.Lines.{line-list, line-drawn}
 use Rattle.integration_init.proofs.extend_los_corner.Statement.{statement}
 use Rattle.integration_init.proofs.extend_los_corner.Tie as tie
 
-from-index-requires : tie.Need-from-index-requires
-from-index-requires c κs = search needs
-
-from-index-requires-2 : tie.Need-from-index-requires-2
-from-index-requires-2 c κs = search needs
-
 from-inside : (c : tie.After-from-index2) → Inside (c .before .from-index .result)
 from-inside c = subst Inside (sym (c .before .from-index .ensures)) (cell-inside (c .before .before .args .corner) (c .before .before .pre .1 .from-in))
 
 corner-line-end-requires : tie.Need-corner-line-end-requires
 corner-line-end-requires c κs = (from-inside c, subst Inside (sym (c .from-index2 .ensures)) (cell-inside (c .before .before .args .goal) (c .before .before .pre .1 .goal-in)))
-
-get-cells-between-points-requires : tie.Need-get-cells-between-points-requires
-get-cells-between-points-requires c κs = search needs
 
 -- the end lies in the sector, and is the definition's
 end-within : (c : tie.After-corner-line-end) → Inside (c .corner-line-end .result)
@@ -59,12 +50,8 @@ returns c = let a = c .before .before .before .before .before .before .before .a
     (λ queue. rw e)
 
 pub extend-los-corner-spec : {M : Type 1} → statement M
-extend-los-corner-spec =
-    tie.close
-    (tie.spec
-    from-index-requires
-    from-index-requires-2
+extend-los-corner-spec = tie.close (tie.spec
+    (λ c κs. search needs) (λ c κs. search needs)
     corner-line-end-requires
-    get-cells-between-points-requires
-    mark-line-requires
-    returns)
+    (λ c κs. search needs)
+    mark-line-requires returns)

@@ -11,25 +11,13 @@ use Rattle.integration_init.proofs.Answers.{costs-refused, step-refused
 use Rattle.integration_init.proofs.init.Statement.{statement}
 use Rattle.integration_init.proofs.init.Tie as tie
 
-refused-requires : tie.Need-refused-requires
-refused-requires c κs = search needs
-
 returns : tie.Need-returns
 returns c = let a = c .before .before .before .before .args in promised (now (a .costs)) (now (a .step)) _ (c .refused .ensures ∙ costs-refused (now (a .costs)) (now (a .step)) (c .before .if1 .taken))
-
-step-number-requires : tie.Need-step-number-requires
-step-number-requires c κs = search needs
-
-refused-requires-2 : tie.Need-refused-requires-2
-refused-requires-2 c κs = search needs
 
 returns-2 : tie.Need-returns-2
 returns-2 c = let a = c .before .before .before .before .before .before .args in
     promised (now (a .costs)) (now (a .step)) _
     (c .refused2 .ensures ∙ ap initRefused (c .before .before .step-number .ensures) ∙ step-refused (now (a .costs)) (now (a .step)) (c .before .before .before .if1 .left) (λ e. c .before .if2 .taken (c .before .before .step-number .ensures ∙ e)))
-
-start-requires : tie.Need-start-requires
-start-requires c κs = search needs
 
 returns-3 : tie.Need-returns-3
 returns-3 c = let a = c .before .before .before .before .before .before .args in
@@ -38,13 +26,10 @@ returns-3 c = let a = c .before .before .before .before .before .before .args in
     (ap₂ (λ (n : ℕ) (f : IntegrationField). record { number = n; field = f }) (c .before .if2 .left) (c .start .ensures) ∙ accepts (now (a .costs)) (now (a .step)) (c .before .before .before .if1 .left) e)
 
 pub init-spec : {M : Type 1} → statement M
-init-spec =
-    tie.close
-    (tie.spec
-    refused-requires
+init-spec = tie.close (tie.spec
+    (λ c κs. search needs)
     returns
-    step-number-requires
-    refused-requires-2
+    (λ c κs. search needs) (λ c κs. search needs)
     returns-2
-    start-requires
+    (λ c κs. search needs)
     returns-3)

@@ -8,17 +8,8 @@ use Rattle.fields.proofs.Steps.{cell-inside, index-of-cell}
 use Rattle.integration_init.proofs.is_stopped.Statement.{statement}
 use Rattle.integration_init.proofs.is_stopped.Tie as tie
 
-is-wall-at-requires : tie.Need-is-wall-at-requires
-is-wall-at-requires c κs = search needs
-
 returns : tie.Need-returns
 returns c = rw (sym (c .before .is-wall-at .ensures) ∙ c .if1 .taken)
-
-from-index-requires : tie.Need-from-index-requires
-from-index-requires c κs = search needs
-
-from-index-requires-2 : tie.Need-from-index-requires-2
-from-index-requires-2 c κs = search needs
 
 is-between-walls-requires : tie.Need-is-between-walls-requires
 is-between-walls-requires c κs =
@@ -32,12 +23,8 @@ returns-2 c =
     rw (sym (b .is-wall-at .ensures) ∙ c .before .before .before .if1 .left, ← from, ← to) (c .is-between-walls .ensures)
 
 pub is-stopped-spec : {M : Type 1} → statement M
-is-stopped-spec =
-    tie.close
-    (tie.spec
-    is-wall-at-requires
+is-stopped-spec = tie.close (tie.spec
+    (λ c κs. search needs)
     returns
-    from-index-requires
-    from-index-requires-2
-    is-between-walls-requires
-    returns-2)
+    (λ c κs. search needs) (λ c κs. search needs)
+    is-between-walls-requires returns-2)

@@ -18,18 +18,6 @@ use Rattle.integration_init.proofs.Held.{all-same}
 use Rattle.integration_init.proofs.look.Statement.{statement}
 use Rattle.integration_init.proofs.look.Tie as tie
 
-from-index-requires : tie.Need-from-index-requires
-from-index-requires c κs = search needs
-
-get-in-compass-direction-requires : tie.Need-get-in-compass-direction-requires
-get-in-compass-direction-requires c κs = search needs
-
-enum-known-neighbour : tie.Need-enum-known-neighbour
-enum-known-neighbour c = search needs
-
-enum-told : tie.Need-enum-told
-enum-told c = search needs
-
 -- the sight at entry, and what a look at an answer of a step makes of it
 abbrev entry : tie.Start → Sight
 entry c = let a = c .args in sightOf (now (a .cells)) (now (a .corners)) (a .counts .corners) (take (a .counts .queued) (now (a .queue)))
@@ -48,9 +36,6 @@ arrives c = ap (λ (x : FieldCell). stepped x (c .before .before .before .before
 inside : (c : tie.After-known-told) → Inside (c .before .neighbour .given .0 .0)
 inside c = stepped-cell _ _ _ (arrives c) .within
 
-as-1d-index-requires : tie.Need-as-1d-index-requires
-as-1d-index-requires c κs = search needs
-
 index : (c : tie.After-as-1d-index) → c .as-1d-index .result ≡ indexOf (c .before .before .neighbour .given .0 .0)
 index c = c .as-1d-index .ensures ∙ index-inside 100 (c .before .before .neighbour .given .0 .0) (inside (c .before))
 
@@ -63,14 +48,8 @@ returns-2 c = let a = c .before .before .before .before .before .before .before 
     (ap (at (c .before .before .before .before .before .before .before .before .before .before)) (arrives (c .before .before .before .before .before)) ∙ ap (λ (n : ℕ). neighbourLooked (cornerLine (a .goal)) (a .wavefront-cost) (a .from) (a .dir) n (entry (c .before .before .before .before .before .before .before .before .before .before))) (sym (index (c .before .before .before .before))))
 
 pub look-spec : {M : Type 1} → statement M
-look-spec =
-    tie.close
-    (tie.spec
-    from-index-requires
-    get-in-compass-direction-requires
-    enum-known-neighbour
-    enum-told
+look-spec = tie.close (tie.spec
+    (λ c κs. search needs) (λ c κs. search needs) (λ c. search needs) (λ c. search needs)
     returns
-    as-1d-index-requires
-    look-at-requires
-    returns-2)
+    (λ c κs. search needs)
+    look-at-requires returns-2)

@@ -29,17 +29,8 @@ abbrev μ-loop : tie.MeasureT-loop
 loop-holds : tie.Need-loop-holds Inv-loop μ-loop
 loop-holds c = (search needs, c .pre .0, refl)
 
-from-boundary-requires : tie.Need-from-boundary-requires Inv-loop μ-loop
-from-boundary-requires c κs = search needs
-
 look-requires : tie.Need-look-requires Inv-loop μ-loop
 look-requires c κs = (c .before .before .before .before .before .loop .inv .1, c .before .before .before .before .before .before .pre .1)
-
-add-side : tie.Need-add-side Inv-loop μ-loop
-add-side c = search needs
-
-loop-less : tie.Need-loop-less Inv-loop μ-loop
-loop-less c = search needs
 
 -- what the arrays hold before a look
 abbrev held : tie.At-loop Inv-loop μ-loop → Sight
@@ -66,15 +57,9 @@ returns c = let a = c .before .before .args in let l = c .before .loop in
     ∙ around-end (cornerLine (a .goal)) (a .wavefront-cost) (a .from) (held (c .before)))
 
 pub look-around-spec : {M : Type 1} → statement M
-look-around-spec =
-    tie.close
-    (tie.spec
-    Inv-loop
-    μ-loop
-    loop-holds
-    from-boundary-requires
+look-around-spec = tie.close (tie.spec
+    Inv-loop μ-loop loop-holds
+    (λ c κs. search needs)
     look-requires
-    add-side
-    loop-less
-    loop-again
-    returns)
+    (λ c. search needs) (λ c. search needs)
+    loop-again returns)

@@ -16,15 +16,6 @@ use Rattle.integration_init.proofs.Looks.{look-blocked, look-goal, look
 use Rattle.integration_init.proofs.look_at.Statement.{statement}
 use Rattle.integration_init.proofs.look_at.Tie as tie
 
-mul-cost : tie.Need-mul-cost
-mul-cost c = search needs
-
-element-copy-out-cost : tie.Need-element-copy-out-cost
-element-copy-out-cost c = search needs
-
-is-blocked-requires : tie.Need-is-blocked-requires
-is-blocked-requires c κs = search needs
-
 -- the sight at entry, and the word of the neighbour
 abbrev entry : tie.Start → Sight
 entry c = let a = c .args in sightOf (now (a .cells)) (now (a .corners)) (a .counts .corners) (take (a .counts .queued) (now (a .queue)))
@@ -49,16 +40,10 @@ returns c = let a = c .before .before .before .args in
     all-same (entry (c .before .before .before)) _ _ _ _ _ (c .before .before .before .pre .0) _
     (look-blocked (cornerLine (a .goal)) (a .wavefront-cost) (a .from) (a .dir) (a .n) (entry (c .before .before .before)) (sym (c .before .is-blocked .ensures) ∙ c .if1 .taken))
 
-is-goal-requires : tie.Need-is-goal-requires
-is-goal-requires c κs = search needs
-
 returns-2 : tie.Need-returns-2
 returns-2 c = let a = c .before .before .before .before .before .args in
     all-same (entry (c .before .before .before .before .before)) _ _ _ _ _ (c .before .before .before .before .before .pre .0) _
     (look-goal (cornerLine (a .goal)) (a .wavefront-cost) (a .from) (a .dir) (a .n) (entry (c .before .before .before .before .before)) (not-blocked (c .before .before)) (sym (c .before .is-goal .ensures) ∙ c .if2 .taken))
-
-is-impassable-requires : tie.Need-is-impassable-requires
-is-impassable-requires c κs = search needs
 
 meet-wall-requires : tie.Need-meet-wall-requires
 meet-wall-requires c κs = let a = c .before .before .before .before .before .before .before .before .before .args in
@@ -72,22 +57,10 @@ returns-3 c = let a = c .before .before .before .before .before .before .before 
     _
     (look-wall (cornerLine (a .goal)) (a .wavefront-cost) (a .from) (a .dir) (a .n) (entry (c .before .before .before .before .before .before .before .before .before .before)) (not-blocked (c .before .before .before .before .before .before .before)) (not-goal (c .before .before .before .before .before)) (sym (c .before .before .before .before .is-impassable .ensures) ∙ c .before .before .before .if3 .taken))
 
-is-los-requires : tie.Need-is-los-requires
-is-los-requires c κs = search needs
-
 returns-4 : tie.Need-returns-4
 returns-4 c = let a = c .before .before .before .before .before .before .before .before .before .args in
     all-same (entry (c .before .before .before .before .before .before .before .before .before)) _ _ _ _ _ (c .before .before .before .before .before .before .before .before .before .pre .0) _
     (look-los (cornerLine (a .goal)) (a .wavefront-cost) (a .from) (a .dir) (a .n) (entry (c .before .before .before .before .before .before .before .before .before)) (not-blocked (c .before .before .before .before .before .before)) (not-goal (c .before .before .before .before)) (not-wall (c .before .before)) (sym (c .before .is-los .ensures) ∙ c .if4 .taken))
-
-add-cells : tie.Need-add-cells
-add-cells c = search needs
-
-mul-cells : tie.Need-mul-cells
-mul-cells c = search needs
-
-element-write-cells : tie.Need-element-write-cells
-element-write-cells c = search needs
 
 room : (c : tie.Else4) → c .before .before .before .before .before .before .before .before .before .args .counts .queued < 100
 room c = let a = c .before .before .before .before .before .before .before .before .before .args in
@@ -110,24 +83,14 @@ returns-5 c = let a = c .before .before .before .before .before .before .before 
     (look-new (cornerLine (a .goal)) (a .wavefront-cost) (a .from) (a .dir) (a .n) (entry (c .before .before .before .before .before .before .before .before .before)) (not-blocked (c .before .before .before .before .before .before)) (not-goal (c .before .before .before .before)) (not-wall (c .before .before)) (not-los c))
 
 pub look-at-spec : {M : Type 1} → statement M
-look-at-spec =
-    tie.close
-    (tie.spec
-    mul-cost
-    element-copy-out-cost
-    is-blocked-requires
+look-at-spec = tie.close (tie.spec
+    (λ c. search needs) (λ c. search needs) (λ c κs. search needs)
     returns
-    is-goal-requires
+    (λ c κs. search needs)
     returns-2
-    is-impassable-requires
-    meet-wall-requires
-    returns-3
-    is-los-requires
+    (λ c κs. search needs)
+    meet-wall-requires returns-3
+    (λ c κs. search needs)
     returns-4
-    add-cells
-    mul-cells
-    element-write-cells
-    mul-queue
-    element-write-queue
-    add-t14
-    returns-5)
+    (λ c. search needs) (λ c. search needs) (λ c. search needs)
+    mul-queue element-write-queue add-t14 returns-5)

@@ -30,20 +30,8 @@ loop-holds : tie.Need-loop-holds Inv-loop μ-loop
 loop-holds c = let a = c .args in
     (search needs, (record { room = c .pre .0 .room; held = c .pre .0 .held; full = c .pre .1 .1 .0; queue-held = refl; queued-held = refl }, refl))
 
-mul-from : tie.Need-mul-from Inv-loop μ-loop
-mul-from c = search needs
-
-element-copy-out-from : tie.Need-element-copy-out-from Inv-loop μ-loop
-element-copy-out-from c = search needs
-
 look-around-requires : tie.Need-look-around-requires Inv-loop μ-loop
 look-around-requires c κs = (c .before .before .before .before .before .loop .inv .1 .0, record { wave-in = c .before .before .before .before .before .before .pre .1 .1 .1 .0; goal-in = c .before .before .before .before .before .before .pre .1 .1 .1 .1; from-in = c .before .before .before .before .before .before .pre .1 .0 .cells-in (c .before .before .before .before .before .loop .i) (c .before .before .before .before .loop-test .taken) })
-
-add-i : tie.Need-add-i Inv-loop μ-loop
-add-i c = search needs
-
-loop-less : tie.Need-loop-less Inv-loop μ-loop
-loop-less c = search needs
 
 loop-again : tie.Need-loop-again Inv-loop μ-loop
 loop-again c = let a = c .before .before .before .before .before .before .before .args in let l = c .before .before .before .before .before .before .loop in
@@ -68,16 +56,9 @@ returns c = let a = c .before .before .args in let l = c .before .loop in
     ∙ wave-end (cornerLine (a .goal)) (a .wavefront-cost) (now (a .wavefront)) (a .size) s)
 
 pub look-wave-spec : {M : Type 1} → statement M
-look-wave-spec =
-    tie.close
-    (tie.spec
-    Inv-loop
-    μ-loop
-    loop-holds
-    mul-from
-    element-copy-out-from
+look-wave-spec = tie.close (tie.spec
+    Inv-loop μ-loop loop-holds
+    (λ c. search needs) (λ c. search needs)
     look-around-requires
-    add-i
-    loop-less
-    loop-again
-    returns)
+    (λ c. search needs) (λ c. search needs)
+    loop-again returns)

@@ -12,15 +12,6 @@ use Rattle.integration_init.proofs.Marks.{kept-mark, mark-room, new-mar
 use Rattle.integration_init.proofs.mark.Statement.{statement}
 use Rattle.integration_init.proofs.mark.Tie as tie
 
-mul-old : tie.Need-mul-old
-mul-old c = search needs
-
-element-copy-out-old : tie.Need-element-copy-out-old
-element-copy-out-old c = search needs
-
-is-blocked-requires : tie.Need-is-blocked-requires
-is-blocked-requires c κs = search needs
-
 returns : tie.Need-returns
 returns c = let a = c .before .before .before .args in kept-mark (now (a .cells)) (now (a .corners)) (a .count) (a .n) (a .value) (c .before .before .before .pre .0) (c .before .before .before .pre .1 .0) (c .before .before .before .pre .1 .1) (sym (c .before .is-blocked .ensures) ∙ c .if1 .taken)
 
@@ -36,18 +27,6 @@ mul-corners c = omega (arith, room c)
 element-write-corners : tie.Need-element-write-corners
 element-write-corners c = omega (arith, room c)
 
-add-cells : tie.Need-add-cells
-add-cells c = search needs
-
-add-cells-2 : tie.Need-add-cells-2
-add-cells-2 c = search needs
-
-mul-cells : tie.Need-mul-cells
-mul-cells c = search needs
-
-element-write-cells : tie.Need-element-write-cells
-element-write-cells c = search needs
-
 add-result : tie.Need-add-result
 add-result c = omega (arith, room c)
 
@@ -55,18 +34,8 @@ returns-2 : tie.Need-returns-2
 returns-2 c = let a = c .before .before .before .args in new-mark (now (a .cells)) (now (a .corners)) (a .count) (a .n) (a .value) (c .before .before .before .pre .0) (c .before .before .before .pre .1 .0) (c .before .before .before .pre .1 .1) (free c)
 
 pub mark-spec : {M : Type 1} → statement M
-mark-spec =
-    tie.close
-    (tie.spec
-    mul-old
-    element-copy-out-old
-    is-blocked-requires
-    returns
-    mul-corners
-    element-write-corners
-    add-cells
-    add-cells-2
-    mul-cells
-    element-write-cells
-    add-result
-    returns-2)
+mark-spec = tie.close (tie.spec
+    (λ c. search needs) (λ c. search needs) (λ c κs. search needs)
+    returns mul-corners element-write-corners
+    (λ c. search needs) (λ c. search needs) (λ c. search needs) (λ c. search needs)
+    add-result returns-2)

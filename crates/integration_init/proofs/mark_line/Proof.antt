@@ -19,20 +19,8 @@ Inv-loop cells₀ corners₀ count corner wavefront-cost drawn size listed₀ pr
 abbrev μ-loop : tie.MeasureT-loop
 μ-loop cells₀ corners₀ count corner wavefront-cost drawn size listed₀ previous₀ value₀ i₀ cells corners listed previous value i = size - i
 
-add-value : tie.Need-add-value Inv-loop μ-loop
-add-value c = search needs
-
 loop-holds : tie.Need-loop-holds Inv-loop μ-loop
 loop-holds c = walk-starts (c .before .args .wavefront-cost) (c .before .args .corner) (c .before .args .line .cells) (c .before .args .line .count) (now (c .before .args .cells)) (now (c .before .args .corners)) (c .before .args .count) (c .before .pre .1 .1 .0) (c .before .pre .0)
-
-mul-cell : tie.Need-mul-cell Inv-loop μ-loop
-mul-cell c = search needs
-
-array-copy-out-cell : tie.Need-array-copy-out-cell Inv-loop μ-loop
-array-copy-out-cell c = search needs
-
-as-1d-index-requires : tie.Need-as-1d-index-requires Inv-loop μ-loop
-as-1d-index-requires c κs = search needs
 
 -- the line fits its array, and its i-th cell is a cell of the sector
 long : (c : tie.Start Inv-loop μ-loop) → c .args .line .count ≤ length (c .args .line .cells)
@@ -77,21 +65,9 @@ returns-2 c = let a = c .before .before .before .args in let l = c .before .loop
     walk-ends (a .wavefront-cost) (a .corner) (a .line .cells) (a .line .count) (now (a .cells)) (now (a .corners)) (a .count) (l .cells) (l .corners) (l .listed) (l .previous) (l .value) (l .i) (l .inv) (c .loop-test .left)
 
 pub mark-line-spec : {M : Type 1} → statement M
-mark-line-spec =
-    tie.close
-    (tie.spec
-    Inv-loop
-    μ-loop
-    add-value
+mark-line-spec = tie.close (tie.spec
+    Inv-loop μ-loop
+    (λ c. search needs)
     loop-holds
-    mul-cell
-    array-copy-out-cell
-    as-1d-index-requires
-    is-stopped-requires
-    returns
-    mark-requires
-    add-value-2
-    add-i
-    loop-less
-    loop-again
-    returns-2)
+    (λ c. search needs) (λ c. search needs) (λ c κs. search needs)
+    is-stopped-requires returns mark-requires add-value-2 add-i loop-less loop-again returns-2)

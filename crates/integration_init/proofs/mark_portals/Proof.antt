@@ -22,9 +22,6 @@ abbrev μ-loop : tie.MeasureT-loop
 loop-holds : tie.Need-loop-holds Inv-loop μ-loop
 loop-holds c = (search needs, refl, c .before .pre .1)
 
-mul-n : tie.Need-mul-n Inv-loop μ-loop
-mul-n c = search needs
-
 array-read-n : tie.Need-array-read-n Inv-loop μ-loop
 array-read-n c = omega (arith, c .loop-test .taken, c .before .before .before .pre .0 .count-in)
 
@@ -46,9 +43,6 @@ element-write-corners c = omega (arith, c .loop-test .taken, c .before .before .
 add-i : tie.Need-add-i Inv-loop μ-loop
 add-i c = omega (arith, c .loop-test .taken, c .before .before .before .pre .0 .count-in)
 
-loop-less : tie.Need-loop-less Inv-loop μ-loop
-loop-less c = search needs
-
 loop-again : tie.Need-loop-again Inv-loop μ-loop
 loop-again c = let a = c .before .before .before .args in let l = c .before .loop in (
   search needs,
@@ -64,19 +58,9 @@ returns c = let a = c .before .before .before .args in let l = c .before .loop i
     )
 
 pub mark-portals-spec : {M : Type 1} → statement M
-mark-portals-spec =
-    tie.close
-    (tie.spec
-    Inv-loop
-    μ-loop
-    loop-holds
-    mul-n
-    array-read-n
-    mul-cells
-    element-write-cells
-    mul-corners
-    element-write-corners
-    add-i
-    loop-less
-    loop-again
-    returns)
+mark-portals-spec = tie.close (tie.spec
+    Inv-loop μ-loop loop-holds
+    (λ c. search needs)
+    array-read-n mul-cells element-write-cells mul-corners element-write-corners add-i
+    (λ c. search needs)
+    loop-again returns)

@@ -23,21 +23,6 @@ loop-holds c = (search needs, c .before .pre .1, refl)
 shared-slice-read-wall-or : tie.Need-shared-slice-read-wall-or Inv-loop μ-loop
 shared-slice-read-wall-or c = omega (arith, c .before .before .before .before .pre .0, c .before .loop-test .taken)
 
-wall-or-requires : tie.Need-wall-or-requires Inv-loop μ-loop
-wall-or-requires c κs = search needs
-
-mul-cells : tie.Need-mul-cells Inv-loop μ-loop
-mul-cells c = search needs
-
-element-write-cells : tie.Need-element-write-cells Inv-loop μ-loop
-element-write-cells c = search needs
-
-add-i : tie.Need-add-i Inv-loop μ-loop
-add-i c = search needs
-
-loop-less : tie.Need-loop-less Inv-loop μ-loop
-loop-less c = search needs
-
 loop-again : tie.Need-loop-again Inv-loop μ-loop
 loop-again c = let l = c .before .before .before .loop in (
   search needs,
@@ -51,17 +36,7 @@ returns c = let l = c .before .loop in
     wall-end (now (c .before .before .before .args .costs)) (l .cells) (c .before .before .before .pre .0) (l .inv .1) (rw e at (l .inv .2))
 
 pub mark-walls-spec : {M : Type 1} → statement M
-mark-walls-spec =
-    tie.close
-    (tie.spec
-    Inv-loop
-    μ-loop
-    loop-holds
-    shared-slice-read-wall-or
-    wall-or-requires
-    mul-cells
-    element-write-cells
-    add-i
-    loop-less
-    loop-again
-    returns)
+mark-walls-spec = tie.close (tie.spec
+    Inv-loop μ-loop loop-holds shared-slice-read-wall-or
+    (λ c κs. search needs) (λ c. search needs) (λ c. search needs) (λ c. search needs) (λ c. search needs)
+    loop-again returns)

@@ -11,15 +11,6 @@ use Rattle.integration_init.proofs.Held.{applied-ready, applied-then, a
 use Rattle.integration_init.proofs.meet_wall.Statement.{statement}
 use Rattle.integration_init.proofs.meet_wall.Tie as tie
 
-first-side-requires : tie.Need-first-side-requires
-first-side-requires c κs = search needs
-
-try-side-requires : tie.Need-try-side-requires
-try-side-requires c κs = search needs
-
-inverse-requires : tie.Need-inverse-requires
-inverse-requires c κs = search needs
-
 abbrev tried : tie.After-inverse → CompassDir → Sight → Sight
 tried c side = sideTried (cornerLine (c .before .before .before .before .before .before .before .args .goal)) (c .before .before .before .before .before .before .before .args .wavefront-cost) (c .before .before .before .before .before .before .before .args .from) (c .before .before .before .before .before .before .before .args .wall) side
 
@@ -41,6 +32,6 @@ returns c = let a = c .before .before .before .before .before .before .before .b
     (λ queue. rw (e, f))
 
 pub meet-wall-spec : {M : Type 1} → statement M
-meet-wall-spec =
-    tie.close
-    (tie.spec first-side-requires try-side-requires inverse-requires try-side-requires-2 returns)
+meet-wall-spec = tie.close (tie.spec
+    (λ c κs. search needs) (λ c κs. search needs) (λ c κs. search needs)
+    try-side-requires-2 returns)

@@ -13,18 +13,6 @@ use Rattle.started_field.specs.Sight.{unlessWall}
 use Rattle.integration_init.proofs.open_side.Statement.{statement}
 use Rattle.integration_init.proofs.open_side.Tie as tie
 
-from-index-requires : tie.Need-from-index-requires
-from-index-requires c κs = search needs
-
-get-in-compass-direction-requires : tie.Need-get-in-compass-direction-requires
-get-in-compass-direction-requires c κs = search needs
-
-enum-known-n : tie.Need-enum-known-n
-enum-known-n c = search needs
-
-enum-told : tie.Need-enum-told
-enum-told c = search needs
-
 returns : tie.Need-returns
 returns c = let a = c .before .before .before .before .args in
     ap (unlessWall (now (a .cells)))
@@ -32,9 +20,6 @@ returns c = let a = c .before .before .before .before .args in
 
 arrives : (c : tie.After-known-told) → stepped (cellAt (c .before .before .before .before .before .args .from)) (c .before .before .before .before .before .args .side) ≡ Cell (c .before .n .given .0 .0)
 arrives c = ap (λ (x : FieldCell). stepped x (c .before .before .before .before .before .args .side)) (sym (c .before .before .before .before .from-index .ensures)) ∙ sym (c .before .before .before .get-in-compass-direction .ensures) ∙ c .before .n .given .1
-
-as-1d-index-requires : tie.Need-as-1d-index-requires
-as-1d-index-requires c κs = search needs
 
 index : (c : tie.After-as-1d-index) → c .as-1d-index .result ≡ indexOf (c .before .before .n .given .0 .0)
 index c = c .as-1d-index .ensures ∙ index-inside 100 (c .before .before .n .given .0 .0) (stepped-cell _ _ _ (arrives (c .before)) .within)
@@ -52,15 +37,8 @@ returns-3 : tie.Need-returns-3
 returns-3 c = sym (ap (unlessWall (now (c .before .before .before .before .before .before .before .before .args .cells))) (arrives (c .before .before .before)) ∙ rw (sym (wall (c .before)) ∙ c .if1 .left))
 
 pub open-side-spec : {M : Type 1} → statement M
-open-side-spec =
-    tie.close
-    (tie.spec
-    from-index-requires
-    get-in-compass-direction-requires
-    enum-known-n
-    enum-told
+open-side-spec = tie.close (tie.spec
+    (λ c κs. search needs) (λ c κs. search needs) (λ c. search needs) (λ c. search needs)
     returns
-    as-1d-index-requires
-    is-wall-at-requires
-    returns-2
-    returns-3)
+    (λ c κs. search needs)
+    is-wall-at-requires returns-2 returns-3)

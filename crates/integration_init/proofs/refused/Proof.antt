@@ -6,11 +6,10 @@ use Rattle.integration_field.specs.declared.IntegrationField.{IntegrationField}
 use Rattle.integration_init.proofs.refused.Statement.{statement}
 use Rattle.integration_init.proofs.refused.Tie as tie
 
-zeros-requires : tie.Need-zeros-requires
-zeros-requires c κs = search needs
-
 returns : tie.Need-returns
 returns c = ap (λ (x : IntegrationField). record { number = c .before .args .number; field = x }) (c .zeros .ensures)
 
 pub refused-spec : {M : Type 1} → statement M
-refused-spec = tie.close (tie.spec zeros-requires returns)
+refused-spec = tie.close (tie.spec
+    (λ c κs. search needs)
+    returns)

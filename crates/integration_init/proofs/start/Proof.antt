@@ -13,12 +13,6 @@ use Rattle.integration_init.proofs.Starts.{window-held, window-list}
 use Rattle.integration_init.proofs.start.Statement.{statement}
 use Rattle.integration_init.proofs.start.Tie as tie
 
-new-requires : tie.Need-new-requires
-new-requires c κs = search needs
-
-get-all-window-cells-requires : tie.Need-get-all-window-cells-requires
-get-all-window-cells-requires c κs = search needs
-
 -- a step with a window, and the cells of it
 windowed : (c : tie.After-get-all-window-cells) → isWindow (now (c .before .before .before .before .before .before .args .step)) ≡ true
 windowed c = ap (λ (r : RouteStep). r .«has_portal») (sym (c .before .before .before .new .ensures)) ∙ c .before .before .if1 .taken
@@ -49,12 +43,6 @@ returns-2 c =
     c .start-from .ensures ∙ ap (startedFrom (now (c .before .before .before .before .before .args .costs))) (goal-is (c .before)) ∙ sym (rw (plain (c .before)))
 
 pub start-spec : {M : Type 1} → statement M
-start-spec =
-    tie.close
-    (tie.spec
-    new-requires
-    get-all-window-cells-requires
-    start-at-requires
-    returns
-    start-from-requires
-    returns-2)
+start-spec = tie.close (tie.spec
+    (λ c κs. search needs) (λ c κs. search needs)
+    start-at-requires returns start-from-requires returns-2)

@@ -9,15 +9,11 @@ use Rattle.started_field.specs.Sight.{withPortals}
 use Rattle.integration_init.proofs.start_at.Statement.{statement}
 use Rattle.integration_init.proofs.start_at.Tie as tie
 
-mark-walls-requires : tie.Need-mark-walls-requires
-mark-walls-requires c κs = search needs
-
-mark-portals-requires : tie.Need-mark-portals-requires
-mark-portals-requires c κs = search needs
-
 returns : tie.Need-returns
 returns c = let a = c .before .before .before .before .before .before .args in let w = a .window in
     portal-started (w .cells) (w .count) (c .before .before .before .before .before .before .pre .1) (now (a .costs)) _ _ (c .mark-portals .ensures .0 ∙ ap (withPortals (take (w .count) (w .cells))) (c .before .before .before .mark-walls .ensures)) (c .mark-portals .ensures .1)
 
 pub start-at-spec : {M : Type 1} → statement M
-start-at-spec = tie.close (tie.spec mark-walls-requires mark-portals-requires returns)
+start-at-spec = tie.close (tie.spec
+    (λ c κs. search needs) (λ c κs. search needs)
+    returns)

@@ -14,18 +14,6 @@ use Rattle.integration_init.proofs.Waves.{held-field}
 use Rattle.integration_init.proofs.start_from.Statement.{statement}
 use Rattle.integration_init.proofs.start_from.Tie as tie
 
-mark-walls-requires : tie.Need-mark-walls-requires
-mark-walls-requires c κs = search needs
-
-mul-cells : tie.Need-mul-cells
-mul-cells c = search needs
-
-array-write-cells : tie.Need-array-write-cells
-array-write-cells c = search needs
-
-array-write-wavefront : tie.Need-array-write-wavefront
-array-write-wavefront c = search needs
-
 propagate-los-requires : tie.Need-propagate-los-requires
 propagate-los-requires c κs = let a = c .before .before .before .before .before .before .args in (
   goal-ready (now (a .costs)) (c .before .before .before .before .before .before .pre .0) (a .goal) (c .before .before .before .before .before .before .pre .1) _ (ap (λ (l : List ℕ). set l (a .goal) 0x20000) (c .before .before .before .mark-walls .ensures)),
@@ -40,12 +28,6 @@ returns c = let a = c .before .before .before .before .before .before .before .a
     (goal-sight (now (a .costs)) (c .before .before .before .before .before .before .before .pre .0) (a .goal) (c .before .before .before .before .before .before .before .pre .1) _ (ap (λ (l : List ℕ). set l (a .goal) 0x20000) (c .before .before .before .before .mark-walls .ensures))))
 
 pub start-from-spec : {M : Type 1} → statement M
-start-from-spec =
-    tie.close
-    (tie.spec
-    mark-walls-requires
-    mul-cells
-    array-write-cells
-    array-write-wavefront
-    propagate-los-requires
-    returns)
+start-from-spec = tie.close (tie.spec
+    (λ c κs. search needs) (λ c. search needs) (λ c. search needs) (λ c. search needs)
+    propagate-los-requires returns)

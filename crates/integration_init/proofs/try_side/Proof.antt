@@ -14,29 +14,11 @@ use Rattle.integration_init.proofs.Looks.{open-cell}
 use Rattle.integration_init.proofs.try_side.Statement.{statement}
 use Rattle.integration_init.proofs.try_side.Tie as tie
 
-open-side-requires : tie.Need-open-side-requires
-open-side-requires c κs = search needs
-
-enum-told : tie.Need-enum-told
-enum-told c = search needs
-
-enum-told-2 : tie.Need-enum-told-2
-enum-told-2 c = search needs
-
 returns : tie.Need-returns
 unfolding sideTried
 returns c = let a = c .before .before .before .before .args in
     let e : unlessWall (now (a .cells)) (stepped (cellAt (a .from)) (a .side)) ≡ Outside = sym (c .before .before .open-side .ensures) ∙ c .enum-told2 .given .1 in
     applied-none (now (a .cells)) (now (a .corners)) (a .count) (c .before .before .before .before .pre .0) (sideTried (cornerLine (a .goal)) (a .wavefront-cost) (a .from) (a .wall) (a .side)) (λ queue. rw e)
-
-open-side-requires-2 : tie.Need-open-side-requires-2
-open-side-requires-2 c κs = search needs
-
-enum-known-corner : tie.Need-enum-known-corner
-enum-known-corner c = search needs
-
-enum-told-3 : tie.Need-enum-told-3
-enum-told-3 c = search needs
 
 returns-2 : tie.Need-returns-2
 unfolding sideTried
@@ -50,9 +32,6 @@ found c = sym (c .before .before .before .open-side2 .ensures) ∙ c .before .co
 
 inside : (c : tie.After-known-told) → Inside (c .before .corner .given .0 .0)
 inside c = stepped-cell _ _ _ (open-cell (now (c .before .before .before .before .before .before .before .before .before .args .cells)) (stepped (cellAt (c .before .before .before .before .before .before .before .before .before .args .wall)) (c .before .before .before .before .before .before .before .before .before .args .side)) _ (found c)) .within
-
-as-1d-index-requires : tie.Need-as-1d-index-requires
-as-1d-index-requires c κs = search needs
 
 index : (c : tie.After-as-1d-index) → c .as-1d-index .result ≡ indexOf (c .before .before .corner .given .0 .0)
 index c = c .as-1d-index .ensures ∙ index-inside 100 (c .before .before .corner .given .0 .0) (inside (c .before))
@@ -70,17 +49,10 @@ returns-3 c = let a = c .before .before .before .before .before .before .before 
     (λ queue. rw (e, found (c .before .before .before .before), index (c .before .before .before)))
 
 pub try-side-spec : {M : Type 1} → statement M
-try-side-spec =
-    tie.close
-    (tie.spec
-    open-side-requires
-    enum-told
-    enum-told-2
+try-side-spec = tie.close (tie.spec
+    (λ c κs. search needs) (λ c. search needs) (λ c. search needs)
     returns
-    open-side-requires-2
-    enum-known-corner
-    enum-told-3
+    (λ c κs. search needs) (λ c. search needs) (λ c. search needs)
     returns-2
-    as-1d-index-requires
-    extend-los-corner-requires
-    returns-3)
+    (λ c κs. search needs)
+    extend-los-corner-requires returns-3)
