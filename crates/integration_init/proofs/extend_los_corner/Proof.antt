@@ -18,10 +18,12 @@ use Rattle.integration_init.proofs.extend_los_corner.Statement.{stateme
 use Rattle.integration_init.proofs.extend_los_corner.Tie as tie
 
 from-inside : (c : tie.After-from-index2) → Inside (c .before .from-index .result)
-from-inside c = subst Inside (sym (c .before .from-index .ensures)) (cell-inside (c .before .before .args .corner) (c .before .before .pre .1 .from-in))
+from-inside c = let s = c .before .before in
+    subst Inside (sym (c .before .from-index .ensures)) (cell-inside (s .args .corner) (s .pre .1 .from-in))
 
 corner-line-end-requires : tie.Need-corner-line-end-requires
-corner-line-end-requires c κs = (from-inside c, subst Inside (sym (c .from-index2 .ensures)) (cell-inside (c .before .before .args .goal) (c .before .before .pre .1 .goal-in)))
+corner-line-end-requires c κs = let s = c .before .before in
+    (from-inside c, subst Inside (sym (c .from-index2 .ensures)) (cell-inside (s .args .goal) (s .pre .1 .goal-in)))
 
 -- the end lies in the sector, and is the definition's
 end-within : (c : tie.After-corner-line-end) → Inside (c .corner-line-end .result)
@@ -31,21 +33,21 @@ end-is : (c : tie.After-corner-line-end) → c .corner-line-end .result ≡ line
 end-is c = c .corner-line-end .ensures ∙ ap₂ lineEnd (c .before .before .from-index .ensures) (c .before .from-index2 .ensures)
 
 mark-line-requires : tie.Need-mark-line-requires
-mark-line-requires c κs = (
-  c .before .before .before .before .before .before .pre .0,
+mark-line-requires c κs = let s = c .before .before .before .before .before .before in (
+  s .pre .0,
   (
     line-drawn (c .before .before .before .before .before .from-index .result) (c .before .before .before .corner-line-end .result) (from-inside (c .before .before .before .before)) (end-within (c .before .before .before)) (c .before .before .get-cells-between-points .result) (c .before .before .get-cells-between-points .ensures .0),
-    (c .before .before .before .before .before .before .pre .1 .from-in, c .before .before .before .before .before .before .pre .1 .wave-in),
+    (s .pre .1 .from-in, s .pre .1 .wave-in),
   ),
 )
 
 returns : tie.Need-returns
 unfolding extended cornerLine
-returns c = let a = c .before .before .before .before .before .before .before .args in let l = c .before .before .before .get-cells-between-points .result in
+returns c = let s = c .before .before .before .before .before .before .before in let a = s .args in let l = c .before .before .before .get-cells-between-points .result in
     let e : take (l .count) (l .cells) ≡ line (cellAt (a .corner)) (lineEnd (cellAt (a .corner)) (cellAt (a .goal))) =
     line-list (c .before .before .before .before .before .before .from-index .result) (c .before .before .before .before .corner-line-end .result) (from-inside (c .before .before .before .before .before)) (end-within (c .before .before .before .before)) l (c .before .before .before .get-cells-between-points .ensures .0)
     ∙ ap₂ line (c .before .before .before .before .before .before .from-index .ensures) (end-is (c .before .before .before .before)) in
-    applied-same (now (a .cells)) (now (a .corners)) (a .count) (c .before .before .before .before .before .before .before .pre .0) (lineMarked (a .wavefront-cost) 0 (a .corner) (map indexOf (take (l .count) (l .cells)))) _ _ _ (c .mark-line .ensures)
+    applied-same (now (a .cells)) (now (a .corners)) (a .count) (s .pre .0) (lineMarked (a .wavefront-cost) 0 (a .corner) (map indexOf (take (l .count) (l .cells)))) _ _ _ (c .mark-line .ensures)
     (extended (cornerLine (a .goal)) (a .wavefront-cost) (a .corner))
     (λ queue. rw e)
 

@@ -26,12 +26,16 @@ abbrev at : tie.Start → Stepped → Sight
 at c n = let a = c .args in looked (cornerLine (a .goal)) (a .wavefront-cost) (a .from) (a .dir) n (entry c)
 
 returns : tie.Need-returns
-returns c = let a = c .before .before .before .before .args in
-    all-same (entry (c .before .before .before .before)) _ _ _ _ _ (c .before .before .before .before .pre .0) _
-    (ap (at (c .before .before .before .before)) (ap (λ (x : FieldCell). stepped x (a .dir)) (sym (c .before .before .before .from-index .ensures)) ∙ sym (c .before .before .get-in-compass-direction .ensures) ∙ c .enum-told .given .1))
+returns c = let s = c .before .before .before .before in let a = s .args in
+    all-same (entry s) _ _ _ _ _ (s .pre .0) _
+    (ap (at s) (ap (λ (x : FieldCell). stepped x (a .dir)) (sym (c .before .before .before .from-index .ensures)) ∙ sym (c .before .before .get-in-compass-direction .ensures) ∙ c .enum-told .given .1))
 
-arrives : (c : tie.After-known-told) → stepped (cellAt (c .before .before .before .before .before .args .from)) (c .before .before .before .before .before .args .dir) ≡ Cell (c .before .neighbour .given .0 .0)
-arrives c = ap (λ (x : FieldCell). stepped x (c .before .before .before .before .before .args .dir)) (sym (c .before .before .before .before .from-index .ensures)) ∙ sym (c .before .before .before .get-in-compass-direction .ensures) ∙ c .before .neighbour .given .1
+-- what the function is given
+abbrev start : tie.After-known-told → tie.Start
+start c = c .before .before .before .before .before
+
+arrives : (c : tie.After-known-told) → stepped (cellAt (start c .args .from)) (start c .args .dir) ≡ Cell (c .before .neighbour .given .0 .0)
+arrives c = ap (λ (x : FieldCell). stepped x (start c .args .dir)) (sym (c .before .before .before .before .from-index .ensures)) ∙ sym (c .before .before .before .get-in-compass-direction .ensures) ∙ c .before .neighbour .given .1
 
 inside : (c : tie.After-known-told) → Inside (c .before .neighbour .given .0 .0)
 inside c = stepped-cell _ _ _ (arrives c) .within
@@ -40,12 +44,13 @@ index : (c : tie.After-as-1d-index) → c .as-1d-index .result ≡ indexOf (c .b
 index c = c .as-1d-index .ensures ∙ index-inside 100 (c .before .before .neighbour .given .0 .0) (inside (c .before))
 
 look-at-requires : tie.Need-look-at-requires
-look-at-requires c κs = (c .before .before .before .before .before .before .before .before .before .pre .0, (c .before .before .before .before .before .before .before .before .before .pre .1, omega (arith, index (c .before .before .before), index-below (c .before .before .before .before .before .neighbour .given .0 .0) (inside (c .before .before .before .before)))))
+look-at-requires c κs = let s = c .before .before .before .before .before .before .before .before .before in
+    (s .pre .0, (s .pre .1, omega (arith, index (c .before .before .before), index-below (c .before .before .before .before .before .neighbour .given .0 .0) (inside (c .before .before .before .before)))))
 
 returns-2 : tie.Need-returns-2
-returns-2 c = let a = c .before .before .before .before .before .before .before .before .before .before .args in
-    all-same (neighbourLooked (cornerLine (a .goal)) (a .wavefront-cost) (a .from) (a .dir) (c .before .before .before .before .as-1d-index .result) (entry (c .before .before .before .before .before .before .before .before .before .before))) _ _ _ _ _ (c .look-at .ensures) _
-    (ap (at (c .before .before .before .before .before .before .before .before .before .before)) (arrives (c .before .before .before .before .before)) ∙ ap (λ (n : ℕ). neighbourLooked (cornerLine (a .goal)) (a .wavefront-cost) (a .from) (a .dir) n (entry (c .before .before .before .before .before .before .before .before .before .before))) (sym (index (c .before .before .before .before))))
+returns-2 c = let s = c .before .before .before .before .before .before .before .before .before .before in let a = s .args in
+    all-same (neighbourLooked (cornerLine (a .goal)) (a .wavefront-cost) (a .from) (a .dir) (c .before .before .before .before .as-1d-index .result) (entry s)) _ _ _ _ _ (c .look-at .ensures) _
+    (ap (at s) (arrives (c .before .before .before .before .before)) ∙ ap (λ (n : ℕ). neighbourLooked (cornerLine (a .goal)) (a .wavefront-cost) (a .from) (a .dir) n (entry s)) (sym (index (c .before .before .before .before))))
 
 pub look-spec : {M : Type 1} → statement M
 look-spec = tie.close (tie.spec

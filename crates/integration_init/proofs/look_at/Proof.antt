@@ -36,35 +36,35 @@ not-los : (c : tie.Else4) → isLos (word (c .before .before .before .before .be
 not-los c = sym (c .before .is-los .ensures) ∙ c .if4 .left
 
 returns : tie.Need-returns
-returns c = let a = c .before .before .before .args in
-    all-same (entry (c .before .before .before)) _ _ _ _ _ (c .before .before .before .pre .0) _
-    (look-blocked (cornerLine (a .goal)) (a .wavefront-cost) (a .from) (a .dir) (a .n) (entry (c .before .before .before)) (sym (c .before .is-blocked .ensures) ∙ c .if1 .taken))
+returns c = let s = c .before .before .before in let a = s .args in
+    all-same (entry s) _ _ _ _ _ (s .pre .0) _
+    (look-blocked (cornerLine (a .goal)) (a .wavefront-cost) (a .from) (a .dir) (a .n) (entry s) (sym (c .before .is-blocked .ensures) ∙ c .if1 .taken))
 
 returns-2 : tie.Need-returns-2
-returns-2 c = let a = c .before .before .before .before .before .args in
-    all-same (entry (c .before .before .before .before .before)) _ _ _ _ _ (c .before .before .before .before .before .pre .0) _
-    (look-goal (cornerLine (a .goal)) (a .wavefront-cost) (a .from) (a .dir) (a .n) (entry (c .before .before .before .before .before)) (not-blocked (c .before .before)) (sym (c .before .is-goal .ensures) ∙ c .if2 .taken))
+returns-2 c = let s = c .before .before .before .before .before in let a = s .args in
+    all-same (entry s) _ _ _ _ _ (s .pre .0) _
+    (look-goal (cornerLine (a .goal)) (a .wavefront-cost) (a .from) (a .dir) (a .n) (entry s) (not-blocked (c .before .before)) (sym (c .before .is-goal .ensures) ∙ c .if2 .taken))
 
 meet-wall-requires : tie.Need-meet-wall-requires
-meet-wall-requires c κs = let a = c .before .before .before .before .before .before .before .before .before .args in
-    (all-begins (now (a .cells)) (now (a .corners)) (a .counts .corners) (now (a .queue)) (a .counts .queued) (c .before .before .before .before .before .before .before .before .before .pre .0), (c .before .before .before .before .before .before .before .before .before .pre .1 .0, c .before .before .before .before .before .before .before .before .before .pre .1 .1))
+meet-wall-requires c κs = let s = c .before .before .before .before .before .before .before .before .before in let a = s .args in
+    (all-begins (now (a .cells)) (now (a .corners)) (a .counts .corners) (now (a .queue)) (a .counts .queued) (s .pre .0), (s .pre .1 .0, s .pre .1 .1))
 
 returns-3 : tie.Need-returns-3
-returns-3 c = let a = c .before .before .before .before .before .before .before .before .before .before .args in
-    all-same (wallMet (cornerLine (a .goal)) (a .wavefront-cost) (a .from) (a .n) (a .dir) (entry (c .before .before .before .before .before .before .before .before .before .before))) _ _ _ _ _
-    (wall-held (now (a .cells)) (now (a .corners)) (a .counts .corners) (now (a .queue)) (a .counts .queued) (c .before .before .before .before .before .before .before .before .before .before .pre .0)
+returns-3 c = let s = c .before .before .before .before .before .before .before .before .before .before in let a = s .args in
+    all-same (wallMet (cornerLine (a .goal)) (a .wavefront-cost) (a .from) (a .n) (a .dir) (entry s)) _ _ _ _ _
+    (wall-held (now (a .cells)) (now (a .corners)) (a .counts .corners) (now (a .queue)) (a .counts .queued) (s .pre .0)
     (wallMet (cornerLine (a .goal)) (a .wavefront-cost) (a .from) (a .n) (a .dir)) _ _ _ (c .meet-wall .ensures))
     _
-    (look-wall (cornerLine (a .goal)) (a .wavefront-cost) (a .from) (a .dir) (a .n) (entry (c .before .before .before .before .before .before .before .before .before .before)) (not-blocked (c .before .before .before .before .before .before .before)) (not-goal (c .before .before .before .before .before)) (sym (c .before .before .before .before .is-impassable .ensures) ∙ c .before .before .before .if3 .taken))
+    (look-wall (cornerLine (a .goal)) (a .wavefront-cost) (a .from) (a .dir) (a .n) (entry s) (not-blocked (c .before .before .before .before .before .before .before)) (not-goal (c .before .before .before .before .before)) (sym (c .before .before .before .before .is-impassable .ensures) ∙ c .before .before .before .if3 .taken))
 
 returns-4 : tie.Need-returns-4
-returns-4 c = let a = c .before .before .before .before .before .before .before .before .before .args in
-    all-same (entry (c .before .before .before .before .before .before .before .before .before)) _ _ _ _ _ (c .before .before .before .before .before .before .before .before .before .pre .0) _
-    (look-los (cornerLine (a .goal)) (a .wavefront-cost) (a .from) (a .dir) (a .n) (entry (c .before .before .before .before .before .before .before .before .before)) (not-blocked (c .before .before .before .before .before .before)) (not-goal (c .before .before .before .before)) (not-wall (c .before .before)) (sym (c .before .is-los .ensures) ∙ c .if4 .taken))
+returns-4 c = let s = c .before .before .before .before .before .before .before .before .before in let a = s .args in
+    all-same (entry s) _ _ _ _ _ (s .pre .0) _
+    (look-los (cornerLine (a .goal)) (a .wavefront-cost) (a .from) (a .dir) (a .n) (entry s) (not-blocked (c .before .before .before .before .before .before)) (not-goal (c .before .before .before .before)) (not-wall (c .before .before)) (sym (c .before .is-los .ensures) ∙ c .if4 .taken))
 
 room : (c : tie.Else4) → c .before .before .before .before .before .before .before .before .before .args .counts .queued < 100
-room c = let a = c .before .before .before .before .before .before .before .before .before .args in
-    seen-room (now (a .cells)) (now (a .corners)) (a .counts .corners) (now (a .queue)) (a .counts .queued) (c .before .before .before .before .before .before .before .before .before .pre .0) (a .n) (c .before .before .before .before .before .before .before .before .before .pre .1 .1) (not-los c) (not-blocked (c .before .before .before .before .before .before))
+room c = let s = c .before .before .before .before .before .before .before .before .before in let a = s .args in
+    seen-room (now (a .cells)) (now (a .corners)) (a .counts .corners) (now (a .queue)) (a .counts .queued) (s .pre .0) (a .n) (s .pre .1 .1) (not-los c) (not-blocked (c .before .before .before .before .before .before))
 
 mul-queue : tie.Need-mul-queue
 mul-queue c = omega (arith, room c)
@@ -76,11 +76,11 @@ add-t14 : tie.Need-add-t14
 add-t14 c = omega (arith, room c)
 
 returns-5 : tie.Need-returns-5
-returns-5 c = let a = c .before .before .before .before .before .before .before .before .before .args in
-    all-same (seen (a .wavefront-cost) (a .n) (entry (c .before .before .before .before .before .before .before .before .before))) _ _ _ _ _
-    (seen-held (now (a .cells)) (now (a .corners)) (a .counts .corners) (now (a .queue)) (a .counts .queued) (c .before .before .before .before .before .before .before .before .before .pre .0) (a .n) (c .before .before .before .before .before .before .before .before .before .pre .1 .1) (not-los c) (not-blocked (c .before .before .before .before .before .before)) (a .wavefront-cost) (c .before .before .before .before .before .before .before .before .before .pre .1 .0 .wave-in))
+returns-5 c = let s = c .before .before .before .before .before .before .before .before .before in let a = s .args in
+    all-same (seen (a .wavefront-cost) (a .n) (entry s)) _ _ _ _ _
+    (seen-held (now (a .cells)) (now (a .corners)) (a .counts .corners) (now (a .queue)) (a .counts .queued) (s .pre .0) (a .n) (s .pre .1 .1) (not-los c) (not-blocked (c .before .before .before .before .before .before)) (a .wavefront-cost) (s .pre .1 .0 .wave-in))
     _
-    (look-new (cornerLine (a .goal)) (a .wavefront-cost) (a .from) (a .dir) (a .n) (entry (c .before .before .before .before .before .before .before .before .before)) (not-blocked (c .before .before .before .before .before .before)) (not-goal (c .before .before .before .before)) (not-wall (c .before .before)) (not-los c))
+    (look-new (cornerLine (a .goal)) (a .wavefront-cost) (a .from) (a .dir) (a .n) (entry s) (not-blocked (c .before .before .before .before .before .before)) (not-goal (c .before .before .before .before)) (not-wall (c .before .before)) (not-los c))
 
 pub look-at-spec : {M : Type 1} → statement M
 look-at-spec = tie.close (tie.spec

@@ -31,11 +31,12 @@ loop-holds c = let a = c .args in
     (search needs, (record { room = c .pre .0 .room; held = c .pre .0 .held; full = c .pre .1 .1 .0; queue-held = refl; queued-held = refl }, refl))
 
 look-around-requires : tie.Need-look-around-requires Inv-loop μ-loop
-look-around-requires c κs = (c .before .before .before .before .before .loop .inv .1 .0, record { wave-in = c .before .before .before .before .before .before .pre .1 .1 .1 .0; goal-in = c .before .before .before .before .before .before .pre .1 .1 .1 .1; from-in = c .before .before .before .before .before .before .pre .1 .0 .cells-in (c .before .before .before .before .before .loop .i) (c .before .before .before .before .loop-test .taken) })
+look-around-requires c κs = let s = c .before .before .before .before .before .before in
+    (c .before .before .before .before .before .loop .inv .1 .0, record { wave-in = s .pre .1 .1 .1 .0; goal-in = s .pre .1 .1 .1 .1; from-in = s .pre .1 .0 .cells-in (c .before .before .before .before .before .loop .i) (c .before .before .before .before .loop-test .taken) })
 
 loop-again : tie.Need-loop-again Inv-loop μ-loop
-loop-again c = let a = c .before .before .before .before .before .before .before .args in let l = c .before .before .before .before .before .before .loop in
-    let long : a .size ≤ length (now (a .wavefront)) = omega (arith, c .before .before .before .before .before .before .before .pre .1 .0 .full, c .before .before .before .before .before .before .before .pre .1 .0 .size-in) in
+loop-again c = let s = c .before .before .before .before .before .before .before in let a = s .args in let l = c .before .before .before .before .before .before .loop in
+    let long : a .size ≤ length (now (a .wavefront)) = omega (arith, s .pre .1 .0 .full, s .pre .1 .0 .size-in) in
     let s : Sight = sightOf (l .cells) (l .corners) (l .counts .corners) (take (l .counts .queued) (l .next)) in (
       search needs,
       (

@@ -44,16 +44,16 @@ add-i : tie.Need-add-i Inv-loop μ-loop
 add-i c = omega (arith, c .loop-test .taken, c .before .before .before .pre .0 .count-in)
 
 loop-again : tie.Need-loop-again Inv-loop μ-loop
-loop-again c = let a = c .before .before .before .args in let l = c .before .loop in (
+loop-again c = let s = c .before .before .before in let a = s .args in let l = c .before .loop in (
   search needs,
-  l .inv .1 ∙ portal-step (a .window .cells) (a .window .count) (c .before .before .before .pre .0) (l .i) (l .cells) (c .loop-test .taken),
-  portal-listed (a .window .cells) (a .window .count) (c .before .before .before .pre .0) (l .i) (l .corners) (c .loop-test .taken) (l .inv .2),
+  l .inv .1 ∙ portal-step (a .window .cells) (a .window .count) (s .pre .0) (l .i) (l .cells) (c .loop-test .taken),
+  portal-listed (a .window .cells) (a .window .count) (s .pre .0) (l .i) (l .corners) (c .loop-test .taken) (l .inv .2),
 )
 
 returns : tie.Need-returns Inv-loop μ-loop
-returns c = let a = c .before .before .before .args in let l = c .before .loop in
+returns c = let s = c .before .before .before in let a = s .args in let l = c .before .loop in
     let e : l .i ≡ a .window .count = omega arith in (
-      sym (l .inv .1 ∙ ap (λ (k : ℕ). withPortals (slice k (a .window .count) (a .window .cells)) (l .cells)) e ∙ portal-end (a .window .cells) (a .window .count) (c .before .before .before .pre .0) (l .cells)),
+      sym (l .inv .1 ∙ ap (λ (k : ℕ). withPortals (slice k (a .window .count) (a .window .cells)) (l .cells)) e ∙ portal-end (a .window .cells) (a .window .count) (s .pre .0) (l .cells)),
       l .inv .2 ∙ ap (λ (k : ℕ). padded (take k (a .window .cells))) e,
     )
 

@@ -24,16 +24,16 @@ shared-slice-read-wall-or : tie.Need-shared-slice-read-wall-or Inv-loop μ-loop
 shared-slice-read-wall-or c = omega (arith, c .before .before .before .before .pre .0, c .before .loop-test .taken)
 
 loop-again : tie.Need-loop-again Inv-loop μ-loop
-loop-again c = let l = c .before .before .before .loop in (
+loop-again c = let s = c .before .before .before .before .before in let l = c .before .before .before .loop in (
   search needs,
   length-set (l .cells) (l .i) (c .wall-or .result) ∙ l .inv .1,
-  wall-step (now (c .before .before .before .before .before .args .costs)) (l .cells) (c .before .before .before .before .before .pre .0) (l .inv .1) (l .i) (c .wall-or .result) (c .before .before .loop-test .taken) (c .wall-or .ensures) (l .inv .2),
+  wall-step (now (s .args .costs)) (l .cells) (s .pre .0) (l .inv .1) (l .i) (c .wall-or .result) (c .before .before .loop-test .taken) (c .wall-or .ensures) (l .inv .2),
 )
 
 returns : tie.Need-returns Inv-loop μ-loop
-returns c = let l = c .before .loop in
+returns c = let s = c .before .before .before in let l = c .before .loop in
     let e : l .i ≡ 100 = omega arith in
-    wall-end (now (c .before .before .before .args .costs)) (l .cells) (c .before .before .before .pre .0) (l .inv .1) (rw e at (l .inv .2))
+    wall-end (now (s .args .costs)) (l .cells) (s .pre .0) (l .inv .1) (rw e at (l .inv .2))
 
 pub mark-walls-spec : {M : Type 1} → statement M
 mark-walls-spec = tie.close (tie.spec

@@ -15,19 +15,19 @@ abbrev tried : tie.After-inverse → CompassDir → Sight → Sight
 tried c side = sideTried (cornerLine (c .before .before .before .before .before .before .before .args .goal)) (c .before .before .before .before .before .before .before .args .wavefront-cost) (c .before .before .before .before .before .before .before .args .from) (c .before .before .before .before .before .before .before .args .wall) side
 
 try-side-requires-2 : tie.Need-try-side-requires-2
-try-side-requires-2 c κs = let a = c .before .before .before .before .before .before .before .args in
-    (applied-ready (now (a .cells)) (now (a .corners)) (a .count) (c .before .before .before .before .before .before .before .pre .0) (tried c (c .before .before .before .before .before .before .first-side .result)) _ _ _ (c .before .before .before .try-side .ensures), c .before .before .before .before .before .before .before .pre .1)
+try-side-requires-2 c κs = let s = c .before .before .before .before .before .before .before in let a = s .args in
+    (applied-ready (now (a .cells)) (now (a .corners)) (a .count) (s .pre .0) (tried c (c .before .before .before .before .before .before .first-side .result)) _ _ _ (c .before .before .before .try-side .ensures), s .pre .1)
 
 returns : tie.Need-returns
 unfolding wallMet
-returns c = let a = c .before .before .before .before .before .before .before .before .args in let cells = now (a .cells) in let corners = now (a .corners) in
+returns c = let s = c .before .before .before .before .before .before .before .before in let a = s .args in let cells = now (a .cells) in let corners = now (a .corners) in
     let try = tried (c .before) in
     let first = c .before .before .before .before .before .before .before .first-side .result in
     let second = c .before .inverse .result in
     let e : first ≡ firstSide (a .dir) = c .before .before .before .before .before .before .before .first-side .ensures in
     let f : second ≡ opposite (firstSide (a .dir)) = c .before .inverse .ensures ∙ ap opposite e in
-    applied-same cells corners (a .count) (c .before .before .before .before .before .before .before .before .pre .0) (λ s. try second (try first s)) _ _ _
-    (applied-then cells corners (a .count) (c .before .before .before .before .before .before .before .before .pre .0) (try first) _ _ _ (c .before .before .before .before .try-side .ensures) (try second) _ _ _ (c .try-side2 .ensures))
+    applied-same cells corners (a .count) (s .pre .0) (λ s. try second (try first s)) _ _ _
+    (applied-then cells corners (a .count) (s .pre .0) (try first) _ _ _ (c .before .before .before .before .try-side .ensures) (try second) _ _ _ (c .try-side2 .ensures))
     (wallMet (cornerLine (a .goal)) (a .wavefront-cost) (a .from) (a .wall) (a .dir))
     (λ queue. rw (e, f))
 

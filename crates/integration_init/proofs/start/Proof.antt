@@ -21,12 +21,15 @@ window : (c : tie.After-get-all-window-cells) → c .get-all-window-cells .resul
 window c = c .get-all-window-cells .ensures ∙ ap (λ (r : RouteStep). listed (cellsBetween (r .portal .boundary) (r .portal .start) (r .portal .end))) (c .before .before .before .new .ensures)
 
 start-at-requires : tie.Need-start-at-requires
-start-at-requires c κs = let s = now (c .before .before .before .before .before .before .args .step) in (c .before .before .before .before .before .before .pre .0, window-held s (accepted-window s (c .before .before .before .before .before .before .pre .1) (windowed c)) (c .get-all-window-cells .result) (window c))
+start-at-requires c κs = let s = c .before .before .before .before .before .before in let step = now (s .args .step) in
+    (s .pre .0, window-held step (accepted-window step (s .pre .1) (windowed c)) (c .get-all-window-cells .result) (window c))
 
 returns : tie.Need-returns
 unfolding started
-returns c = let s = now (c .before .before .before .before .before .before .before .args .step) in let p = c .before in
-    c .start-at .ensures ∙ ap (startedAt (now (c .before .before .before .before .before .before .before .args .costs))) (window-list s (accepted-window s (c .before .before .before .before .before .before .before .pre .1) (windowed p)) (c .before .get-all-window-cells .result) (window p)) ∙ sym (rw (windowed p))
+returns c = let s = c .before .before .before .before .before .before .before in let step = now (s .args .step) in let p = c .before in
+    c .start-at .ensures
+    ∙ ap (startedAt (now (s .args .costs))) (window-list step (accepted-window step (s .pre .1) (windowed p)) (p .get-all-window-cells .result) (window p))
+    ∙ sym (rw (windowed p))
 
 plain : (c : tie.Else1) → isWindow (now (c .before .before .before .before .args .step)) ≡ false
 plain c = ap (λ (r : RouteStep). r .«has_portal») (sym (c .before .new .ensures)) ∙ c .if1 .left
@@ -35,7 +38,8 @@ goal-is : (c : tie.Else1) → c .before .new .result .goal ≡ goalOf (now (c .b
 goal-is c = ap (λ (r : RouteStep). r .goal) (c .before .new .ensures)
 
 start-from-requires : tie.Need-start-from-requires
-start-from-requires c κs = (c .before .before .before .before .pre .0, rw (goal-is c) (accepted-goal (now (c .before .before .before .before .args .step)) (c .before .before .before .before .pre .1) (plain c)))
+start-from-requires c κs = let s = c .before .before .before .before in
+    (s .pre .0, rw (goal-is c) (accepted-goal (now (s .args .step)) (s .pre .1) (plain c)))
 
 returns-2 : tie.Need-returns-2
 unfolding started

@@ -10,8 +10,8 @@ use Rattle.integration_init.proofs.start_at.Statement.{statement}
 use Rattle.integration_init.proofs.start_at.Tie as tie
 
 returns : tie.Need-returns
-returns c = let a = c .before .before .before .before .before .before .args in let w = a .window in
-    portal-started (w .cells) (w .count) (c .before .before .before .before .before .before .pre .1) (now (a .costs)) _ _ (c .mark-portals .ensures .0 ∙ ap (withPortals (take (w .count) (w .cells))) (c .before .before .before .mark-walls .ensures)) (c .mark-portals .ensures .1)
+returns c = let s = c .before .before .before .before .before .before in let a = s .args in let w = a .window in
+    portal-started (w .cells) (w .count) (s .pre .1) (now (a .costs)) _ _ (c .mark-portals .ensures .0 ∙ ap (withPortals (take (w .count) (w .cells))) (c .before .before .before .mark-walls .ensures)) (c .mark-portals .ensures .1)
 
 pub start-at-spec : {M : Type 1} → statement M
 start-at-spec = tie.close (tie.spec

@@ -15,17 +15,17 @@ use Rattle.integration_init.proofs.start_from.Statement.{statement}
 use Rattle.integration_init.proofs.start_from.Tie as tie
 
 propagate-los-requires : tie.Need-propagate-los-requires
-propagate-los-requires c κs = let a = c .before .before .before .before .before .before .args in (
-  goal-ready (now (a .costs)) (c .before .before .before .before .before .before .pre .0) (a .goal) (c .before .before .before .before .before .before .pre .1) _ (ap (λ (l : List ℕ). set l (a .goal) 0x20000) (c .before .before .before .mark-walls .ensures)),
-  (goal-wavefront (now (a .costs)) (c .before .before .before .before .before .before .pre .0) (a .goal) (c .before .before .before .before .before .before .pre .1), (c .before .before .before .before .before .before .pre .1, omega arith)),
+propagate-los-requires c κs = let s = c .before .before .before .before .before .before in let a = s .args in (
+  goal-ready (now (a .costs)) (s .pre .0) (a .goal) (s .pre .1) _ (ap (λ (l : List ℕ). set l (a .goal) 0x20000) (c .before .before .before .mark-walls .ensures)),
+  (goal-wavefront (now (a .costs)) (s .pre .0) (a .goal) (s .pre .1), (s .pre .1, omega arith)),
 )
 
 returns : tie.Need-returns
 unfolding startedFrom sightFrom
-returns c = let a = c .before .before .before .before .before .before .before .args in
+returns c = let s = c .before .before .before .before .before .before .before in let a = s .args in
     held-field _ _ _ _
     (c .propagate-los .ensures (walls (now (a .costs))) 0 refl
-    (goal-sight (now (a .costs)) (c .before .before .before .before .before .before .before .pre .0) (a .goal) (c .before .before .before .before .before .before .before .pre .1) _ (ap (λ (l : List ℕ). set l (a .goal) 0x20000) (c .before .before .before .before .mark-walls .ensures))))
+    (goal-sight (now (a .costs)) (s .pre .0) (a .goal) (s .pre .1) _ (ap (λ (l : List ℕ). set l (a .goal) 0x20000) (c .before .before .before .before .mark-walls .ensures))))
 
 pub start-from-spec : {M : Type 1} → statement M
 start-from-spec = tie.close (tie.spec

@@ -16,35 +16,40 @@ use Rattle.integration_init.proofs.try_side.Tie as tie
 
 returns : tie.Need-returns
 unfolding sideTried
-returns c = let a = c .before .before .before .before .args in
+returns c = let s = c .before .before .before .before in let a = s .args in
     let e : unlessWall (now (a .cells)) (stepped (cellAt (a .from)) (a .side)) ≡ Outside = sym (c .before .before .open-side .ensures) ∙ c .enum-told2 .given .1 in
-    applied-none (now (a .cells)) (now (a .corners)) (a .count) (c .before .before .before .before .pre .0) (sideTried (cornerLine (a .goal)) (a .wavefront-cost) (a .from) (a .wall) (a .side)) (λ queue. rw e)
+    applied-none (now (a .cells)) (now (a .corners)) (a .count) (s .pre .0) (sideTried (cornerLine (a .goal)) (a .wavefront-cost) (a .from) (a .wall) (a .side)) (λ queue. rw e)
 
 returns-2 : tie.Need-returns-2
 unfolding sideTried
-returns-2 c = let a = c .before .before .before .before .before .before .before .before .args in
+returns-2 c = let s = c .before .before .before .before .before .before .before .before in let a = s .args in
     let e : unlessWall (now (a .cells)) (stepped (cellAt (a .from)) (a .side)) ≡ Cell (c .before .before .before .before .enum-told .given .0 .0) = sym (c .before .before .before .before .before .before .open-side .ensures) ∙ c .before .before .before .before .enum-told .given .1 in
     let f : unlessWall (now (a .cells)) (stepped (cellAt (a .wall)) (a .side)) ≡ Outside = sym (c .before .before .open-side2 .ensures) ∙ c .enum-told3 .given .1 in
-    applied-none (now (a .cells)) (now (a .corners)) (a .count) (c .before .before .before .before .before .before .before .before .pre .0) (sideTried (cornerLine (a .goal)) (a .wavefront-cost) (a .from) (a .wall) (a .side)) (λ queue. rw (e, f))
+    applied-none (now (a .cells)) (now (a .corners)) (a .count) (s .pre .0) (sideTried (cornerLine (a .goal)) (a .wavefront-cost) (a .from) (a .wall) (a .side)) (λ queue. rw (e, f))
 
-found : (c : tie.After-known-told) → unlessWall (now (c .before .before .before .before .before .before .before .before .before .args .cells)) (stepped (cellAt (c .before .before .before .before .before .before .before .before .before .args .wall)) (c .before .before .before .before .before .before .before .before .before .args .side)) ≡ Cell (c .before .corner .given .0 .0)
+-- what the function is given
+abbrev start : tie.After-known-told → tie.Start
+start c = c .before .before .before .before .before .before .before .before .before
+
+found : (c : tie.After-known-told) → unlessWall (now (start c .args .cells)) (stepped (cellAt (start c .args .wall)) (start c .args .side)) ≡ Cell (c .before .corner .given .0 .0)
 found c = sym (c .before .before .before .open-side2 .ensures) ∙ c .before .corner .given .1
 
 inside : (c : tie.After-known-told) → Inside (c .before .corner .given .0 .0)
-inside c = stepped-cell _ _ _ (open-cell (now (c .before .before .before .before .before .before .before .before .before .args .cells)) (stepped (cellAt (c .before .before .before .before .before .before .before .before .before .args .wall)) (c .before .before .before .before .before .before .before .before .before .args .side)) _ (found c)) .within
+inside c = let a = start c .args in stepped-cell _ _ _ (open-cell (now (a .cells)) (stepped (cellAt (a .wall)) (a .side)) _ (found c)) .within
 
 index : (c : tie.After-as-1d-index) → c .as-1d-index .result ≡ indexOf (c .before .before .corner .given .0 .0)
 index c = c .as-1d-index .ensures ∙ index-inside 100 (c .before .before .corner .given .0 .0) (inside (c .before))
 
 extend-los-corner-requires : tie.Need-extend-los-corner-requires
 extend-los-corner-requires c κs =
-    (c .before .before .before .before .before .before .before .before .before .before .before .before .pre .0, record { wave-in = c .before .before .before .before .before .before .before .before .before .before .before .before .pre .1 .0 .wave-in; goal-in = c .before .before .before .before .before .before .before .before .before .before .before .before .pre .1 .0 .goal-in; from-in = omega (arith, index (c .before .before), index-below (c .before .before .before .before .corner .given .0 .0) (inside (c .before .before .before))) })
+    let s = c .before .before .before .before .before .before .before .before .before .before .before .before in
+    (s .pre .0, record { wave-in = s .pre .1 .0 .wave-in; goal-in = s .pre .1 .0 .goal-in; from-in = omega (arith, index (c .before .before), index-below (c .before .before .before .before .corner .given .0 .0) (inside (c .before .before .before))) })
 
 returns-3 : tie.Need-returns-3
 unfolding sideTried
-returns-3 c = let a = c .before .before .before .before .before .before .before .before .before .before .before .before .before .args in
+returns-3 c = let s = c .before .before .before .before .before .before .before .before .before .before .before .before .before in let a = s .args in
     let e : unlessWall (now (a .cells)) (stepped (cellAt (a .from)) (a .side)) ≡ Cell (c .before .before .before .before .before .before .before .before .before .enum-told .given .0 .0) = sym (c .before .before .before .before .before .before .before .before .before .before .before .open-side .ensures) ∙ c .before .before .before .before .before .before .before .before .before .enum-told .given .1 in
-    applied-same (now (a .cells)) (now (a .corners)) (a .count) (c .before .before .before .before .before .before .before .before .before .before .before .before .before .pre .0) (extended (cornerLine (a .goal)) (a .wavefront-cost) (c .before .before .before .as-1d-index .result)) _ _ _ (c .extend-los-corner .ensures)
+    applied-same (now (a .cells)) (now (a .corners)) (a .count) (s .pre .0) (extended (cornerLine (a .goal)) (a .wavefront-cost) (c .before .before .before .as-1d-index .result)) _ _ _ (c .extend-los-corner .ensures)
     (sideTried (cornerLine (a .goal)) (a .wavefront-cost) (a .from) (a .wall) (a .side))
     (λ queue. rw (e, found (c .before .before .before .before), index (c .before .before .before)))
 
