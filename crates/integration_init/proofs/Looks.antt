@@ -1,9 +1,10 @@
--- A look at one neighbour, case by case, and the waves that are made of looks.
---     look-blocked .. look-new    what a look does, by what the neighbour is
---     seen-held                   a cell that comes into sight, in arrays
---     wall-held                   a wall met, in arrays
---     wave-step, wave-end         a wave, from the cell at place i on
---     open-cell                   a cell that is no wall is the cell stepped to
+-- A look at one neighbour, in arrays, and the waves that are made of looks.
+--     all-begins              the arrays without their queue
+--     wall-held               a wall met
+--     seen-room, seen-held    a cell that comes into sight
+--     wave-step, wave-end     a wave, from the cell at place i on
+--     step-told               where a step from an index arrives
+--     open-cell               a cell that is no wall is the cell stepped to
 -- Assumes nothing.
 use mathlib.Core.Path.{_≡_, refl, sym, ap, _∙_}
 use mathlib.Core.Bool.{Bool, true, false, cond}
@@ -18,39 +19,12 @@ use Rattle.utilities.specs.Compass.{orthogonal}
 use Rattle.fields.specs.declared.FieldCell.{FieldCell}
 use Rattle.fields.specs.declared.Stepped.{Stepped}
 use Rattle.fields.specs.declared.Stepped.the-variants.{Cell, Outside}
-use Rattle.fields.specs.Cell.{indexOf}
-use Rattle.integration_field.specs.Word.{isLos, isGoal, isBlocked, isImpassable}
+use Rattle.fields.specs.Cell.{cellAt, indexOf, stepped}
+use Rattle.integration_field.specs.Word.{isLos, isBlocked}
 use Rattle.integration_field.specs.Diagonal.{wallAt}
-use Rattle.started_field.specs.Sight.{Sight, unlessWall, seen, wallMet, neighbourLooked, lookedAround, waveLooked}
+use Rattle.started_field.specs.Sight.{Sight, unlessWall, seen, lookedAround, waveLooked}
 use Rattle.started_field.proofs.Room.{room-queue, room-seen, room-begins}
 use Rattle.integration_init.specs.Held.{sightOf, Ready, ReadyAll, HoldsAll, Applied}
-
-module _ (line : ℕ → List ℕ) (wave from : ℕ) (d : CompassDir) (n : ℕ) (s : Sight) where
-  abbrev word : ℕ
-  word = getD (s .cells) n 0
-
-  pub look-blocked : isBlocked word ≡ true → neighbourLooked line wave from d n s ≡ s
-  unfolding neighbourLooked
-  look-blocked b = rw b
-
-  module _ (b : isBlocked word ≡ false) where
-    pub look-goal : isGoal word ≡ true → neighbourLooked line wave from d n s ≡ s
-    unfolding neighbourLooked
-    look-goal g = rw (b, g)
-
-    module _ (g : isGoal word ≡ false) where
-      pub look-wall : isImpassable word ≡ true → neighbourLooked line wave from d n s ≡ wallMet line wave from n d s
-      unfolding neighbourLooked
-      look-wall w = rw (b, g, w)
-
-      module _ (w : isImpassable word ≡ false) where
-        pub look-los : isLos word ≡ true → neighbourLooked line wave from d n s ≡ s
-        unfolding neighbourLooked
-        look-los l = rw (b, g, w, l)
-
-        pub look-new : isLos word ≡ false → neighbourLooked line wave from d n s ≡ seen wave n s
-        unfolding neighbourLooked
-        look-new l = rw (b, g, w, l)
 
 module _ (cells corners : List ℕ) (count : ℕ) (queue : List ℕ) (queued : ℕ) (ready : ReadyAll cells corners count queue queued) where
   abbrev now : Sight
@@ -96,6 +70,9 @@ module _ (line : ℕ → List ℕ) (wave : ℕ) (cells : List ℕ) (count : ℕ)
   pub wave-end : (s : Sight) → waveLooked line wave (slice count count cells) s ≡ s
   unfolding waveLooked
   wave-end s = ap (λ (l : List ℕ). waveLooked line wave l s) (slice-empty count cells)
+
+pub step-told : (from : ℕ) (d : CompassDir) (c : FieldCell) (t u : Stepped) → c ≡ cellAt from → t ≡ stepped c d → t ≡ u → stepped (cellAt from) d ≡ u
+step-told from d c t u e f g = ap (λ (x : FieldCell). stepped x d) (sym e) ∙ sym f ∙ g
 
 no-wall : (t : Bool) (m n : FieldCell) → cond t Outside (Cell m) ≡ Cell n → Cell m ≡ Cell n
 no-wall true m n e = let z : _≡_ {A = ℕ} 0 1 = cc in absurd (omega arith)
