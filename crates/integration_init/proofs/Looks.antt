@@ -22,11 +22,11 @@ use Rattle.fields.specs.declared.Stepped.the-variants.{Cell, Outside}
 use Rattle.fields.specs.Cell.{cellAt, indexOf, stepped}
 use Rattle.integration_field.specs.Word.{isLos, isBlocked}
 use Rattle.integration_field.specs.Diagonal.{wallAt}
-use Rattle.started_field.specs.Sight.{Sight, unlessWall, seen, lookedAround, waveLooked}
+use Rattle.started_field.specs.Sight.{Sight, sightWord, unlessWall, seen, lookedAround, waveLooked}
 use Rattle.started_field.proofs.Room.{room-queue, room-seen, room-begins}
 use Rattle.integration_init.specs.Held.{sightOf, Ready, ReadyAll, HoldsAll, Applied}
 
-module _ (cells corners : List ℕ) (count : ℕ) (queue : List ℕ) (queued : ℕ) (ready : ReadyAll cells corners count queue queued) where
+module _ {cells corners : List ℕ} {count : ℕ} {queue : List ℕ} {queued : ℕ} (ready : ReadyAll cells corners count queue queued) where
   abbrev now : Sight
   now = sightOf cells corners count (take queued queue)
 
@@ -36,9 +36,9 @@ module _ (cells corners : List ℕ) (count : ℕ) (queue : List ℕ) (queued : �
     held = record { cells-held = refl; corners-held = ready .held .corners-held; count-held = ready .held .count-held };
   }
 
-  pub wall-held : (step : Sight → Sight) (cells' corners' : List ℕ) (count' : ℕ) → Applied step cells corners count cells' corners' count'
+  pub wall-held : (step : Sight → Sight) {cells' corners' : List ℕ} {count' : ℕ} → Applied step cells corners count cells' corners' count'
       → HoldsAll (step now) cells' corners' count' queue queued
-  wall-held step cells' corners' count' a =
+  wall-held step a =
       let l = a (take queued queue) in
       record { room = l .room (ready .room); held = l .held; full = ready .full; queue-held = sym (l .queued); queued-held = ready .queued-held ∙ ap length (sym (l .queued)) }
 
@@ -46,7 +46,7 @@ module _ (cells corners : List ℕ) (count : ℕ) (queue : List ℕ) (queued : �
     pub seen-room : queued < 100
     seen-room = omega (arith, ready .queued-held, room-queue now (ready .room) n inside l b)
 
-    pub seen-held : (wave : ℕ) → wave ≤ 100 → HoldsAll (seen wave n now) (set cells n (wave + 0x10000)) corners count (set queue queued n) (queued + 1)
+    pub seen-held : (wave : ℕ) → wave ≤ 100 → HoldsAll (seen wave n now) (set cells n (sightWord wave)) corners count (set queue queued n) (queued + 1)
     unfolding seen
     seen-held wave small =
         let room = seen-room in

@@ -13,12 +13,12 @@ use Rattle.integration_field.proofs.Lists.{padded-push}
 use Rattle.started_field.specs.Sight.{marked}
 use Rattle.started_field.proofs.Room.{room-corner, room-listed}
 use Rattle.integration_init.specs.Held.{sightOf, Ready, Applied}
-use Rattle.integration_init.proofs.Held.{applied-none}
+use Rattle.integration_init.proofs.Held.{applied-still}
 
-module _ (cells corners : List ℕ) (count n value : ℕ) (ready : Ready cells corners count) (inside : n < 100) (small : value < 65536) where
+module _ {cells corners : List ℕ} {count : ℕ} (ready : Ready cells corners count) (n value : ℕ) (inside : n < 100) (small : value < 65536) where
   pub kept-mark : isBlocked (getD cells n 0) ≡ true → Applied (marked value n) cells corners count cells corners count
   unfolding marked
-  kept-mark e = applied-none cells corners count ready (marked value n) (λ queue. rw e)
+  kept-mark e = rw e (applied-still ready)
 
   pub mark-room : isBlocked (getD cells n 0) ≡ false → count < 100
   mark-room e = omega (arith, ready .held .count-held, room-corner (sightOf cells corners count []) (ready .room) n inside e)

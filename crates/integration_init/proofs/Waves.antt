@@ -27,20 +27,20 @@ unfolding sightAfter
 wave-next line cells goal k wave s e f = ap₂ (λ (w : ℕ) (t : Sight). waveLooked line w (t .queue) (begun t)) e f
 
 -- the queue is no part of what is held
-pub held-as : (s : Sight) (cells corners : List ℕ) (count : ℕ) (queue : List ℕ) → Ready cells corners count → sightOf cells corners count queue ≡ s → Holds s cells corners count
-held-as s cells corners count queue r e =
+pub held-as : {s : Sight} {cells corners : List ℕ} {count : ℕ} (queue : List ℕ) → Ready cells corners count → sightOf cells corners count queue ≡ s → Holds s cells corners count
+held-as {s} {cells} {corners} {count} queue r e =
     subst (λ (t : Sight). Holds t cells corners count) e (record { cells-held = refl; corners-held = r .held .corners-held; count-held = r .held .count-held })
 
-pub held-same : (s t : Sight) (cells corners : List ℕ) (count : ℕ) → Holds s cells corners count → s ≡ t → Holds t cells corners count
-held-same s t cells corners count h e = subst (λ (u : Sight). Holds u cells corners count) e h
+pub held-same : {s t : Sight} {cells corners : List ℕ} {count : ℕ} → Holds s cells corners count → s ≡ t → Holds t cells corners count
+held-same {cells = cells} {corners = corners} {count = count} h e = subst (λ (u : Sight). Holds u cells corners count) e h
 
-pub held-field : (s : Sight) (cells corners : List ℕ) (count : ℕ) → Holds s cells corners count → record { field = cells; «los_corners» = corners; count = count } ≡ withCorners (s .cells) (s .corners)
-held-field s cells corners count h =
+pub held-field : {s : Sight} {cells corners : List ℕ} {count : ℕ} → Holds s cells corners count → record { field = cells; «los_corners» = corners; count = count } ≡ withCorners (s .cells) (s .corners)
+held-field {s} {cells} {corners} {count} h =
     ap (λ (x : List ℕ). record { field = x; «los_corners» = corners; count = count }) (h .cells-held)
     ∙ ap₂ (λ (x : List ℕ) (n : ℕ). record { field = s .cells; «los_corners» = x; count = n }) (h .corners-held) (h .count-held)
 
-pub held-wavefront : (cells corners : List ℕ) (count : ℕ) (queue : List ℕ) (queued : ℕ) → ReadyAll cells corners count queue queued → Wavefront queue queued
-held-wavefront cells corners count queue queued h = record {
+pub held-wavefront : {cells corners : List ℕ} {count : ℕ} {queue : List ℕ} {queued : ℕ} → ReadyAll cells corners count queue queued → Wavefront queue queued
+held-wavefront {cells} {corners} {count} {queue} {queued} h = record {
   full = h .full;
   size-in = omega (arith, h .queued-held, room-queued (sightOf cells corners count (take queued queue)) (h .room));
   cells-in = λ i p.

@@ -40,7 +40,7 @@ module _ (t : ℕ) where
 
   -- arrays that are left as they are hold the sight at entry
   same : (c : lts.Start (wave.Asked, wave.Learnt, below t, go.Post) (at t) go.Post) (s : Sight) → entry c ≡ s → Holds s (now (c .args .cells)) (now (c .args .corners)) (c .args .count)
-  same c s e = let a = c .args in held-as s (now (a .cells)) (now (a .corners)) (a .count) (take (a .size) (now (a .wavefront))) (c .pre .1 .0) e
+  same c s e = let a = c .args in held-as (take (a .size) (now (a .wavefront))) (c .pre .1 .0) e
 
   returns : lts.Need-returns (wave.Asked, wave.Learnt, below t, go.Post) (at t) go.Post
   returns c before k e f =
@@ -75,8 +75,8 @@ module _ (t : ℕ) where
       let h : 0 < a .falling = pos-of-ne-zero (c .before .before .before .before .before .before .before .before .if1 .left) in
       let less : a .falling - 1 < t = omega (arith, s .pre .0) in
       let sum : a .wavefront-cost + 1 + (a .falling - 1) ≤ 101 = omega (arith, s .pre .1 .1 .1 .1) in
-      let ready = all-ready _ _ _ _ _ _ (c .before .before .before .look-wave .ensures) in
-      (less, (all-begins _ _ _ _ _ ready, (held-wavefront _ _ _ _ _ ready, (s .pre .1 .1 .1 .0, sum))))
+      let ready = all-ready (c .before .before .before .look-wave .ensures) in
+      (less, (all-begins ready, (held-wavefront ready, (s .pre .1 .1 .1 .0, sum))))
 
   returns-3 : lts.Need-returns-3 (wave.Asked, wave.Learnt, below t, go.Post) (at t) go.Post
   returns-3 c before k e f =
@@ -86,8 +86,8 @@ module _ (t : ℕ) where
       let h : 0 < a .falling = pos-of-ne-zero (c .before .before .before .before .before .before .before .before .before .if1 .left) in
       let more : a .wavefront-cost + 1 ≡ suc (suc k) = omega arith in
       let p : suc k + (a .falling - 1) ≡ k + a .falling = omega arith in
-      held-same _ _ _ _ _
-      (c .propagate-los .ensures before (suc k) more (held-all _ _ _ _ _ _ (c .before .before .before .before .look-wave .ensures) ∙ wave-next line before (a .goal) k (a .wavefront-cost) (entry s) e f))
+      held-same
+      (c .propagate-los .ensures before (suc k) more (held-all (c .before .before .before .before .look-wave .ensures) ∙ wave-next line before (a .goal) k (a .wavefront-cost) (entry s) e f))
       (ap (sightAfter line before (a .goal)) p)
 
 pub +propagate-los-spec : {M : Type 1} → statement M

@@ -1,18 +1,15 @@
 -- `integration_init::extend_los_corner` meets its contract: the end and the line are the definition's, and lie inside the sector.
 -- Assumes nothing.
 use mathlib.Core.Path.{_≡_, sym, ap₂, subst, _∙_}
-use mathlib.Core.List.{map}
 use borrow.Author.Needs.{needs}
-use denote.Ref.{now}
 use lib.ListN.{take}
-use Rattle.fields.specs.Cell.{Inside, cellAt, indexOf}
+use Rattle.fields.specs.Cell.{Inside, cellAt}
 use Rattle.fields.proofs.Steps.{cell-inside}
 use Rattle.line_end.specs.LineEnd.{lineEnd}
 use Rattle.line_end.proofs.Laws.{end-inside}
 use Rattle.bresenham.specs.Line.{line}
-use Rattle.started_field.specs.Sight.{lineMarked, extended}
+use Rattle.started_field.specs.Sight.{extended}
 use Rattle.started_field.specs.CornerLine.{cornerLine}
-use Rattle.integration_init.proofs.Held.{applied-same}
 use Rattle.integration_init.proofs.Lines.{line-list, line-drawn}
 use Rattle.integration_init.proofs.extend_los_corner.Statement.{statement}
 use Rattle.integration_init.proofs.extend_los_corner.Tie as tie
@@ -47,9 +44,7 @@ returns c = let s = c .before .before .before .before .before .before .before in
     let e : take (l .count) (l .cells) ≡ line (cellAt (a .corner)) (lineEnd (cellAt (a .corner)) (cellAt (a .goal))) =
     line-list (c .before .before .before .before .before .before .from-index .result) (c .before .before .before .before .corner-line-end .result) (from-inside (c .before .before .before .before .before)) (end-within (c .before .before .before .before)) l (c .before .before .before .get-cells-between-points .ensures .0)
     ∙ ap₂ line (c .before .before .before .before .before .before .from-index .ensures) (end-is (c .before .before .before .before)) in
-    applied-same (now (a .cells)) (now (a .corners)) (a .count) (s .pre .0) (lineMarked (a .wavefront-cost) 0 (a .corner) (map indexOf (take (l .count) (l .cells)))) _ _ _ (c .mark-line .ensures)
-    (extended (cornerLine (a .goal)) (a .wavefront-cost) (a .corner))
-    (λ queue. rw e)
+    rw (← e) (c .mark-line .ensures)
 
 pub extend-los-corner-spec : {M : Type 1} → statement M
 extend-los-corner-spec = tie.close (tie.spec

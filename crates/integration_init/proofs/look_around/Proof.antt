@@ -11,7 +11,7 @@ use Rattle.fields.specs.Cell.{cellAt, stepped}
 use Rattle.started_field.specs.Sight.{Sight, looked, lookedAround}
 use Rattle.started_field.specs.CornerLine.{cornerLine}
 use Rattle.integration_init.specs.Held.{sightOf, ReadyAll}
-use Rattle.integration_init.proofs.Held.{held-all, all-ready, all-same}
+use Rattle.integration_init.proofs.Held.{held-all, all-ready}
 use Rattle.integration_init.proofs.Waves.{around-step, around-end}
 use Rattle.integration_init.proofs.look_around.Statement.{statement}
 use Rattle.integration_init.proofs.look_around.Tie as tie
@@ -40,21 +40,20 @@ loop-again : tie.Need-loop-again Inv-loop μ-loop
 loop-again c = let a = c .before .before .before .before .before .before .before .args in let l = c .before .before .before .before .before .before .loop in
     let line = cornerLine (a .goal) in (
       search needs,
-      all-ready _ _ _ _ _ _ (c .look .ensures),
+      all-ready (c .look .ensures),
       l .inv .2
           ∙ around-step line (a .wavefront-cost) (a .from) (l .side) (held (c .before .before .before .before .before .before)) (c .before .before .before .before .before .loop-test .taken)
           ∙ ap (lookedAround line (a .wavefront-cost) (a .from) (drop (l .side + 1) orthogonal))
           (ap (λ (d : CompassDir). looked line (a .wavefront-cost) (a .from) d (stepped (cellAt (a .from)) d) (held (c .before .before .before .before .before .before))) (sym (c .before .before .before .before .from-boundary .ensures))
-          ∙ sym (held-all _ _ _ _ _ _ (c .look .ensures))),
+          ∙ sym (held-all (c .look .ensures))),
     )
 
 returns : tie.Need-returns Inv-loop μ-loop
 returns c = let a = c .before .before .args in let l = c .before .loop in
     let e : l .side ≡ 4 = omega arith in
-    all-same (held (c .before)) _ _ _ _ _ (l .inv .1) _
-    (l .inv .2
+    rw (l .inv .2
     ∙ ap (λ (k : ℕ). lookedAround (cornerLine (a .goal)) (a .wavefront-cost) (a .from) (drop k orthogonal) (held (c .before))) e
-    ∙ around-end (cornerLine (a .goal)) (a .wavefront-cost) (a .from) (held (c .before)))
+    ∙ around-end (cornerLine (a .goal)) (a .wavefront-cost) (a .from) (held (c .before))) (l .inv .1)
 
 pub look-around-spec : {M : Type 1} → statement M
 look-around-spec = tie.close (tie.spec

@@ -39,26 +39,26 @@ unfolding neighbourLooked
 returns-2 c = rw (not-blocked (c .before .before), sym (c .before .is-goal .ensures) ∙ c .if2 .taken) (c .before .before .before .before .before .pre .0)
 
 meet-wall-requires : tie.Need-meet-wall-requires
-meet-wall-requires c κs = let s = c .before .before .before .before .before .before .before .before .before in (all-begins _ _ _ _ _ (s .pre .0), s .pre .1)
+meet-wall-requires c κs = let s = c .before .before .before .before .before .before .before .before .before in (all-begins (s .pre .0), s .pre .1)
 
 returns-3 : tie.Need-returns-3
 unfolding neighbourLooked
 returns-3 c = let s = c .before .before .before .before .before .before .before .before .before .before in let a = s .args in
     rw (not-blocked (c .before .before .before .before .before .before .before), not-goal (c .before .before .before .before .before), sym (c .before .before .before .before .is-impassable .ensures) ∙ c .before .before .before .if3 .taken)
-    (wall-held _ _ _ _ _ (s .pre .0) (wallMet (cornerLine (a .goal)) (a .wavefront-cost) (a .from) (a .n) (a .dir)) _ _ _ (c .meet-wall .ensures))
+    (wall-held (s .pre .0) (wallMet (cornerLine (a .goal)) (a .wavefront-cost) (a .from) (a .n) (a .dir)) (c .meet-wall .ensures))
 
 returns-4 : tie.Need-returns-4
 unfolding neighbourLooked
 returns-4 c = rw (not-blocked (c .before .before .before .before .before .before), not-goal (c .before .before .before .before), not-wall (c .before .before), sym (c .before .is-los .ensures) ∙ c .if4 .taken) (c .before .before .before .before .before .before .before .before .before .pre .0)
 
 room : (c : tie.Else4) → c .before .before .before .before .before .before .before .before .before .args .counts .queued < 100
-room c = let s = c .before .before .before .before .before .before .before .before .before in seen-room _ _ _ _ _ (s .pre .0) (s .args .n) (s .pre .1 .1) (not-los c) (not-blocked (c .before .before .before .before .before .before))
+room c = let s = c .before .before .before .before .before .before .before .before .before in seen-room (s .pre .0) (s .args .n) (s .pre .1 .1) (not-los c) (not-blocked (c .before .before .before .before .before .before))
 
 returns-5 : tie.Need-returns-5
 unfolding neighbourLooked
 returns-5 c = let s = c .before .before .before .before .before .before .before .before .before in
     rw (not-blocked (c .before .before .before .before .before .before), not-goal (c .before .before .before .before), not-wall (c .before .before), not-los c)
-    (seen-held _ _ _ _ _ (s .pre .0) (s .args .n) (s .pre .1 .1) (not-los c) (not-blocked (c .before .before .before .before .before .before)) (s .args .wavefront-cost) (s .pre .1 .0 .wave-in))
+    (seen-held (s .pre .0) (s .args .n) (s .pre .1 .1) (not-los c) (not-blocked (c .before .before .before .before .before .before)) (s .args .wavefront-cost) (s .pre .1 .0 .wave-in))
 
 pub look-at-spec : {M : Type 1} → statement M
 look-at-spec = tie.close (tie.spec

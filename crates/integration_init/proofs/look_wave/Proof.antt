@@ -11,7 +11,7 @@ use lib.Seq.{slice}
 use Rattle.started_field.specs.Sight.{Sight, waveLooked}
 use Rattle.started_field.specs.CornerLine.{cornerLine}
 use Rattle.integration_init.specs.Held.{sightOf, ReadyAll}
-use Rattle.integration_init.proofs.Held.{held-all, all-ready, all-same}
+use Rattle.integration_init.proofs.Held.{held-all, all-ready}
 use Rattle.integration_init.proofs.Looks.{wave-step, wave-end}
 use Rattle.integration_init.proofs.look_wave.Statement.{statement}
 use Rattle.integration_init.proofs.look_wave.Tie as tie
@@ -40,10 +40,10 @@ loop-again c = let s = c .before .before .before .before .before .before .before
     let s : Sight = sightOf (l .cells) (l .corners) (l .counts .corners) (take (l .counts .queued) (l .next)) in (
       search needs,
       (
-        all-ready _ _ _ _ _ _ (c .look-around .ensures),
+        all-ready (c .look-around .ensures),
         l .inv .1 .1
             ∙ wave-step (cornerLine (a .goal)) (a .wavefront-cost) (now (a .wavefront)) (a .size) (l .i) s (c .before .before .before .before .before .loop-test .taken) long
-            ∙ ap (waveLooked (cornerLine (a .goal)) (a .wavefront-cost) (slice (l .i + 1) (a .size) (now (a .wavefront)))) (sym (held-all _ _ _ _ _ _ (c .look-around .ensures))),
+            ∙ ap (waveLooked (cornerLine (a .goal)) (a .wavefront-cost) (slice (l .i + 1) (a .size) (now (a .wavefront)))) (sym (held-all (c .look-around .ensures))),
       ),
     )
 
@@ -51,10 +51,9 @@ returns : tie.Need-returns Inv-loop μ-loop
 returns c = let a = c .before .before .args in let l = c .before .loop in
     let s : Sight = sightOf (l .cells) (l .corners) (l .counts .corners) (take (l .counts .queued) (l .next)) in
     let e : l .i ≡ a .size = omega arith in
-    all-same s _ _ _ _ _ (l .inv .1 .0) _
-    (l .inv .1 .1
+    rw (l .inv .1 .1
     ∙ ap (λ (k : ℕ). waveLooked (cornerLine (a .goal)) (a .wavefront-cost) (slice k (a .size) (now (a .wavefront))) s) e
-    ∙ wave-end (cornerLine (a .goal)) (a .wavefront-cost) (now (a .wavefront)) (a .size) s)
+    ∙ wave-end (cornerLine (a .goal)) (a .wavefront-cost) (now (a .wavefront)) (a .size) s) (l .inv .1 .0)
 
 pub look-wave-spec : {M : Type 1} → statement M
 look-wave-spec = tie.close (tie.spec

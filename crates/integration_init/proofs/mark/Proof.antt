@@ -13,13 +13,13 @@ use Rattle.integration_init.proofs.mark.Statement.{statement}
 use Rattle.integration_init.proofs.mark.Tie as tie
 
 returns : tie.Need-returns
-returns c = let s = c .before .before .before in let a = s .args in kept-mark (now (a .cells)) (now (a .corners)) (a .count) (a .n) (a .value) (s .pre .0) (s .pre .1 .0) (s .pre .1 .1) (sym (c .before .is-blocked .ensures) ∙ c .if1 .taken)
+returns c = let s = c .before .before .before in let a = s .args in kept-mark (s .pre .0) (a .n) (a .value) (s .pre .1 .0) (s .pre .1 .1) (sym (c .before .is-blocked .ensures) ∙ c .if1 .taken)
 
 free : (c : tie.Else1) → isBlocked (getD (now (c .before .before .before .args .cells)) (c .before .before .before .args .n) 0) ≡ false
 free c = sym (c .before .is-blocked .ensures) ∙ c .if1 .left
 
 room : (c : tie.Else1) → c .before .before .before .args .count < 100
-room c = let s = c .before .before .before in let a = s .args in mark-room (now (a .cells)) (now (a .corners)) (a .count) (a .n) (a .value) (s .pre .0) (s .pre .1 .0) (s .pre .1 .1) (free c)
+room c = let s = c .before .before .before in let a = s .args in mark-room (s .pre .0) (a .n) (a .value) (s .pre .1 .0) (s .pre .1 .1) (free c)
 
 mul-corners : tie.Need-mul-corners
 mul-corners c = omega (arith, room c)
@@ -31,7 +31,7 @@ add-result : tie.Need-add-result
 add-result c = omega (arith, room c)
 
 returns-2 : tie.Need-returns-2
-returns-2 c = let s = c .before .before .before in let a = s .args in new-mark (now (a .cells)) (now (a .corners)) (a .count) (a .n) (a .value) (s .pre .0) (s .pre .1 .0) (s .pre .1 .1) (free c)
+returns-2 c = let s = c .before .before .before in let a = s .args in new-mark (s .pre .0) (a .n) (a .value) (s .pre .1 .0) (s .pre .1 .1) (free c)
 
 pub mark-spec : {M : Type 1} → statement M
 mark-spec = tie.close (tie.spec

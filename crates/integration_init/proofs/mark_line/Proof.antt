@@ -39,13 +39,13 @@ is-stopped-requires : tie.Need-is-stopped-requires Inv-loop μ-loop
 is-stopped-requires c κs = (c .before .before .before .before .loop .inv .entered, below (c .before))
 
 returns : tie.Need-returns Inv-loop μ-loop
-returns c = let s = c .before .before .before .before .before .before .before .before in let a = s .args in let l = c .before .before .before .before .before .before .loop in
-    walk-stops (a .wavefront-cost) (a .corner) (a .line .cells) (a .line .count) (now (a .cells)) (now (a .corners)) (a .count) (l .cells) (l .corners) (l .listed) (l .previous) (l .value) (l .i) (l .inv)
-    (long s) (c .before .before .before .as-1d-index .result) (c .before .before .before .before .before .loop-test .taken) (index (c .before .before .before)) (sym (c .before .is-stopped .ensures) ∙ c .if1 .taken)
+returns c =
+    walk-stops (c .before .before .before .before .before .before .loop .inv) (long (c .before .before .before .before .before .before .before .before)) (c .before .before .before .as-1d-index .result) (c .before .before .before .before .before .loop-test .taken) (index (c .before .before .before))
+    (sym (c .before .is-stopped .ensures) ∙ c .if1 .taken)
 
 mark-requires : tie.Need-mark-requires Inv-loop μ-loop
-mark-requires c κs = let s = c .before .before .before .before .before .before .before .before .before .before in
-    (c .before .before .before .before .before .before .before .before .loop .inv .ready, (below (c .before .before .before .before .before), omega (arith, c .before .before .before .before .before .before .before .before .loop .inv .next, s .pre .1 .1 .1, c .before .before .before .before .before .before .before .loop-test .taken, s .pre .1 .0 .count-in)))
+mark-requires c κs = let s = c .before .before .before .before .before .before .before .before .before .before in let v = c .before .before .before .before .before .before .before .before .loop .inv in
+    (v .ready, (below (c .before .before .before .before .before), omega (arith, v .next, s .pre .1 .1 .1, c .before .before .before .before .before .before .before .loop-test .taken, s .pre .1 .0 .count-in)))
 
 add-value-2 : tie.Need-add-value-2 Inv-loop μ-loop
 add-value-2 c = let s = c .before .before .before .before .before .before .before .before .before .before .before in
@@ -58,13 +58,9 @@ loop-less : tie.Need-loop-less Inv-loop μ-loop
 loop-less c = omega (arith, c .before .before .before .before .before .before .before .before .loop-test .taken)
 
 loop-again : tie.Need-loop-again Inv-loop μ-loop
-loop-again c = let s = c .before .before .before .before .before .before .before .before .before .before .before in let a = s .args in let l = c .before .before .before .before .before .before .before .before .before .loop in
-    walk-goes (a .wavefront-cost) (a .corner) (a .line .cells) (a .line .count) (now (a .cells)) (now (a .corners)) (a .count) (l .cells) (l .corners) (l .listed) (l .previous) (l .value) (l .i) (l .inv)
-    (long s) (c .before .before .before .before .before .before .as-1d-index .result) (c .before .before .before .before .before .before .before .before .loop-test .taken) (index (c .before .before .before .before .before .before)) (below (c .before .before .before .before .before .before)) (sym (c .before .before .before .before .is-stopped .ensures) ∙ c .before .before .before .if1 .left) _ _ _ (c .mark .ensures)
-
-returns-2 : tie.Need-returns-2 Inv-loop μ-loop
-returns-2 c = let a = c .before .before .before .args in let l = c .before .loop in
-    walk-ends (a .wavefront-cost) (a .corner) (a .line .cells) (a .line .count) (now (a .cells)) (now (a .corners)) (a .count) (l .cells) (l .corners) (l .listed) (l .previous) (l .value) (l .i) (l .inv) (c .loop-test .left)
+loop-again c =
+    walk-goes (c .before .before .before .before .before .before .before .before .before .loop .inv) (long (c .before .before .before .before .before .before .before .before .before .before .before)) (c .before .before .before .before .before .before .as-1d-index .result) (c .before .before .before .before .before .before .before .before .loop-test .taken) (index (c .before .before .before .before .before .before))
+    (below (c .before .before .before .before .before .before)) (sym (c .before .before .before .before .is-stopped .ensures) ∙ c .before .before .before .if1 .left) (c .mark .ensures)
 
 pub mark-line-spec : {M : Type 1} → statement M
 mark-line-spec = tie.close (tie.spec
@@ -72,4 +68,5 @@ mark-line-spec = tie.close (tie.spec
     (λ c. search needs)
     loop-holds
     (λ c. search needs) (λ c. search needs) (λ c κs. search needs)
-    is-stopped-requires returns mark-requires add-value-2 add-i loop-less loop-again returns-2)
+    is-stopped-requires returns mark-requires add-value-2 add-i loop-less loop-again
+    (λ c. walk-ends (c .before .loop .inv) (c .loop-test .left)))

@@ -23,7 +23,7 @@ propagate-los-requires c κs = let s = c .before .before .before .before .before
 returns : tie.Need-returns
 unfolding startedFrom sightFrom
 returns c = let s = c .before .before .before .before .before .before .before in let a = s .args in
-    held-field _ _ _ _
+    held-field
     (c .propagate-los .ensures (walls (now (a .costs))) 0 refl
     (goal-sight (now (a .costs)) (s .pre .0) (a .goal) (s .pre .1) _ (ap (λ (l : List ℕ). set l (a .goal) 0x20000) (c .before .before .before .before .mark-walls .ensures))))
 

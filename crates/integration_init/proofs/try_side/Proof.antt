@@ -7,9 +7,8 @@ use denote.Ref.{now}
 use Rattle.fields.specs.declared.Stepped.the-variants.{Cell, Outside}
 use Rattle.fields.specs.Cell.{Inside, stepped, cellAt, indexOf}
 use Rattle.fields.proofs.Steps.{stepped-cell, index-inside, index-below}
-use Rattle.started_field.specs.Sight.{unlessWall, extended, sideTried}
-use Rattle.started_field.specs.CornerLine.{cornerLine}
-use Rattle.integration_init.proofs.Held.{applied-none, applied-same}
+use Rattle.started_field.specs.Sight.{unlessWall, sideTried}
+use Rattle.integration_init.proofs.Held.{applied-still}
 use Rattle.integration_init.proofs.Looks.{open-cell}
 use Rattle.integration_init.proofs.try_side.Statement.{statement}
 use Rattle.integration_init.proofs.try_side.Tie as tie
@@ -18,14 +17,14 @@ returns : tie.Need-returns
 unfolding sideTried
 returns c = let s = c .before .before .before .before in let a = s .args in
     let e : unlessWall (now (a .cells)) (stepped (cellAt (a .from)) (a .side)) ≡ Outside = sym (c .before .before .open-side .ensures) ∙ c .enum-told2 .given .1 in
-    applied-none (now (a .cells)) (now (a .corners)) (a .count) (s .pre .0) (sideTried (cornerLine (a .goal)) (a .wavefront-cost) (a .from) (a .wall) (a .side)) (λ queue. rw e)
+    rw e (applied-still (s .pre .0))
 
 returns-2 : tie.Need-returns-2
 unfolding sideTried
 returns-2 c = let s = c .before .before .before .before .before .before .before .before in let a = s .args in
-    let e : unlessWall (now (a .cells)) (stepped (cellAt (a .from)) (a .side)) ≡ Cell (c .before .before .before .before .enum-told .given .0 .0) = sym (c .before .before .before .before .before .before .open-side .ensures) ∙ c .before .before .before .before .enum-told .given .1 in
+    let e : unlessWall (now (a .cells)) (stepped (cellAt (a .from)) (a .side)) ≡ Cell _ = sym (c .before .before .before .before .before .before .open-side .ensures) ∙ c .before .before .before .before .enum-told .given .1 in
     let f : unlessWall (now (a .cells)) (stepped (cellAt (a .wall)) (a .side)) ≡ Outside = sym (c .before .before .open-side2 .ensures) ∙ c .enum-told3 .given .1 in
-    applied-none (now (a .cells)) (now (a .corners)) (a .count) (s .pre .0) (sideTried (cornerLine (a .goal)) (a .wavefront-cost) (a .from) (a .wall) (a .side)) (λ queue. rw (e, f))
+    rw (e, f) (applied-still (s .pre .0))
 
 -- what the function is given
 abbrev start : tie.After-known-told → tie.Start
@@ -47,11 +46,9 @@ extend-los-corner-requires c κs =
 
 returns-3 : tie.Need-returns-3
 unfolding sideTried
-returns-3 c = let s = c .before .before .before .before .before .before .before .before .before .before .before .before .before in let a = s .args in
-    let e : unlessWall (now (a .cells)) (stepped (cellAt (a .from)) (a .side)) ≡ Cell (c .before .before .before .before .before .before .before .before .before .enum-told .given .0 .0) = sym (c .before .before .before .before .before .before .before .before .before .before .before .open-side .ensures) ∙ c .before .before .before .before .before .before .before .before .before .enum-told .given .1 in
-    applied-same (now (a .cells)) (now (a .corners)) (a .count) (s .pre .0) (extended (cornerLine (a .goal)) (a .wavefront-cost) (c .before .before .before .as-1d-index .result)) _ _ _ (c .extend-los-corner .ensures)
-    (sideTried (cornerLine (a .goal)) (a .wavefront-cost) (a .from) (a .wall) (a .side))
-    (λ queue. rw (e, found (c .before .before .before .before), index (c .before .before .before)))
+returns-3 c = let a = c .before .before .before .before .before .before .before .before .before .before .before .before .before .args in
+    let e : unlessWall (now (a .cells)) (stepped (cellAt (a .from)) (a .side)) ≡ Cell _ = sym (c .before .before .before .before .before .before .before .before .before .before .before .open-side .ensures) ∙ c .before .before .before .before .before .before .before .before .before .enum-told .given .1 in
+    rw (e, found (c .before .before .before .before), ← index (c .before .before .before)) (c .extend-los-corner .ensures)
 
 pub try-side-spec : {M : Type 1} → statement M
 try-side-spec = tie.close (tie.spec
