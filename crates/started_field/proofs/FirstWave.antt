@@ -164,7 +164,7 @@ module _ (goal : ℕ) (goal-in : goal < 100) (walls : ℕ → Bool) where
     look d s = looked cornerLine 1 goal d (stepped (cellAt goal) d) s
 
     look-keeps : (Kept Met : ℕ → Type 0) (d : CompassDir) (s : Sight) → isSide d ≡ true → First Kept Met s → First Kept Met (look d s)
-    look-keeps Kept Met d s o p = kept-looked cornerLine 1 walls IsGoal Frees (First Kept Met) (first-keeps Kept Met) goal refl d s o p
+    look-keeps Kept Met d s o p = kept-looked (first-keeps Kept Met) goal refl d s o p
 
     -- what one of the four looks brings about, and the others keep, holds after them all
     around : (Kept Met : ℕ → Type 0) (d : CompassDir) → isSide d ≡ true → ((t : Sight) → First Never Never t → First Kept Met (look d t))
@@ -203,7 +203,7 @@ module _ (goal : ℕ) (goal-in : goal < 100) (walls : ℕ → Bool) where
           go true eb g eg w ew l el = meets-by t p (met-blocked x eb)
           go false eb true eg w ew l el = meets-by t p (met-goal x eg)
           go false eb false eg true ew l el =
-              kept-wall cornerLine 1 walls IsGoal Frees (First Never This) (first-keeps Never This) goal d n refl o step (sym (p .sound .same (indexOf n)) ∙ ew) t (meets-by t p (met-wall x ew))
+              kept-wall (first-keeps Never This) goal d n refl o step (sym (p .sound .same (indexOf n)) ∙ ew) t (meets-by t p (met-wall x ew))
           go false eb false eg false ew true el = meets-by t p (met-los x el)
           go false eb false eg false ew false el =
               meets-by (seen 1 (indexOf n) t)
@@ -216,7 +216,7 @@ module _ (goal : ℕ) (goal-in : goal < 100) (walls : ℕ → Bool) where
     pub first-meets : (s : Sight) → First Never Never s → 3 ≤ met goal walls (lookedAround cornerLine 1 goal orthogonal s)
     first-meets s p =
         let t = lookedAround cornerLine 1 goal orthogonal s in
-        let q = kept-around cornerLine 1 walls IsGoal Frees (First Never Never) (first-keeps Never Never) goal refl s p in
+        let q = kept-around (first-keeps Never Never) goal refl s p in
         let full : length (t .cells) ≡ 100 = q .sound .room .full in
         let i = cell-inside goal goal-in in
         let a = in-row (cellAt goal) i in
@@ -268,7 +268,7 @@ module _ (goal : ℕ) (goal-in : goal < 100) (walls : ℕ → Bool) where
       mark-blocks : (t : Sight) → First Never Never t → First Only Never (marked (1 + 1 + 0) c t)
       mark-blocks t p =
           blocks-by (marked (1 + 1 + 0) c t)
-          (kept-marked cornerLine 1 walls IsGoal Frees (First Never Never) (first-keeps Never Never) (1 + 1 + 0) c t p (c-in, apart) (omega arith) (p .sound .same c ∙ free))
+          (kept-marked (first-keeps Never Never) (1 + 1 + 0) c t p (c-in, apart) (omega arith) (p .sound .same c ∙ free))
           (marked-blocked (1 + 1 + 0) c t (omega (arith, p .sound .room .full)) (omega arith))
 
       open-way : (t : Sight) → First Never Never t → stopped (t .cells) c c ≡ false
@@ -286,7 +286,7 @@ module _ (goal : ℕ) (goal-in : goal < 100) (walls : ℕ → Bool) where
               let frees : Each Frees (n ∷ ns) = subst (Each Frees) e (λ i k. (lines .inside c c-in i k, lines .past c c-in apart i k)) in
               subst (λ (m : ℕ). First Only Never (lineMarked 1 0 c (m ∷ ns) t)) (sym q)
               (rw (open-way t p)
-              (kept-line cornerLine 1 walls IsGoal Frees (First Only Never) (first-keeps Only Never) ns 1 c (marked (1 + 1 + 0) c t) (mark-blocks t p)
+              (kept-line (first-keeps Only Never) ns 1 c (marked (1 + 1 + 0) c t) (mark-blocks t p)
               (λ i k. frees (suc i) (omega arith))
               (omega (arith, lines .short c c-in, ap length e))))
 
@@ -305,12 +305,12 @@ module _ (goal : ℕ) (goal-in : goal < 100) (walls : ℕ → Bool) where
           let try : CompassDir → Sight → Sight = λ side u. sideTried cornerLine 1 goal (indexOf (h .wall-cell)) side u in
           ⊎-elim
           (λ (e : opposite (h .way) ≡ firstSide way).
-          kept-side cornerLine 1 walls IsGoal Frees (First Only Never) (first-keeps Only Never) goal way (h .wall-cell) refl o sees-wall (h .found .wall) (opposite (firstSide way)) (try (firstSide way) t) (inr refl)
+          kept-side (first-keeps Only Never) goal way (h .wall-cell) refl o sees-wall (h .found .wall) (opposite (firstSide way)) (try (firstSide way) t) (inr refl)
           (subst (λ (side : CompassDir). First Only Never (try side t)) e (side-blocks t p)))
           (λ (e : opposite (h .way) ≡ opposite (firstSide way)).
           subst (λ (side : CompassDir). First Only Never (try side (try (firstSide way) t))) e
           (side-blocks (try (firstSide way) t)
-          (kept-side cornerLine 1 walls IsGoal Frees (First Never Never) (first-keeps Never Never) goal way (h .wall-cell) refl o sees-wall (h .found .wall) (firstSide way) t (inl refl) p)))
+          (kept-side (first-keeps Never Never) goal way (h .wall-cell) refl o sees-wall (h .found .wall) (firstSide way) t (inl refl) p)))
           (sideways-back (h .way) (h .side) (h .is-side) (h .found .sideways))
 
       look-blocks : (t : Sight) → First Never Never t → First Only Never (look (opposite (h .side)) t)

@@ -62,7 +62,7 @@ or-false : (a b : Bool) → (a || b) ≡ false → (a ≡ false) × (b ≡ false
 or-false true b e = absurd (true≢false e)
 or-false false b e = (refl, e)
 
-module _ (cornerLine : ℕ → List ℕ) (wave : ℕ) (walls : ℕ → Bool) (From Free : ℕ → Type 0) (P : Sight → Type 0) (k : Keeps cornerLine wave walls From Free P) where
+module _ {cornerLine : ℕ → List ℕ} {wave : ℕ} {walls : ℕ → Bool} {From Free : ℕ → Type 0} {P : Sight → Type 0} (k : Keeps cornerLine wave walls From Free P) where
   pub kept-marked : (value n : ℕ) (s : Sight) → P s → Free n → value ≤ wave + 10 → wallAt (s .cells) n ≡ false → P (marked value n s)
   unfolding marked
   kept-marked value n s p f h w = go (isBlocked (getD (s .cells) n 0)) refl

@@ -30,9 +30,9 @@ use Rattle.started_field.proofs.Words.{corner-flags, seen-flags}
 use Rattle.started_field.proofs.Kept.{Found, kept-around, kept-wave}
 use Rattle.started_field.proofs.Room.{room-begins, room-corners, room-queued}
 use Rattle.started_field.proofs.Sides.{isSide}
-use Rattle.started_field.proofs.Wave.{isMet, Sound, Free, met, Wave, wave-keeps}
+use Rattle.started_field.proofs.Wave.{isMet, Sound, met, wave-keeps}
 use Rattle.started_field.proofs.Before.{walls-length, Before, chosen, unchosen, wall-word, other-word, only-wall, fails}
-use Rattle.started_field.proofs.FirstWave.{Never, Hides, goal-found, hides-even, IsGoal, First, first-keeps, first-meets, first-blocks}
+use Rattle.started_field.proofs.FirstWave.{Never, Hides, goal-found, hides-even, First, first-keeps, first-meets, first-blocks}
 
 sound-begins : (goal : ℕ) (walls : ℕ → Bool) (s : Sight) → Sound goal walls s → Sound goal walls (begun s)
 sound-begins goal walls s p =
@@ -130,8 +130,7 @@ module _ (goal : ℕ) (goal-in : goal < 100) (costs : List ℕ) (hundred : lengt
     first-left : Left 1 (sight 1)
     unfolding sightAfter waveLooked
     first-left =
-        let p = kept-around cornerLine 1 wallsOf (IsGoal goal goal-in wallsOf cornerLine lines) (Free goal wallsOf) (First goal goal-in wallsOf cornerLine lines Never Never)
-        (first-keeps goal goal-in wallsOf cornerLine lines Never Never) goal refl start start-first in
+        let p = kept-around (first-keeps goal goal-in wallsOf cornerLine lines Never Never) goal refl start start-first in
         record {
           sound = p .sound;
           met-queued = λ h. first-meets goal goal-in wallsOf cornerLine lines start start-first;
@@ -157,8 +156,7 @@ module _ (goal : ℕ) (goal-in : goal < 100) (costs : List ℕ) (hundred : lengt
             let some : 0 < length (s .queue) = omega (arith, ap length e) in
             let least : k + 2 ≤ met goal wallsOf s = l .met-queued some in
             let few : suc k ≤ 100 = omega (arith, count-length isMet (s .cells), l .sound .room .full) in
-            let p = kept-wave cornerLine (suc k) wallsOf Apart (Free goal wallsOf) (Wave goal wallsOf (k + 2) Apart Blocked Never)
-            (wave-keeps goal wallsOf cornerLine lines (suc k) (k + 2) (omega arith) few (omega arith) Apart Apart Blocked Never away next)
+            let p = kept-wave (wave-keeps goal wallsOf cornerLine lines (suc k) (k + 2) (omega arith) few (omega arith) Apart Apart Blocked Never away next)
             (n ∷ ns) (begun s) (subst (Each Apart) e (l .all-apart))
             (record { sound = sound-begins goal wallsOf s (l .sound); met-least = least; met-queued = λ h. absurd (omega arith); all-next = λ i h. absurd (omega arith); stays = l .stays; stays-met = λ c h q. absurd q }) in
             record { sound = p .sound; met-queued = λ h. omega (arith, p .met-queued h); all-apart = p .all-next; stays = p .stays }
