@@ -1,5 +1,5 @@
--- Waves can be many: a snake of 55 cells between walls takes 54, so that a number falling from 50 would be wrong. At most 99 is
--- `waves-counted` (`Least.antt`).
+-- How many waves there can be: at most 99 (`waves-counted`, `Least.antt`), and a snake of 55 cells between walls takes 54. So a number
+-- falling from 50 would be too small.
 -- Assumes nothing.
 use mathlib.Core.Path.{_≡_, refl}
 use mathlib.Core.List.{List, [], _∷_, _++_}

@@ -11,6 +11,7 @@ use Rattle.integration_field.specs.declared.BuildAnswer.{BuildAnswer}
 use Rattle.integration_field.specs.Listed.{listOf, zeroField}
 use Rattle.integration_field.specs.Build.{builtField, waveCount}
 
+-- a refused answer
 abbrev pub refusal : ℕ → BuildAnswer
 refusal n = record { number = n; field = zeroField; waves = 0 }
 
@@ -34,5 +35,6 @@ pub record Accepted (costs : List ℕ) (f : IntegrationField) : Type 0 where
   pub count-in : f .count ≤ 100
   pub corners-in : allCells (listOf f) ≡ true
 
+-- what building by hand answers
 abbrev pub buildAnswer : List ℕ → IntegrationField → BuildAnswer
 buildAnswer costs f = answerOf (buildNumber costs f) costs f

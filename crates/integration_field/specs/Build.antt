@@ -1,7 +1,4 @@
 -- The built field (01, "Integration: build"): the waves from the listed corners until one changes no cell, and how many changed one.
---
--- `settle` looks at one wave after the other and stops at the first that changes no cell. What it takes beside a wave is no limit: it is
--- a proof that some later wave changes none, as `rest` has for every field, and the answer does not depend on it (`proofs/Settled.antt`).
 -- Assumes nothing.
 use mathlib.Core.Bool.{Bool, true, false}
 use mathlib.Core.List.{List, [], _∷_}
@@ -17,10 +14,13 @@ pub record Built : Type 0 where
   pub cells : List ℕ
   pub waves : ℕ
 
+-- whether a wave changed no cell
 unfoldable pub isEmpty : List ℕ → Bool
 isEmpty [] = true
 isEmpty (x ∷ xs) = false
 
+-- One wave after the other, up to the first that changes no cell. What it takes beside a wave is no limit: it is a proof that some later
+-- wave changes none, as `rest` has for every field, and the answer does not depend on it (`settle-any`, `proofs/Settled.antt`).
 unfoldable pub settle : (costs : List ℕ) (n : ℕ) (w : Wave) → Rests costs n w → Built
 settle costs zero w h = record { cells = w .cells; waves = 0 }
 settle costs (suc n) w h =
@@ -40,5 +40,6 @@ build costs cells corners =
 abbrev pub builtField : List ℕ → IntegrationField → IntegrationField
 builtField costs f = withCorners (build costs (f .field) (listOf f) .cells) (listOf f)
 
+-- the count answered: the waves that changed a cell
 abbrev pub waveCount : List ℕ → IntegrationField → ℕ
 waveCount costs f = build costs (f .field) (listOf f) .waves

@@ -23,6 +23,7 @@ abbrev pub Rests : List ℕ → ℕ → Wave → Type 0
 Rests costs zero w = next costs w .changed ≡ []
 Rests costs (suc n) w = Rests costs n (next costs w)
 
+-- the total of the values
 unfoldable pub total : List ℕ → ℕ
 total [] = 0
 total (w ∷ ws) = low w + total ws

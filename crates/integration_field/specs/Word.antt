@@ -13,6 +13,7 @@ flag k x = eqb (x / 2 ^ k % 2) 1
 abbrev pub low : ℕ → ℕ
 low x = x % 2 ^ 16
 
+-- the flags, by their bits
 abbrev pub isLos : ℕ → Bool
 isLos x = flag 16 x
 

@@ -1,4 +1,4 @@
--- Sight in lent arrays: 100 cells, and lists of 100 places with a count.
+-- Sight in lent arrays (01, "From Rust's form to Rattle's"): 100 cells, and lists of 100 places with a count.
 -- Assumes nothing.
 use mathlib.Core.Path.{_≡_}
 use mathlib.Core.List.{List, []}

@@ -6,5 +6,6 @@ use Rattle.fields.specs.Cell.{cellAt, indexOf}
 use Rattle.bresenham.specs.Line.{line}
 use Rattle.line_end.specs.LineEnd.{lineEnd}
 
+-- the indexes of its cells, in order
 unfoldable pub cornerLine : ℕ → ℕ → List ℕ
 cornerLine goal corner = map indexOf (line (cellAt corner) (lineEnd (cellAt corner) (cellAt goal)))

@@ -1,4 +1,4 @@
--- What keeps the lists of sight short: no cell is listed twice, and none is queued twice.
+-- What keeps the lists of sight within 100 places (01, "From Rust's form to Rattle's"): no cell is listed twice, and none is queued twice.
 -- Assumes nothing.
 use mathlib.Core.Path.{_≡_}
 use mathlib.Core.Bool.{true, _||_}

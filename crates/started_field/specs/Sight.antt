@@ -19,6 +19,7 @@ use Rattle.integration_field.specs.Diagonal.{wallAt, betweenWalls}
 abbrev pub wallOr : ℕ → ℕ
 wallOr cost = cond (eqb cost 255) 0x200FFFF 65535
 
+-- every cell so
 unfoldable pub walls : List ℕ → List ℕ
 walls costs = map wallOr costs
 
@@ -98,6 +99,7 @@ module _ (cornerLine : ℕ → List ℕ) where
   cornerOf wave (Cell a) Outside s = s
   cornerOf wave Outside b s = s
 
+  -- one sideways pair is tried
   unfoldable pub sideTried : ℕ → ℕ → ℕ → CompassDir → Sight → Sight
   sideTried wave from wall side s =
       cornerOf wave (unlessWall (s .cells) (stepped (cellAt from) side)) (unlessWall (s .cells) (stepped (cellAt wall) side)) s
@@ -112,6 +114,7 @@ module _ (cornerLine : ℕ → List ℕ) where
       let x = getD (s .cells) n 0 in
       cond (isBlocked x || isGoal x) s (cond (isImpassable x) (wallMet wave from n d s) (cond (isLos x) s (seen wave n s)))
 
+  -- a look at where a step arrives, if inside
   abbrev pub looked : ℕ → ℕ → CompassDir → Stepped → Sight → Sight
   looked wave from d (Cell n) s = neighbourLooked wave from d (indexOf n) s
   looked wave from d Outside s = s
