@@ -1,7 +1,5 @@
 pub mod Steps
-pub mod Loops
 pub mod Numbers
 pub mod Sheet
 pub mod Planned
 pub mod Step
-pub mod Examples

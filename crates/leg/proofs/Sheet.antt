@@ -20,6 +20,7 @@ use Rattle.sector.specs.Sector.{sectorField, sectorBytes}
 use Rattle.sector.proofs.Planned.{bytes-hundred, none-read}
 use Rattle.leg.specs.Leg.{part, names, namesTwice, partAfter, partsAfter, planned}
 use Rattle.leg.specs.Plan.{withPart}
+use Rattle.leg.proofs.Steps.{neither}
 use Rattle.leg.specs.Promise.{stepOf, sectorAt, costsAt, builtAt, hasBefore, builtBefore}
 
 -- the k elements from m on, cut the other way round
@@ -72,15 +73,16 @@ module _ (l p : List ℕ) (s : ℕ) (fits : s * 100 + 100 ≤ length l) (full : 
 
 -- ---- step after step
 
+-- the built cells of a step, and the bytes that it writes
+abbrev cellsOf : List ℕ → List ℕ → List ℕ
+cellsOf floor s = sectorField (part floor (sectorOf s)) s .field
+
+abbrev bytesOf : List ℕ → List ℕ → Bool → List ℕ → List ℕ
+bytesOf floor s has previous = sectorBytes (part floor (sectorOf s)) s has previous
+
 unfoldable pub planFrom : List ℕ → List (List ℕ) → Bool → List ℕ → List ℕ → List ℕ
 planFrom floor [] has previous sheet = sheet
-planFrom floor (s ∷ ss) has previous sheet =
-    planFrom floor ss true (sectorField (part floor (sectorOf s)) s .field)
-    (withPart sheet (sectorOf s) (sectorBytes (part floor (sectorOf s)) s has previous))
-
-neither : (a b : Bool) → (a || b) ≡ false → (a ≡ false) × (b ≡ false)
-neither true b e = let z : _≡_ {A = ℕ} 0 1 = cc in absurd (omega arith)
-neither false b e = (refl, e)
+planFrom floor (s ∷ ss) has previous sheet = planFrom floor ss true (cellsOf floor s) (withPart sheet (sectorOf s) (bytesOf floor s has previous))
 
 -- every step names a sector of the floor
 abbrev pub InFloor : List (List ℕ) → Type 0
@@ -92,7 +94,7 @@ module _ (floor : List ℕ) where
   unfolding planFrom
   from-none [] previous other sheet = refl
   from-none (s ∷ ss) previous other sheet =
-      ap (λ (b : List ℕ). planFrom floor ss true (sectorField (part floor (sectorOf s)) s .field) (withPart sheet (sectorOf s) b))
+      ap (λ (b : List ℕ). planFrom floor ss true (cellsOf floor s) (withPart sheet (sectorOf s) b))
       (none-read (part floor (sectorOf s)) s previous other)
 
   pub from-length : (ss : List (List ℕ)) (has : Bool) (previous sheet : List ℕ) → InFloor ss → length sheet ≡ 6400 → length (planFrom floor ss has previous sheet) ≡ 6400
@@ -100,19 +102,19 @@ module _ (floor : List ℕ) where
   from-length [] has previous sheet i e = e
   from-length (s ∷ ss) has previous sheet i e =
       let h : sectorOf s < 64 = i zero (omega arith) in
-      let bytes = sectorBytes (part floor (sectorOf s)) s has previous in
-      from-length ss true (sectorField (part floor (sectorOf s)) s .field) (withPart sheet (sectorOf s) bytes) (λ k g. i (suc k) (omega arith))
+      let bytes = bytesOf floor s has previous in
+      from-length ss true (cellsOf floor s) (withPart sheet (sectorOf s) bytes) (λ k g. i (suc k) (omega arith))
       (with-length sheet bytes (sectorOf s) (omega arith) (bytes-hundred (part floor (sectorOf s)) s has previous) ∙ e)
 
   unnamed-part : (ss : List (List ℕ)) (has : Bool) (previous : List ℕ) (n : ℕ) (old : List ℕ) → names n ss ≡ false → partAfter floor ss has previous n old ≡ old
   unfolding partAfter
   unnamed-part [] has previous n old e = refl
   unnamed-part (s ∷ ss) has previous n old e =
-      go (eqb (sectorOf s) n) (unnamed-part ss true (sectorField (part floor (sectorOf s)) s .field) n old) e
+      go (eqb (sectorOf s) n) (unnamed-part ss true (cellsOf floor s) n old) e
     where
-      go : (b : Bool) → (names n ss ≡ false → partAfter floor ss true (sectorField (part floor (sectorOf s)) s .field) n old ≡ old)
+      go : (b : Bool) → (names n ss ≡ false → partAfter floor ss true (cellsOf floor s) n old ≡ old)
           → (b || names n ss) ≡ false
-          → cond b (sectorBytes (part floor n) s has previous) (partAfter floor ss true (sectorField (part floor (sectorOf s)) s .field) n old) ≡ old
+          → cond b (sectorBytes (part floor n) s has previous) (partAfter floor ss true (cellsOf floor s) n old) ≡ old
       go true ih e = let z : _≡_ {A = ℕ} 0 1 = cc in absurd (omega arith)
       go false ih e = ih e
 
@@ -122,27 +124,27 @@ module _ (floor : List ℕ) where
   part-from [] has previous sheet i once e n = refl
   part-from (s ∷ ss) has previous sheet i once e n =
       let h : sectorOf s < 64 = i zero (omega arith) in
-      let bytes = sectorBytes (part floor (sectorOf s)) s has previous in
+      let bytes = bytesOf floor s has previous in
       let fits : sectorOf s * 100 + 100 ≤ length sheet = omega arith in
       let full = bytes-hundred (part floor (sectorOf s)) s has previous in
       let o = neither (names (sectorOf s) ss) (namesTwice ss) once in
-      part-from ss true (sectorField (part floor (sectorOf s)) s .field) (withPart sheet (sectorOf s) bytes) (λ k g. i (suc k) (omega arith)) (o .1) (with-length sheet bytes (sectorOf s) fits full ∙ e) n
+      part-from ss true (cellsOf floor s) (withPart sheet (sectorOf s) bytes) (λ k g. i (suc k) (omega arith)) (o .1) (with-length sheet bytes (sectorOf s) fits full ∙ e) n
       ∙ go (eqb (sectorOf s) n) refl bytes refl fits full (o .0)
     where
-      go : (b : Bool) → eqb (sectorOf s) n ≡ b → (bytes : List ℕ) → bytes ≡ sectorBytes (part floor (sectorOf s)) s has previous
+      go : (b : Bool) → eqb (sectorOf s) n ≡ b → (bytes : List ℕ) → bytes ≡ bytesOf floor s has previous
           → sectorOf s * 100 + 100 ≤ length sheet → length bytes ≡ 100 → names (sectorOf s) ss ≡ false
-          → partAfter floor ss true (sectorField (part floor (sectorOf s)) s .field) n (part (withPart sheet (sectorOf s) bytes) n)
+          → partAfter floor ss true (cellsOf floor s) n (part (withPart sheet (sectorOf s) bytes) n)
           ≡ cond b (sectorBytes (part floor n) s has previous)
-          (partAfter floor ss true (sectorField (part floor (sectorOf s)) s .field) n (part sheet n))
+          (partAfter floor ss true (cellsOf floor s) n (part sheet n))
       go true q bytes p fits full none =
           let m = eqb-true (sectorOf s) n q in
-          unnamed-part ss true (sectorField (part floor (sectorOf s)) s .field) n (part (withPart sheet (sectorOf s) bytes) n) (ap (λ (x : ℕ). names x ss) (sym m) ∙ none)
+          unnamed-part ss true (cellsOf floor s) n (part (withPart sheet (sectorOf s) bytes) n) (ap (λ (x : ℕ). names x ss) (sym m) ∙ none)
           ∙ ap (part (withPart sheet (sectorOf s) bytes)) (sym m)
           ∙ part-same sheet bytes (sectorOf s) fits full
           ∙ p
           ∙ ap (λ (x : ℕ). sectorBytes (part floor x) s has previous) m
       go false q bytes p fits full none =
-          ap (partAfter floor ss true (sectorField (part floor (sectorOf s)) s .field) n)
+          ap (partAfter floor ss true (cellsOf floor s) n)
           (part-other sheet bytes (sectorOf s) fits full n (eqb-false (sectorOf s) n q))
 
 -- ---- a step, by its place
@@ -152,34 +154,25 @@ unnamed-at [] n e k h q = omega arith
 unnamed-at (s ∷ ss) n e zero h q = let z : _≡_ {A = ℕ} 0 1 = cc (neither (eqb (sectorOf s) n) (names n ss) e .0, eq-eqb (sectorOf s) n (sym q)) in absurd (omega arith)
 unnamed-at (s ∷ ss) n e (suc k) h q = unnamed-at ss n (neither (eqb (sectorOf s) n) (names n ss) e .1) k (omega arith) q
 
--- what the step at a place has as previous field, where `has` and `previous` tell of the step before the list
-hasFrom : Bool → ℕ → Bool
-hasFrom has zero = has
-hasFrom has (suc k) = true
-
-builtFrom : List ℕ → List (List ℕ) → List ℕ → ℕ → List ℕ
-builtFrom floor ss previous zero = previous
-builtFrom floor ss previous (suc k) = builtAt floor ss k
-
 module _ (floor : List ℕ) where
-  named-part : (ss : List (List ℕ)) (has : Bool) (previous : List ℕ) → namesTwice ss ≡ false → (k : ℕ) → k < length ss → (old : List ℕ)
-      → partAfter floor ss has previous (sectorAt ss k) old ≡ sectorBytes (costsAt floor ss k) (stepOf ss k) (hasFrom has k) (builtFrom floor ss previous k)
-  unfolding partAfter hasFrom builtFrom
-  named-part [] has previous once k h old = absurd (omega arith)
-  named-part (s ∷ ss) has previous once zero h old = rw (eq-eqb (sectorOf s) (sectorOf s) refl)
-  named-part (s ∷ ss) has previous once (suc k) h old =
-      let o = neither (names (sectorOf s) ss) (namesTwice ss) once in
-      rw (ne-eqb (sectorOf s) (sectorAt ss k) (unnamed-at ss (sectorOf s) (o .0) k (omega arith)))
-      (named-part ss true (builtAt floor (s ∷ ss) zero) (o .1) k (omega arith) old
-      ∙ ap₂ (sectorBytes (costsAt floor ss k) (stepOf ss k)) (true-on k) (built-on k))
-    where
-      true-on : (k : ℕ) → hasFrom true k ≡ true
-      true-on zero = refl
-      true-on (suc k) = refl
+  -- behind step s: the step at a place has the built cells of the step before it as previous field
+  named-later : (s : List ℕ) (ss : List (List ℕ)) → namesTwice ss ≡ false → (k : ℕ) → k < length ss → (old : List ℕ)
+      → partAfter floor ss true (cellsOf floor s) (sectorAt ss k) old ≡ sectorBytes (costsAt floor ss k) (stepOf ss k) true (builtAt floor (s ∷ ss) k)
+  unfolding partAfter
+  named-later s [] once k h old = absurd (omega arith)
+  named-later s (t ∷ ss) once zero h old = rw (eq-eqb (sectorOf t) (sectorOf t) refl)
+  named-later s (t ∷ ss) once (suc k) h old =
+      let o = neither (names (sectorOf t) ss) (namesTwice ss) once in
+      rw (ne-eqb (sectorOf t) (sectorAt ss k) (unnamed-at ss (sectorOf t) (o .0) k (omega arith))) (named-later t ss (o .1) k (omega arith) old)
 
-      built-on : (k : ℕ) → builtFrom floor ss (builtAt floor (s ∷ ss) zero) k ≡ builtAt floor (s ∷ ss) k
-      built-on zero = refl
-      built-on (suc k) = refl
+  named-part : (ss : List (List ℕ)) → namesTwice ss ≡ false → (k : ℕ) → k < length ss → (old : List ℕ)
+      → partAfter floor ss false [] (sectorAt ss k) old ≡ sectorBytes (costsAt floor ss k) (stepOf ss k) (hasBefore k) (builtBefore floor ss k)
+  unfolding partAfter
+  named-part [] once k h old = absurd (omega arith)
+  named-part (s ∷ ss) once zero h old = rw (eq-eqb (sectorOf s) (sectorOf s) refl)
+  named-part (s ∷ ss) once (suc k) h old =
+      let o = neither (names (sectorOf s) ss) (namesTwice ss) once in
+      rw (ne-eqb (sectorOf s) (sectorAt ss k) (unnamed-at ss (sectorOf s) (o .0) k (omega arith))) (named-later s ss (o .1) k (omega arith) old)
 
 -- ---- the sheet of a planned leg
 
@@ -220,16 +213,4 @@ module _ (floor : List ℕ) (ss : List (List ℕ)) (sheet : List ℕ) where
     -- the sector of the step at place k holds what the sector call's definition gives, with the built field of the step before as previous field
     pub written : (k : ℕ) → k < length ss
         → part (planned floor ss sheet) (sectorAt ss k) ≡ sectorBytes (costsAt floor ss k) (stepOf ss k) (hasBefore k) (builtBefore floor ss k)
-    unfolding hasFrom builtFrom
-    written k h =
-        planned-part (sectorAt ss k)
-        ∙ named-part floor ss false [] once k h (part sheet (sectorAt ss k))
-        ∙ ap₂ (sectorBytes (costsAt floor ss k) (stepOf ss k)) (none-has k) (none-built k)
-      where
-        none-has : (k : ℕ) → hasFrom false k ≡ hasBefore k
-        none-has zero = refl
-        none-has (suc k) = refl
-
-        none-built : (k : ℕ) → builtFrom floor ss [] k ≡ builtBefore floor ss k
-        none-built zero = refl
-        none-built (suc k) = refl
+    written k h = planned-part (sectorAt ss k) ∙ named-part floor ss once k h (part sheet (sectorAt ss k))

@@ -16,7 +16,6 @@ use Rattle.route.specs.Step.{sectorOf}
 use Rattle.route.proofs.Accepted.{accepted-step}
 use Rattle.integration_field.specs.declared.BuildAnswer.{BuildAnswer}
 use Rattle.sector.specs.Sector.{sectorNumber, sectorAnswer, sectorSheet}
-use Rattle.sector.proofs.Numbers.{accepts}
 use Rattle.leg.specs.Leg.{part, stepsOf, planned}
 use Rattle.leg.specs.Plan.{stepAt, StepReady, StepPlanned, LegReady}
 use Rattle.leg.proofs.Steps.{stepsFrom, from-start, from-here, from-done}
@@ -27,16 +26,18 @@ fits : (has : Bool) (previous : List ℕ) → (has ≡ true → length previous 
 fits true previous h = rw (eq-eqb (length previous) 100 (h refl))
 fits false previous h = refl
 
-module _ (floor step : List ℕ) (has : Bool) (previous sheet : List ℕ) (ready : StepReady floor step has previous sheet) where
+module _ {floor step : List ℕ} {has : Bool} {previous sheet : List ℕ} (ready : StepReady floor step has previous sheet) where
   pub in-floor : sectorOf step < 64
   in-floor = accepted-step step (ready .accepted) .sector-in
 
   number-zero : sectorNumber (part floor (sectorOf step)) step has previous (part sheet (sectorOf step)) ≡ 0
-  number-zero =
-      sym (accepts (part floor (sectorOf step)) step has previous (part sheet (sectorOf step))
-      (part-hundred floor (sectorOf step) (ready .floor-full) in-floor)
-      (part-hundred sheet (sectorOf step) (ready .sheet-full) in-floor)
-      (ready .accepted) (fits has previous (ready .previous-fits)))
+  unfolding sectorNumber
+  number-zero = rw (
+    eq-eqb _ 100 (part-hundred floor (sectorOf step) (ready .floor-full) in-floor),
+    eq-eqb _ 100 (part-hundred sheet (sectorOf step) (ready .sheet-full) in-floor),
+    ready .accepted,
+    fits has previous (ready .previous-fits),
+  )
 
   at-sector : (r : BuildAnswer) (bytes : List ℕ)
       → r ≡ sectorAnswer (part floor (sectorOf step)) step has previous (part sheet (sectorOf step))
@@ -57,24 +58,23 @@ module _ (floor step : List ℕ) (has : Bool) (previous sheet : List ℕ) (ready
 
 -- ---- step after step
 
-module _ (floor steps : List ℕ) where
-  -- before the first step, whatever stands in the place of a previous field
-  pub from-first : (previous sheet : List ℕ) → LegReady floor steps sheet
-      → planned floor (stepsOf steps) sheet ≡ planFrom floor (stepsFrom steps 0) (ltb 0 0) previous sheet
-  from-first previous sheet ready =
-      planned-from floor (stepsOf steps) sheet (ready-floor floor steps sheet ready) (ready .named-once) (ready .sheet-full)
-      ∙ from-none floor (stepsOf steps) [] previous sheet
-      ∙ ap (λ (ss : List (List ℕ)). planFrom floor ss false previous sheet) (sym (from-start steps))
+-- before the first step, whatever stands in the place of a previous field
+pub from-first : {floor steps sheet : List ℕ} → LegReady floor steps sheet → (previous : List ℕ)
+    → planned floor (stepsOf steps) sheet ≡ planFrom floor (stepsFrom steps 0) (ltb 0 0) previous sheet
+from-first {floor} {steps} {sheet} ready previous =
+    planned-from floor (stepsOf steps) sheet (ready-floor floor steps sheet ready) (ready .named-once) (ready .sheet-full)
+    ∙ from-none floor (stepsOf steps) [] previous sheet
+    ∙ ap (λ (ss : List (List ℕ)). planFrom floor ss false previous sheet) (sym (from-start steps))
 
-  -- a step more is planned, lent as this part of the bytes
-  pub from-more : (k : ℕ) → k < length steps / 8 → (step : List ℕ) → step ≡ stepAt steps k → (has : Bool) (previous sheet built after : List ℕ)
-      → StepPlanned floor step has previous sheet built after
-      → planFrom floor (stepsFrom steps k) has previous sheet ≡ planFrom floor (stepsFrom steps (k + 1)) (ltb 0 (k + 1)) built after
-  unfolding planFrom
-  from-more k h step e has previous sheet built after p =
-      rw (from-here steps k h, p .answered, p .wrote, e, lt-ltb 0 (k + 1) (omega arith))
+-- a step more is planned, lent as this part of the bytes
+pub from-more : (steps : List ℕ) (k : ℕ) → k < length steps / 8 → {step : List ℕ} → step ≡ stepAt steps k
+    → {floor : List ℕ} {has : Bool} {previous sheet built after : List ℕ} → StepPlanned floor step has previous sheet built after
+    → planFrom floor (stepsFrom steps k) has previous sheet ≡ planFrom floor (stepsFrom steps (k + 1)) (ltb 0 (k + 1)) built after
+unfolding planFrom
+from-more steps k h e p = rw (from-here steps k h, p .answered, p .wrote, e, lt-ltb 0 (k + 1) (omega arith))
 
-  -- no step is left
-  pub from-end : (k : ℕ) → length steps / 8 ≤ k → (has : Bool) (previous sheet : List ℕ) → planFrom floor (stepsFrom steps k) has previous sheet ≡ sheet
-  unfolding planFrom
-  from-end k h has previous sheet = rw (from-done steps k h)
+-- no step is left
+pub from-end : (floor steps : List ℕ) (k : ℕ) → length steps / 8 ≤ k → (has : Bool) (previous sheet : List ℕ)
+    → planFrom floor (stepsFrom steps k) has previous sheet ≡ sheet
+unfolding planFrom
+from-end floor steps k h has previous sheet = rw (from-done steps k h)

@@ -169,14 +169,9 @@ fn plan_step(
     ensures { λ r. ⌜ StepPlanned (now (floor .entry)) (now (step .entry)) «has_previous» (now (previous .entry)) (now (sheet .entry)) r (now (sheet .exit)) ⌝ }
 {
     let at = wide(step[0]) * 100;
-    let costs = &floor[at..at + 100];
-    let answer = sector::plan_sector(
-        costs,
-        step,
-        has_previous,
-        previous,
-        &mut sheet[at..at + 100],
-    );
+    let end = at + 100;
+    let costs = &floor[at..end];
+    let answer = sector::plan_sector(costs, step, has_previous, previous, &mut sheet[at..end]);
     let built = answer.field;
     built.field
 }

@@ -1,6 +1,6 @@
 -- Texts stored one after the other, and their lengths.
 -- Assumes nothing.
-use mathlib.Core.Path.{_≡_, refl, sym, ap, _∙_}
+use mathlib.Core.Path.{_≡_, refl, sym, _∙_}
 use mathlib.Core.Bool.{Bool, true, false, cond}
 use mathlib.Core.List.{List, [], _∷_, _++_}
 use Prim.Native.Nat.{ℕ, zero, suc, _+_, _-_, _*_, _<_}
@@ -10,12 +10,12 @@ use native.Mathlib.Omega.{arith}
 use lib.ListN.{length, length-append, getD, set, take, drop, replicate, length-take, length-drop}
 use lib.Seq.{sets, take-all}
 use lib.Dec.{eqb}
+use borrow.Author.Tests.{ne-eqb}
 use Rattle.integration_field.specs.declared.IntegrationField.{IntegrationField}
 use Rattle.integration_field.specs.declared.BuildAnswer.{BuildAnswer}
 use Rattle.integration_field.specs.Answer.{answerOf}
 use Rattle.started_field.specs.Started.{started}
 use Rattle.sector.specs.Sector.{sectorNumber, sectorBytes, sectorAnswer, sectorSheet}
-use Rattle.sector.proofs.Numbers.{refused-1}
 use Rattle.printer.specs.Text.{cellText, cellsText, rowText, rowsText, rendered, printed}
 
 -- a text stored behind another is stored with it
@@ -56,10 +56,10 @@ row-ended l sheet at row = rw (← (cells-length sheet row 10)) (sets-append l (
 
 -- an input of fewer than 100 bytes is refused with 1, whatever is made of it
 pub printed-short : (input sheet : List ℕ) → length input < 100 → rendered 1 sheet ≡ printed input
-unfolding printed rendered
+unfolding printed rendered sectorNumber
 printed-short input sheet h =
     let e : length (take 100 input) ≡ 100 → ⊥ = λ z. omega (arith, length-take 100 input, z) in
-    ap (λ (n : ℕ). rendered n (sectorBytes (take 100 input) (drop 100 input) false [])) (refused-1 (take 100 input) (drop 100 input) false [] (replicate 100 0) e)
+    rw (ne-eqb (length (take 100 input)) 100 e)
 
 number-of : (n : ℕ) (costs : List ℕ) (f : IntegrationField) → answerOf n costs f .number ≡ n
 number-of zero costs f = refl

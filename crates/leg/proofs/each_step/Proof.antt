@@ -1,17 +1,15 @@
 -- `leg::each_step` meets its contract. The loop's invariant: the steps from place k on decide.
 -- Assumes nothing.
 use borrow.Author.Needs.{needs}
-use mathlib.Core.Path.{_≡_, sym, ap, _∙_}
-use mathlib.Core.List.{List}
-use Prim.Native.Nat.{ℕ, _-_, _/_, _≤_}
+use mathlib.Core.Path.{_≡_, sym, _∙_}
+use Prim.Native.Nat.{_-_, _/_, _≤_}
 use native.Mathlib.Omega.{arith}
 use denote.Ref.{now}
 use lib.ListN.{length}
 use Rattle.route.specs.Table.{firstNumber}
 use Rattle.leg.specs.Leg.{stepsOf, eachRows}
-use Rattle.route.specs.Step.{stepNumber}
-use Rattle.leg.proofs.Steps.{stepsFrom, from-start, from-done, lent-step}
-use Rattle.leg.proofs.Loops.{step-here, step-on}
+use Rattle.route.proofs.Rows.{tests}
+use Rattle.leg.proofs.Steps.{stepsFrom, from-start, from-here, from-done, judged-at}
 use Rattle.leg.proofs.each_step.Statement.{statement}
 use Rattle.leg.proofs.each_step.Tie as tie
 
@@ -22,7 +20,7 @@ abbrev μ-loop : tie.MeasureT-loop
 μ-loop steps count k₀ k = length steps / 8 - k
 
 loop-holds : tie.Need-loop-holds Inv-loop μ-loop
-loop-holds c = (omega arith, ap (λ (l : List (List ℕ)). firstNumber (eachRows l)) (sym (from-start (now (c .before .args .steps)))))
+loop-holds c = (omega arith, search from-start)
 
 mul-at : tie.Need-mul-at Inv-loop μ-loop
 mul-at c = omega arith
@@ -43,7 +41,11 @@ step-number-requires : tie.Need-step-number-requires Inv-loop μ-loop
 step-number-requires c κs = search needs
 
 returns : tie.Need-returns Inv-loop μ-loop
-returns c = sym (c .before .before .before .before .loop .inv .1 ∙ step-here (now (c .before .before .before .before .before .before .args .steps)) (c .before .before .before .before .loop .k) (omega arith) (c .before .step-number .result) (c .before .step-number .ensures ∙ ap stepNumber (lent-step (now (c .before .before .before .before .before .before .args .steps)) (c .before .before .before .before .loop .k))) (c .if1 .taken))
+returns c =
+    let judged = c .before in
+    let at = judged .before .before .before in
+    let number = judged .step-number .ensures ∙ judged-at (now (at .before .before .args .steps)) (at .loop .k) (omega arith) in
+    search (tests, at .loop .inv .1, from-here, sym number)
 
 add-k : tie.Need-add-k Inv-loop μ-loop
 add-k c = omega arith
@@ -52,10 +54,14 @@ loop-less : tie.Need-loop-less Inv-loop μ-loop
 loop-less c = omega arith
 
 loop-again : tie.Need-loop-again Inv-loop μ-loop
-loop-again c = (omega arith, c .before .before .before .before .loop .inv .1 ∙ step-on (now (c .before .before .before .before .before .before .args .steps)) (c .before .before .before .before .loop .k) (omega arith) (sym (c .before .step-number .ensures ∙ ap stepNumber (lent-step (now (c .before .before .before .before .before .before .args .steps)) (c .before .before .before .before .loop .k))) ∙ c .if1 .left))
+loop-again c =
+    let judged = c .before in
+    let at = judged .before .before .before in
+    let number = judged .step-number .ensures ∙ judged-at (now (at .before .before .args .steps)) (at .loop .k) (omega arith) in
+    (omega arith, search (tests, at .loop .inv .1, from-here, sym number ∙ c .if1 .left))
 
 returns-2 : tie.Need-returns-2 Inv-loop μ-loop
-returns-2 c = sym (c .before .loop .inv .1 ∙ ap (λ (l : List (List ℕ)). firstNumber (eachRows l)) (from-done (now (c .before .before .before .args .steps)) (c .before .loop .k) (omega arith)))
+returns-2 c = search (c .before .loop .inv .1, from-done)
 
 pub each-step-spec : {M : Type 1} → statement M
 each-step-spec =

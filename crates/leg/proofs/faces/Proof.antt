@@ -1,7 +1,6 @@
 -- `leg::faces` meets its contract: the sector that is found across the boundary is compared.
 -- Assumes nothing.
-use mathlib.Core.Path.{ap₂}
-use mathlib.Core.Path.{sym, ap, _∙_}
+use mathlib.Core.Path.{sym, ap, ap₂, _∙_}
 use lib.Dec.{eqb}
 use Rattle.sectors.specs.Floor.{across}
 use Rattle.leg.specs.Leg.{isSector}
@@ -25,14 +24,25 @@ enum-told : tie.Need-enum-told
 enum-told c = search needs
 
 returns : tie.Need-returns
-returns c = ap (isSector (c .before .before .before .before .before .args .other)) (sym (c .enum-told .given .1) ∙ c .before .before .get-in-compass-direction .ensures ∙ ap₂ across (c .before .before .before .wide .ensures) (c .before .before .before .before .from-boundary .ensures))
+returns c =
+    let asked = c .before .before in
+    let widened = asked .before in
+    let sided = widened .before in
+    ap (isSector (sided .before .args .other))
+    (sym (c .enum-told .given .1) ∙ asked .get-in-compass-direction .ensures ∙ ap₂ across (widened .wide .ensures) (sided .from-boundary .ensures))
 
 wide-requires-2 : tie.Need-wide-requires-2
 wide-requires-2 c κs = search needs
 
 returns-2 : tie.Need-returns-2
-returns-2 c = ap (eqb (c .before .before .found .given .0 .0)) (c .wide2 .ensures)
-    ∙ ap (isSector (c .before .before .before .before .before .before .before .args .other)) (sym (c .before .before .found .given .1) ∙ c .before .before .before .before .get-in-compass-direction .ensures ∙ ap₂ across (c .before .before .before .before .before .wide .ensures) (c .before .before .before .before .before .before .from-boundary .ensures))
+returns-2 c =
+    let told = c .before .before in
+    let asked = told .before .before in
+    let widened = asked .before in
+    let sided = widened .before in
+    ap (eqb (told .found .given .0 .0)) (c .wide2 .ensures)
+    ∙ ap (isSector (sided .before .args .other))
+    (sym (told .found .given .1) ∙ asked .get-in-compass-direction .ensures ∙ ap₂ across (widened .wide .ensures) (sided .from-boundary .ensures))
 
 pub faces-spec : {M : Type 1} → statement M
 faces-spec =

@@ -3,14 +3,14 @@
 use borrow.Author.Tests.{not-true, not-false}
 use mathlib.Core.Path.{_≡_, sym, ap, _∙_}
 use Prim.Native.Nat.{_-_, _/_, _≤_}
+use native.Mathlib.Nat.{add-sub-cancel}
 use native.Mathlib.Omega.{arith}
 use borrow.Author.Needs.{needs}
 use denote.Ref.{now}
 use lib.ListN.{length}
 use Rattle.leg.specs.Leg.{stepsOf, apartFrom, apart}
 use Rattle.leg.specs.Plan.{stepAt}
-use Rattle.leg.proofs.Steps.{stepsFrom, from-done}
-use Rattle.leg.proofs.Loops.{apart-first, apart-here, apart-on}
+use Rattle.leg.proofs.Steps.{stepsFrom, first-step, from-here, from-done, sector-at, boundary-at, before-at}
 use Rattle.leg.proofs.is_apart.Statement.{statement}
 use Rattle.leg.proofs.is_apart.Tie as tie
 
@@ -21,7 +21,7 @@ abbrev μ-loop : tie.MeasureT-loop
 μ-loop steps count k₀ k = length steps / 8 - k
 
 loop-holds : tie.Need-loop-holds Inv-loop μ-loop
-loop-holds c = (omega arith, (omega arith, apart-first (now (c .before .args .steps)) (omega arith)))
+loop-holds c = (omega arith, (omega arith, ap apart (first-step (now (c .before .args .steps)) (omega arith))))
 
 mul-at : tie.Need-mul-at Inv-loop μ-loop
 mul-at c = omega arith
@@ -45,7 +45,10 @@ faces-requires : tie.Need-faces-requires Inv-loop μ-loop
 faces-requires c κs = search needs
 
 returns : tie.Need-returns Inv-loop μ-loop
-returns c = sym (c .before .before .before .before .before .before .loop .inv .1 .1 ∙ apart-here (now (c .before .before .before .before .before .before .before .before .args .steps)) (c .before .before .before .before .before .before .loop .k) (omega arith) (omega arith) (sym (c .before .faces .ensures) ∙ not-true _ (c .if1 .taken)))
+returns c =
+    let faced = c .before in
+    let at = faced .before .before .before .before .before in
+    search (at .loop .inv .1 .1, from-here, before-at, sector-at, boundary-at, sym (faced .faces .ensures) ∙ not-true _ (c .if1 .taken))
 
 add-k : tie.Need-add-k Inv-loop μ-loop
 add-k c = omega arith
@@ -54,10 +57,13 @@ loop-less : tie.Need-loop-less Inv-loop μ-loop
 loop-less c = omega arith
 
 loop-again : tie.Need-loop-again Inv-loop μ-loop
-loop-again c = (omega arith, (omega arith, c .before .before .before .before .before .before .loop .inv .1 .1 ∙ apart-on (now (c .before .before .before .before .before .before .before .before .args .steps)) (c .before .before .before .before .before .before .loop .k) (omega arith) (omega arith) (sym (c .before .faces .ensures) ∙ not-false _ (c .if1 .left))))
+loop-again c =
+    let faced = c .before in
+    let at = faced .before .before .before .before .before in
+    (omega arith, (omega arith, search (at .loop .inv .1 .1, from-here, before-at, sector-at, boundary-at, add-sub-cancel, sym (faced .faces .ensures) ∙ not-false _ (c .if1 .left))))
 
 returns-2 : tie.Need-returns-2 Inv-loop μ-loop
-returns-2 c = sym (c .before .loop .inv .1 .1 ∙ ap (apartFrom (stepAt (now (c .before .before .before .args .steps)) (c .before .loop .k - 1))) (from-done (now (c .before .before .before .args .steps)) (c .before .loop .k) (omega arith)))
+returns-2 c = search (c .before .loop .inv .1 .1, from-done)
 
 pub is-apart-spec : {M : Type 1} → statement M
 is-apart-spec =

@@ -1,13 +1,12 @@
 -- `leg::is_named` meets its contract. The loop's invariant: the steps from place k on decide.
 -- Assumes nothing.
-use mathlib.Core.Path.{_≡_, sym, ap, _∙_}
+use mathlib.Core.Path.{_≡_}
 use Prim.Native.Nat.{_-_, _/_, _≤_}
 use native.Mathlib.Omega.{arith}
-use denote.Ref.{now}
 use lib.ListN.{length}
 use Rattle.leg.specs.Leg.{stepsOf, names}
-use Rattle.leg.proofs.Steps.{stepsFrom, from-start, from-done}
-use Rattle.leg.proofs.Loops.{named-here, named-on}
+use Rattle.route.proofs.Rows.{tests}
+use Rattle.leg.proofs.Steps.{stepsFrom, from-start, from-here, from-done, sector-at}
 use Rattle.leg.proofs.is_named.Statement.{statement}
 use Rattle.leg.proofs.is_named.Tie as tie
 
@@ -18,7 +17,7 @@ abbrev μ-loop : tie.MeasureT-loop
 μ-loop steps sector count k₀ k = length steps / 8 - k
 
 loop-holds : tie.Need-loop-holds Inv-loop μ-loop
-loop-holds c = (omega arith, ap (names (c .args .sector)) (sym (from-start (now (c .args .steps)))))
+loop-holds c = (omega arith, search from-start)
 
 mul-if1 : tie.Need-mul-if1 Inv-loop μ-loop
 mul-if1 c = omega arith
@@ -27,7 +26,7 @@ shared-slice-read-if1 : tie.Need-shared-slice-read-if1 Inv-loop μ-loop
 shared-slice-read-if1 c = omega arith
 
 returns : tie.Need-returns Inv-loop μ-loop
-returns c = sym (c .before .before .before .loop .inv .1 ∙ named-here (now (c .before .before .before .before .args .steps)) (c .before .before .before .loop .k) (omega arith) (c .before .before .before .before .args .sector) (c .if1 .taken))
+returns c = search (tests, c .before .before .before .loop .inv .1, from-here, sector-at)
 
 add-k : tie.Need-add-k Inv-loop μ-loop
 add-k c = omega arith
@@ -36,10 +35,10 @@ loop-less : tie.Need-loop-less Inv-loop μ-loop
 loop-less c = omega arith
 
 loop-again : tie.Need-loop-again Inv-loop μ-loop
-loop-again c = (omega arith, c .before .before .before .loop .inv .1 ∙ named-on (now (c .before .before .before .before .args .steps)) (c .before .before .before .loop .k) (omega arith) (c .before .before .before .before .args .sector) (c .if1 .left))
+loop-again c = (omega arith, search (tests, c .before .before .before .loop .inv .1, from-here, sector-at))
 
 returns-2 : tie.Need-returns-2 Inv-loop μ-loop
-returns-2 c = sym (c .before .loop .inv .1 ∙ ap (names (c .before .before .args .sector)) (from-done (now (c .before .before .args .steps)) (c .before .loop .k) (omega arith)))
+returns-2 c = search (c .before .loop .inv .1, from-done)
 
 pub is-named-spec : {M : Type 1} → statement M
 is-named-spec =

@@ -1,15 +1,13 @@
 -- `leg::is_named_twice` meets its contract. The loop's invariant: the steps from place k on decide.
 -- Assumes nothing.
 use mathlib.Core.Path.{_≡_, sym, ap, _∙_}
-use mathlib.Core.List.{List}
-use Prim.Native.Nat.{ℕ, _+_, _-_, _*_, _/_, _≤_}
+use Prim.Native.Nat.{_-_, _/_, _≤_}
 use native.Mathlib.Omega.{arith}
 use borrow.Author.Needs.{needs}
 use denote.Ref.{now}
-use lib.ListN.{length, getD}
+use lib.ListN.{length}
 use Rattle.leg.specs.Leg.{stepsOf, names, namesTwice}
-use Rattle.leg.proofs.Steps.{stepsFrom, from-start, from-done, lent-rest}
-use Rattle.leg.proofs.Loops.{twice-here, twice-on}
+use Rattle.leg.proofs.Steps.{stepsFrom, from-start, from-here, from-done, behind, sector-at}
 use Rattle.leg.proofs.is_named_twice.Statement.{statement}
 use Rattle.leg.proofs.is_named_twice.Tie as tie
 
@@ -20,7 +18,7 @@ abbrev μ-loop : tie.MeasureT-loop
 μ-loop steps count k₀ k = length steps / 8 - k
 
 loop-holds : tie.Need-loop-holds Inv-loop μ-loop
-loop-holds c = (omega arith, ap namesTwice (sym (from-start (now (c .before .args .steps)))))
+loop-holds c = (omega arith, search from-start)
 
 mul-at : tie.Need-mul-at Inv-loop μ-loop
 mul-at c = omega arith
@@ -44,7 +42,11 @@ is-named-requires : tie.Need-is-named-requires Inv-loop μ-loop
 is-named-requires c κs = search needs
 
 returns : tie.Need-returns Inv-loop μ-loop
-returns c = sym (c .before .before .before .before .before .loop .inv .1 ∙ twice-here (now (c .before .before .before .before .before .before .before .args .steps)) (c .before .before .before .before .before .loop .k) (omega arith) (sym (c .before .is-named .ensures ∙ ap (λ (l : List ℕ). names (getD (now (c .before .before .before .before .before .before .before .args .steps)) (c .before .before .before .before .before .loop .k * 8) 0) (stepsOf l)) (lent-rest (now (c .before .before .before .before .before .before .before .args .steps)) (c .before .before .before .before .before .loop .k * 8 + 8))) ∙ c .if1 .taken))
+returns c =
+    let asked = c .before in
+    let at = asked .before .before .before .before in
+    let again = asked .is-named .ensures ∙ ap (names _) (behind (now (at .before .before .args .steps)) (at .loop .k) (omega arith)) in
+    search (at .loop .inv .1, from-here, sector-at, sym again ∙ c .if1 .taken)
 
 add-k : tie.Need-add-k Inv-loop μ-loop
 add-k c = omega arith
@@ -53,10 +55,14 @@ loop-less : tie.Need-loop-less Inv-loop μ-loop
 loop-less c = omega arith
 
 loop-again : tie.Need-loop-again Inv-loop μ-loop
-loop-again c = (omega arith, c .before .before .before .before .before .loop .inv .1 ∙ twice-on (now (c .before .before .before .before .before .before .before .args .steps)) (c .before .before .before .before .before .loop .k) (omega arith) (sym (c .before .is-named .ensures ∙ ap (λ (l : List ℕ). names (getD (now (c .before .before .before .before .before .before .before .args .steps)) (c .before .before .before .before .before .loop .k * 8) 0) (stepsOf l)) (lent-rest (now (c .before .before .before .before .before .before .before .args .steps)) (c .before .before .before .before .before .loop .k * 8 + 8))) ∙ c .if1 .left))
+loop-again c =
+    let asked = c .before in
+    let at = asked .before .before .before .before in
+    let again = asked .is-named .ensures ∙ ap (names _) (behind (now (at .before .before .args .steps)) (at .loop .k) (omega arith)) in
+    (omega arith, search (at .loop .inv .1, from-here, sector-at, sym again ∙ c .if1 .left))
 
 returns-2 : tie.Need-returns-2 Inv-loop μ-loop
-returns-2 c = sym (c .before .loop .inv .1 ∙ ap namesTwice (from-done (now (c .before .before .before .args .steps)) (c .before .loop .k) (omega arith)))
+returns-2 c = search (c .before .loop .inv .1, from-done)
 
 pub is-named-twice-spec : {M : Type 1} → statement M
 is-named-twice-spec =

@@ -2,47 +2,92 @@
 -- Assumes nothing.
 use mathlib.Core.Path.{sym, _∙_}
 use native.Mathlib.Omega.{arith}
-use denote.Ref.{now}
-use Rattle.leg.proofs.Numbers.{refused-1, refused-2, refused-none, refused-many, refused-odd, refused-step, refused-9, refused-10, accepts}
+use borrow.Author.Tests.{ne-eqb}
 use borrow.Author.Needs.{needs}
+use Rattle.route.proofs.Rows.{tests}
+use Rattle.leg.specs.Leg.{legNumber}
+use Rattle.leg.proofs.Numbers.{each-first, each-none}
 use Rattle.leg.proofs.leg_number.Statement.{statement}
 use Rattle.leg.proofs.leg_number.Tie as tie
 
 returns : tie.Need-returns
-returns c = λ sheet e. refused-1 (now (c .before .before .before .args .floor)) (now (c .before .before .before .args .steps)) sheet (c .if1 .taken)
+unfolding legNumber
+returns c sheet e = search tests
 
 returns-2 : tie.Need-returns-2
-returns-2 c = λ sheet e. refused-2 (now (c .before .before .before .before .args .floor)) (now (c .before .before .before .before .args .steps)) sheet (c .before .if1 .left) (λ h. c .if2 .taken (sym e ∙ h))
+unfolding legNumber
+returns-2 c sheet e = search (tests, ne-eqb _ 6400 (λ h. c .if2 .taken (sym e ∙ h)))
 
 returns-3 : tie.Need-returns-3
-returns-3 c = λ sheet e. refused-none (now (c .before .before .before .before .before .args .floor)) (now (c .before .before .before .before .before .args .steps)) sheet (c .before .before .if1 .left) (e ∙ c .before .if2 .left) (c .if3 .taken)
+unfolding legNumber
+returns-3 c sheet e = search (tests, e ∙ c .before .if2 .left)
 
 returns-4 : tie.Need-returns-4
-returns-4 c = λ sheet e. refused-many (now (c .before .before .before .before .before .before .args .floor)) (now (c .before .before .before .before .before .before .args .steps)) sheet (c .before .before .before .if1 .left) (e ∙ c .before .before .if2 .left) (c .before .if3 .left) (c .if4 .taken)
+unfolding legNumber
+returns-4 c sheet e = search (tests, e ∙ c .before .before .if2 .left)
 
 returns-5 : tie.Need-returns-5
-returns-5 c = λ sheet e. refused-odd (now (c .before .before .before .before .before .before .before .args .floor)) (now (c .before .before .before .before .before .before .before .args .steps)) sheet (c .before .before .before .before .if1 .left) (e ∙ c .before .before .before .if2 .left) (c .before .before .if3 .left) (c .before .if4 .left) (c .if5 .taken)
+unfolding legNumber
+returns-5 c sheet e = search (tests, e ∙ c .before .before .before .if2 .left)
 
 each-step-requires : tie.Need-each-step-requires
 each-step-requires c κs = search needs
 
 returns-6 : tie.Need-returns-6
-returns-6 c = λ sheet e. refused-step (now (c .before .before .before .before .before .before .before .before .before .args .floor)) (now (c .before .before .before .before .before .before .before .before .before .args .steps)) sheet (c .before .before .before .before .before .before .if1 .left) (e ∙ c .before .before .before .before .before .if2 .left) (c .before .before .before .before .if3 .left) (c .before .before .before .if4 .left) (c .before .before .if5 .left) (c .before .each-step .result) (c .before .each-step .ensures) (c .if6 .taken)
+unfolding legNumber
+returns-6 c sheet e =
+    let judged = c .before in
+    let n = judged .each-step .ensures in
+    rw n (search (tests, e ∙ judged .before .before .before .before .if2 .left, each-first, ne-eqb _ 0 (λ z. c .if6 .taken (n ∙ z))))
 
 is-out-of-order-requires : tie.Need-is-out-of-order-requires
 is-out-of-order-requires c κs = omega arith
 
 returns-7 : tie.Need-returns-7
-returns-7 c = λ sheet e. refused-9 (now (c .before .before .before .before .before .before .before .before .before .before .before .args .floor)) (now (c .before .before .before .before .before .before .before .before .before .before .before .args .steps)) sheet (c .before .before .before .before .before .before .before .before .if1 .left) (e ∙ c .before .before .before .before .before .before .before .if2 .left) (c .before .before .before .before .before .before .if3 .left) (c .before .before .before .before .before .if4 .left) (c .before .before .before .before .if5 .left) (sym (c .before .before .before .each-step .ensures) ∙ c .before .before .if6 .left) (sym (c .before .is-out-of-order .ensures) ∙ c .if7 .taken)
+unfolding legNumber
+returns-7 c sheet e =
+    let ordered = c .before in
+    let judged = ordered .before .before in
+    search (
+      tests,
+      e ∙ judged .before .before .before .before .if2 .left,
+      each-none,
+      sym (judged .each-step .ensures) ∙ ordered .before .if6 .left,
+      sym (ordered .is-out-of-order .ensures) ∙ c .if7 .taken,
+    )
 
 is-apart-requires : tie.Need-is-apart-requires
 is-apart-requires c κs = omega arith
 
 returns-8 : tie.Need-returns-8
-returns-8 c = λ sheet e. refused-10 (now (c .before .before .before .before .before .before .before .before .before .before .before .before .before .args .floor)) (now (c .before .before .before .before .before .before .before .before .before .before .before .before .before .args .steps)) sheet (c .before .before .before .before .before .before .before .before .before .before .if1 .left) (e ∙ c .before .before .before .before .before .before .before .before .before .if2 .left) (c .before .before .before .before .before .before .before .before .if3 .left) (c .before .before .before .before .before .before .before .if4 .left) (c .before .before .before .before .before .before .if5 .left) (sym (c .before .before .before .before .before .each-step .ensures) ∙ c .before .before .before .before .if6 .left) (sym (c .before .before .before .is-out-of-order .ensures) ∙ c .before .before .if7 .left) (sym (c .before .is-apart .ensures) ∙ c .if8 .taken)
+unfolding legNumber
+returns-8 c sheet e =
+    let faced = c .before in
+    let ordered = faced .before .before in
+    let judged = ordered .before .before in
+    search (
+      tests,
+      e ∙ judged .before .before .before .before .if2 .left,
+      each-none,
+      sym (judged .each-step .ensures) ∙ ordered .before .if6 .left,
+      sym (ordered .is-out-of-order .ensures) ∙ faced .before .if7 .left,
+      sym (faced .is-apart .ensures) ∙ c .if8 .taken,
+    )
 
 returns-9 : tie.Need-returns-9
-returns-9 c = λ sheet e. accepts (now (c .before .before .before .before .before .before .before .before .before .before .before .before .before .args .floor)) (now (c .before .before .before .before .before .before .before .before .before .before .before .before .before .args .steps)) sheet (c .before .before .before .before .before .before .before .before .before .before .if1 .left) (e ∙ c .before .before .before .before .before .before .before .before .before .if2 .left) (c .before .before .before .before .before .before .before .before .if3 .left) (c .before .before .before .before .before .before .before .if4 .left) (c .before .before .before .before .before .before .if5 .left) (sym (c .before .before .before .before .before .each-step .ensures) ∙ c .before .before .before .before .if6 .left) (sym (c .before .before .before .is-out-of-order .ensures) ∙ c .before .before .if7 .left) (sym (c .before .is-apart .ensures) ∙ c .if8 .left)
+unfolding legNumber
+returns-9 c sheet e =
+    let faced = c .before in
+    let ordered = faced .before .before in
+    let judged = ordered .before .before in
+    search (
+      tests,
+      e ∙ judged .before .before .before .before .if2 .left,
+      each-none,
+      sym (judged .each-step .ensures) ∙ ordered .before .if6 .left,
+      sym (ordered .is-out-of-order .ensures) ∙ faced .before .if7 .left,
+      sym (faced .is-apart .ensures) ∙ c .if8 .left,
+    )
 
 pub leg-number-spec : {M : Type 1} → statement M
 leg-number-spec =

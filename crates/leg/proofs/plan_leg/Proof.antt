@@ -12,16 +12,27 @@ leg-number-requires : tie.Need-leg-number-requires
 leg-number-requires c κs = search needs
 
 returns : tie.Need-returns
-returns c = refuses (now (c .before .before .before .before .before .args .floor)) (now (c .before .before .before .before .before .args .steps)) (now (c .before .before .before .before .before .args .sheet)) (c .before .leg-number .result) (c .before .leg-number .ensures (now (c .before .before .before .before .before .args .sheet)) refl) (c .if1 .taken)
+returns c =
+    let numbered = c .before in
+    let a = numbered .before .before .before .before .args in
+    refuses (now (a .floor)) (now (a .steps)) (now (a .sheet)) (numbered .leg-number .result) (numbered .leg-number .ensures (now (a .sheet)) refl) (c .if1 .taken)
 
 plan-steps-requires : tie.Need-plan-steps-requires
-plan-steps-requires c κs = accepted (now (c .before .before .before .before .before .before .args .floor)) (now (c .before .before .before .before .before .before .args .steps)) (now (c .before .before .before .before .before .before .args .sheet)) (sym (c .before .before .leg-number .ensures (now (c .before .before .before .before .before .before .args .sheet)) refl) ∙ c .before .if1 .left)
+plan-steps-requires c κs =
+    let numbered = c .before .before in
+    let a = numbered .before .before .before .before .args in
+    accepted (now (a .floor)) (now (a .steps)) (now (a .sheet)) (sym (numbered .leg-number .ensures (now (a .sheet)) refl) ∙ c .before .if1 .left)
 
 same-length : tie.Need-same-length
 same-length c = search needs
 
 returns-2 : tie.Need-returns-2
-returns-2 c = plans (now (c .before .before .before .before .before .before .before .before .before .args .floor)) (now (c .before .before .before .before .before .before .before .before .before .args .steps)) (now (c .before .before .before .before .before .before .before .before .before .args .sheet)) (sym (c .before .before .before .before .before .leg-number .ensures (now (c .before .before .before .before .before .before .before .before .before .args .sheet)) refl) ∙ c .before .before .before .before .if1 .left) _ (c .before .before .plan-steps .ensures)
+returns-2 c =
+    let planned = c .before .before in
+    let numbered = planned .before .before .before in
+    let a = numbered .before .before .before .before .args in
+    plans (now (a .floor)) (now (a .steps)) (now (a .sheet))
+    (sym (numbered .leg-number .ensures (now (a .sheet)) refl) ∙ planned .before .before .if1 .left) _ (planned .plan-steps .ensures)
 
 pub plan-leg-spec : {M : Type 1} → statement M
 plan-leg-spec =

@@ -3,7 +3,6 @@
 use mathlib.Core.Path.{_≡_}
 use Prim.Native.Nat.{_+_, _-_, _*_}
 use native.Mathlib.Omega.{arith}
-use denote.Ref.{now}
 use Rattle.route.proofs.Accepted.{accepted-step}
 use Rattle.leg.proofs.Step.{in-floor, plans-step}
 use borrow.Author.Needs.{needs}
@@ -11,16 +10,22 @@ use Rattle.leg.proofs.plan_step.Statement.{statement}
 use Rattle.leg.proofs.plan_step.Tie as tie
 
 shared-slice-read-wide : tie.Need-shared-slice-read-wide
-shared-slice-read-wide c = omega (arith, accepted-step (now (c .before .before .before .before .before .args .step)) (c .before .before .before .before .before .pre .accepted) .bytes)
+shared-slice-read-wide c =
+    let start = c .before .before .before .before .before in
+    omega (arith, accepted-step _ (start .pre .accepted) .bytes)
 
 wide-requires : tie.Need-wide-requires
 wide-requires c κs = search needs
 
 mul-at : tie.Need-mul-at
-mul-at c = omega (arith, in-floor (now (c .before .before .before .before .before .before .args .floor)) (now (c .before .before .before .before .before .before .args .step)) (c .before .before .before .before .before .before .args .has-previous) (now (c .before .before .before .before .before .before .args .previous)) (now (c .before .before .before .before .before .before .args .sheet)) (c .before .before .before .before .before .before .pre), c .wide .ensures, c .before .before .before .before .before .before .pre .floor-full, c .before .before .before .before .before .before .pre .sheet-full)
+mul-at c =
+    let start = c .before .before .before .before .before .before in
+    omega (arith, in-floor (start .pre))
 
-add-costs : tie.Need-add-costs
-add-costs c = omega (arith, in-floor (now (c .before .before .before .before .before .before .args .floor)) (now (c .before .before .before .before .before .before .args .step)) (c .before .before .before .before .before .before .args .has-previous) (now (c .before .before .before .before .before .before .args .previous)) (now (c .before .before .before .before .before .before .args .sheet)) (c .before .before .before .before .before .before .pre), c .wide .ensures, c .before .before .before .before .before .before .pre .floor-full, c .before .before .before .before .before .before .pre .sheet-full)
+add-end : tie.Need-add-end
+add-end c =
+    let start = c .before .before .before .before .before .before in
+    omega (arith, in-floor (start .pre))
 
 sub-costs : tie.Need-sub-costs
 sub-costs c = search needs
@@ -29,10 +34,9 @@ part-costs-start : tie.Need-part-costs-start
 part-costs-start c = search needs
 
 part-costs-end : tie.Need-part-costs-end
-part-costs-end c = omega (arith, in-floor (now (c .before .before .before .before .before .before .args .floor)) (now (c .before .before .before .before .before .before .args .step)) (c .before .before .before .before .before .before .args .has-previous) (now (c .before .before .before .before .before .before .args .previous)) (now (c .before .before .before .before .before .before .args .sheet)) (c .before .before .before .before .before .before .pre), c .wide .ensures, c .before .before .before .before .before .before .pre .floor-full, c .before .before .before .before .before .before .pre .sheet-full)
-
-add-plan-sector : tie.Need-add-plan-sector
-add-plan-sector c = omega (arith, in-floor (now (c .before .before .before .before .before .before .before .args .floor)) (now (c .before .before .before .before .before .before .before .args .step)) (c .before .before .before .before .before .before .before .args .has-previous) (now (c .before .before .before .before .before .before .before .args .previous)) (now (c .before .before .before .before .before .before .before .args .sheet)) (c .before .before .before .before .before .before .before .pre), c .before .wide .ensures, c .before .before .before .before .before .before .before .pre .floor-full, c .before .before .before .before .before .before .before .pre .sheet-full)
+part-costs-end c =
+    let start = c .before .before .before .before .before .before in
+    omega (arith, in-floor (start .pre))
 
 sub-plan-sector : tie.Need-sub-plan-sector
 sub-plan-sector c = search needs
@@ -41,7 +45,9 @@ part-plan-sector-start : tie.Need-part-plan-sector-start
 part-plan-sector-start c = search needs
 
 part-plan-sector-end : tie.Need-part-plan-sector-end
-part-plan-sector-end c = omega (arith, in-floor (now (c .before .before .before .before .before .before .before .args .floor)) (now (c .before .before .before .before .before .before .before .args .step)) (c .before .before .before .before .before .before .before .args .has-previous) (now (c .before .before .before .before .before .before .before .args .previous)) (now (c .before .before .before .before .before .before .before .args .sheet)) (c .before .before .before .before .before .before .before .pre), c .before .wide .ensures, c .before .before .before .before .before .before .before .pre .floor-full, c .before .before .before .before .before .before .before .pre .sheet-full)
+part-plan-sector-end c =
+    let start = c .before .before .before .before .before .before .before in
+    omega (arith, in-floor (start .pre))
 
 plan-sector-requires : tie.Need-plan-sector-requires
 plan-sector-requires c κs = search needs
@@ -51,9 +57,13 @@ same-length c = search needs
 
 returns : tie.Need-returns
 returns c =
-    let w = c .before .before .before .before .before .before .before .wide .result in
+    let planned = c .before .before .before .before in
+    let widened = planned .before .before .before in
+    let start = widened .before .before .before .before .before .before in
+    let w = widened .wide .result in
     let n : w * 100 + 100 - w * 100 ≡ 100 = omega arith in
-    plans-step (now (c .before .before .before .before .before .before .before .before .before .before .before .before .before .args .floor)) (now (c .before .before .before .before .before .before .before .before .before .before .before .before .before .args .step)) (c .before .before .before .before .before .before .before .before .before .before .before .before .before .args .has-previous) (now (c .before .before .before .before .before .before .before .before .before .before .before .before .before .args .previous)) (now (c .before .before .before .before .before .before .before .before .before .before .before .before .before .args .sheet)) (c .before .before .before .before .before .before .before .before .before .before .before .before .before .pre) w (c .before .before .before .before .before .before .before .wide .ensures) (w * 100 + 100 - w * 100) n (c .before .before .before .before .plan-sector .result) (c .before .before .before .before .plan-sector .last .1 .1 .1 .1 .0) (c .before .before .before .before .plan-sector .ensures .0) (c .before .before .before .before .plan-sector .ensures .1 .0)
+    plans-step (start .pre) w (widened .wide .ensures) (w * 100 + 100 - w * 100) n
+    (planned .plan-sector .result) (planned .plan-sector .last .1 .1 .1 .1 .0) (planned .plan-sector .ensures .0) (planned .plan-sector .ensures .1 .0)
 
 pub plan-step-spec : {M : Type 1} → statement M
 plan-step-spec =
@@ -62,11 +72,10 @@ plan-step-spec =
     shared-slice-read-wide
     wide-requires
     mul-at
-    add-costs
+    add-end
     sub-costs
     part-costs-start
     part-costs-end
-    add-plan-sector
     sub-plan-sector
     part-plan-sector-start
     part-plan-sector-end

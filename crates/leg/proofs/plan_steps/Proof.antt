@@ -26,7 +26,9 @@ abbrev μ-loop : tie.MeasureT-loop
 μ-loop floor steps sheet₀ count previous₀ k₀ sheet previous k = length steps / 8 - k
 
 loop-holds : tie.Need-loop-holds Inv-loop μ-loop
-loop-holds c = (omega arith, (c .before .before .before .pre .sheet-full, (search needs, from-first (now (c .before .before .before .args .floor)) (now (c .before .before .before .args .steps)) _ (now (c .before .before .before .args .sheet)) (c .before .before .before .pre))))
+loop-holds c =
+    let start = c .before .before .before in
+    (omega arith, (start .pre .sheet-full, (search needs, from-first (start .pre) _)))
 
 mul-at : tie.Need-mul-at Inv-loop μ-loop
 mul-at c = omega arith
@@ -47,12 +49,15 @@ slice-aggregate-plan-step : tie.Need-slice-aggregate-plan-step Inv-loop μ-loop
 slice-aggregate-plan-step c = search needs
 
 plan-step-requires : tie.Need-plan-step-requires Inv-loop μ-loop
-plan-step-requires c κs = record {
-  floor-full = c .before .before .before .before .before .before .before .before .pre .floor-full;
-  sheet-full = c .before .before .before .before .loop .inv .1 .0;
-  accepted = ap stepNumber (lent-step (now (c .before .before .before .before .before .before .before .before .args .steps)) (c .before .before .before .before .loop .k)) ∙ c .before .before .before .before .before .before .before .before .pre .accepted (c .before .before .before .before .loop .k) (c .before .before .before .loop-test .taken);
-  previous-fits = λ h. c .before .before .before .before .loop .inv .1 .1 .0;
-}
+plan-step-requires c κs =
+    let at = c .before .before .before .before in
+    let start = at .before .before .before .before in
+    record {
+      floor-full = start .pre .floor-full;
+      sheet-full = at .loop .inv .1 .0;
+      accepted = ap stepNumber (lent-step (now (start .args .steps)) (at .loop .k)) ∙ start .pre .accepted (at .loop .k) (c .before .before .before .loop-test .taken);
+      previous-fits = λ h. at .loop .inv .1 .1 .0;
+    }
 
 add-k : tie.Need-add-k Inv-loop μ-loop
 add-k c = omega arith
@@ -61,23 +66,28 @@ loop-less : tie.Need-loop-less Inv-loop μ-loop
 loop-less c = omega arith
 
 loop-again : tie.Need-loop-again Inv-loop μ-loop
-loop-again c = (
-  omega arith,
-  (
-    omega arith,
-    (
-      search needs,
-      c .before .before .before .before .before .before .before .loop .inv .1 .1 .1
-          ∙ from-more (now (c .before .before .before .before .before .before .before .before .before .before .before .args .floor)) (now (c .before .before .before .before .before .before .before .before .before .before .before .args .steps)) (c .before .before .before .before .before .before .before .loop .k) (c .before .before .before .before .before .before .loop-test .taken) _ (lent-step (now (c .before .before .before .before .before .before .before .before .before .before .before .args .steps)) (c .before .before .before .before .before .before .before .loop .k)) (ltb 0 (c .before .before .before .before .before .before .before .loop .k)) (c .before .before .before .before .before .before .before .loop .previous) (c .before .before .before .before .before .before .before .loop .sheet) (c .before .before .plan-step .result) _ (c .before .before .plan-step .ensures),
-    ),
-  ),
-)
+loop-again c =
+    let planned = c .before .before in
+    let at = planned .before .before .before .before .before in
+    let steps = now (at .before .before .before .before .args .steps) in (
+      omega arith,
+      (
+        omega arith,
+        (
+          search needs,
+          at .loop .inv .1 .1 .1 ∙ from-more steps (at .loop .k) (omega arith) (lent-step steps (at .loop .k)) (planned .plan-step .ensures),
+        ),
+      ),
+    )
 
 same-length : tie.Need-same-length Inv-loop μ-loop
 same-length c = omega arith
 
 returns : tie.Need-returns Inv-loop μ-loop
-returns c = sym (c .before .loop .inv .1 .1 .1 ∙ from-end (now (c .before .before .before .before .before .args .floor)) (now (c .before .before .before .before .before .args .steps)) (c .before .loop .k) (omega arith) (ltb 0 (c .before .loop .k)) (c .before .loop .previous) (c .before .loop .sheet))
+returns c =
+    let at = c .before in
+    let a = at .before .before .before .before .args in
+    sym (at .loop .inv .1 .1 .1 ∙ from-end (now (a .floor)) (now (a .steps)) (at .loop .k) (omega arith) (ltb 0 (at .loop .k)) (at .loop .previous) (at .loop .sheet))
 
 pub plan-steps-spec : {M : Type 1} → statement M
 plan-steps-spec =

@@ -1,9 +1,8 @@
 -- `sector::plan_sector` meets its contract: refused by its number, or what its four calls leave.
 -- Assumes nothing.
-use mathlib.Core.Path.{_≡_, refl, sym, _∙_}
+use mathlib.Core.Path.{refl, sym, _∙_}
 use denote.Ref.{now}
-use Rattle.sector.specs.Sector.{sectorNumber}
-use Rattle.sector.proofs.Planned.{refuses, runs, promised}
+use Rattle.sector.proofs.Planned.{refuses, runs}
 use borrow.Author.Needs.{needs}
 use Rattle.sector.proofs.plan_sector.Statement.{statement}
 use Rattle.sector.proofs.plan_sector.Tie as tie
@@ -16,9 +15,11 @@ refused-requires c κs = search needs
 
 returns : tie.Need-returns
 returns c =
-    let a = c .before .before .before .before .before .before .before .args in
-    let k = refuses (now (a .costs)) (now (a .step)) (a .has-previous) (now (a .previous)) (now (a .sheet)) (c .before .before .sector-number .result) (c .before .before .sector-number .ensures (now (a .sheet)) refl) (c .before .if1 .taken) in
-    promised (now (a .costs)) (now (a .step)) (a .has-previous) (now (a .previous)) (now (a .sheet)) (c .refused .result) (now (a .sheet)) (c .refused .ensures ∙ k .0) (k .1)
+    let numbered = c .before .before in
+    let a = numbered .before .before .before .before .before .args in
+    refuses (now (a .costs)) (now (a .step)) (a .has-previous) (now (a .previous)) (now (a .sheet))
+    (numbered .sector-number .result) (numbered .sector-number .ensures (now (a .sheet)) refl) (c .before .if1 .taken)
+    (c .refused .result) (c .refused .ensures)
 
 init-requires : tie.Need-init-requires
 init-requires c κs = search needs
@@ -37,11 +38,16 @@ same-length c = search needs
 
 returns-2 : tie.Need-returns-2
 returns-2 c =
-    let a = c .before .before .before .before .before .before .before .before .before .before .before .before .before .before .before .before .before .before .args in
-    let z : sectorNumber (now (a .costs)) (now (a .step)) (a .has-previous) (now (a .previous)) (now (a .sheet)) ≡ 0 = sym (c .before .before .before .before .before .before .before .before .before .before .before .before .before .sector-number .ensures (now (a .sheet)) refl) ∙ c .before .before .before .before .before .before .before .before .before .before .before .before .if1 .left in
-    let k = runs (now (a .costs)) (now (a .step)) (a .has-previous) (now (a .previous)) (now (a .sheet)) z (c .before .before .before .before .before .before .before .before .before .before .before .init .result) (c .before .before .before .before .before .before .before .before .before .build .result) _ (c .before .before .build2 .last .1 .0)
-    (c .before .before .before .before .before .before .before .before .before .before .before .init .ensures .0) (c .before .before .before .before .before .before .before .before .before .build .ensures .0) (c .before .before .before .before .before .before .new .ensures .1) (c .before .before .build2 .ensures .1 .0) in
-    promised (now (a .costs)) (now (a .step)) (a .has-previous) (now (a .previous)) (now (a .sheet)) (c .before .before .before .before .before .before .before .before .before .build .result) (c .before .before .build2 .last .1 .0) (k .0) (k .1)
+    let filled = c .before .before in
+    let begun = filled .before .before .before .before in
+    let built = begun .before .before .before in
+    let started = built .before .before in
+    let numbered = started .before .before in
+    let a = numbered .before .before .before .before .before .args in
+    runs (now (a .costs)) (now (a .step)) (a .has-previous) (now (a .previous)) (now (a .sheet))
+    (sym (numbered .sector-number .ensures (now (a .sheet)) refl) ∙ started .before .if1 .left)
+    (started .init .result) (built .build .result) _ (filled .build2 .last .1 .0)
+    (started .init .ensures .0) (built .build .ensures .0) (begun .new .ensures .1) (filled .build2 .ensures .1 .0)
 
 pub plan-sector-spec : {M : Type 1} → statement M
 plan-sector-spec =
