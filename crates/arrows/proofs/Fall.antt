@@ -6,7 +6,7 @@
 --     spreads     beside a reached cell every cell but a wall is reached: the sum stays below 65535
 -- Assumes nothing.
 use mathlib.Core.Path.{_≡_, refl, sym, ap, _∙_}
-use mathlib.Core.Bool.{Bool, true, false, true≢false, _||_}
+use mathlib.Core.Bool.{Bool, true, false, true≢false, _||_, or-true}
 use mathlib.Core.Logic.{_⊎_, inl, inr}
 use mathlib.Core.List.{List, [], _∷_}
 use Prim.Native.Nat.{ℕ, zero, suc, _+_, _*_, _^_, _≤_, _<_}
@@ -27,14 +27,10 @@ use Rattle.flow_byte.specs.New.{isIn}
 
 -- ---- a list has an entry
 
-or-right : (a b : Bool) → b ≡ true → (a || b) ≡ true
-or-right true b e = refl
-or-right false b e = e
-
 pub is-in : (x : ℕ) (l : List ℕ) → Among x l → isIn x l ≡ true
 is-in x [] (i, h, e) = absurd (omega arith)
 is-in x (y ∷ l) (zero, h, e) = rw (eq-eqb y x e)
-is-in x (y ∷ l) (suc i, h, e) = or-right (eqb y x) (isIn x l) (is-in x l (i, omega arith, e))
+is-in x (y ∷ l) (suc i, h, e) = rw (is-in x l (i, omega arith, e)) (or-true (eqb y x))
 
 pub in-among : (x : ℕ) (l : List ℕ) → isIn x l ≡ true → Among x l
 in-among x [] e = absurd (true≢false (sym e))
@@ -134,6 +130,7 @@ module _ {costs window cells corners built : List ℕ} (s : Sector costs window 
   -- a cell of lower cost beside x
   pub record Lower (x : ℕ) : Type 0 where
     pub cell : ℕ
+    pub inside : cell < 100
     pub beside : BesideAt cell x
     pub lower : value cell < value x
     pub exact : value x ≤ value cell + getD costs x 0
@@ -146,12 +143,14 @@ module _ {costs window cells corners built : List ℕ} (s : Sector costs window 
       back t q (move {k = j} {y = y} {t = u} w b m e) =
           let least = s .least .none-below j y u w in
           let c = s .cost-from x (p .inside) in
+          let i = beside-below y x b .0 in
           let l : value y < value x = omega arith in
           record {
             cell = y;
+            inside = i;
             beside = b;
             lower = l;
-            exact = enters y x (walk-into y (beside-below y x b .0) (omega arith)) b p (omega arith);
+            exact = enters y x (walk-into y i (omega arith)) b p (omega arith);
           }
 
       go : Arrived x → Lower x
@@ -183,22 +182,17 @@ module _ {costs window cells corners built : List ℕ} (s : Sector costs window 
 
   -- ---- spreading
 
-  bounded : (r x : ℕ) → x < 100 → rank x ≤ r → value x < 65535 → value x ≤ 254 * r
-  bounded zero x h l v = go (kind x h)
-    where
-      go : Kind x (getD built x 0) → value x ≤ 254 * 0
-      go (a-window a e) = omega (arith, ap low e)
-      go (a-wall c a e) = absurd (omega (arith, ap low e))
-      go (a-plain p q) = let f = falls x p v in absurd (omega (arith, rank-less x (f .cell) (beside-below (f .cell) x (f .beside) .0) (f .lower)))
+  bounded : (r x : ℕ) → x < 100 → rank x < r → value x < 65535 → value x ≤ 254 * rank x
+  bounded zero x h l v = absurd (omega arith)
   bounded (suc r) x h l v = go (kind x h) (λ y. bounded r y)
     where
-      go : Kind x (getD built x 0) → ((y : ℕ) → y < 100 → rank y ≤ r → value y < 65535 → value y ≤ 254 * r) → value x ≤ 254 * suc r
+      go : Kind x (getD built x 0) → ((y : ℕ) → y < 100 → rank y < r → value y < 65535 → value y ≤ 254 * rank y) → value x ≤ 254 * rank x
       go (a-window a e) ih = omega (arith, ap low e)
       go (a-wall c a e) ih = absurd (omega (arith, ap low e))
       go (a-plain p q) ih =
           let f = falls x p v in
-          let i = beside-below (f .cell) x (f .beside) .0 in
-          let b = ih (f .cell) i (omega (arith, rank-less x (f .cell) i (f .lower))) (omega (arith, f .lower)) in
+          let less = rank-less x (f .cell) (f .inside) (f .lower) in
+          let b = ih (f .cell) (f .inside) (omega arith) (omega (arith, f .lower)) in
           let c : getD costs x 0 ≤ 254 = omega (arith, s .cost-to x h, p .no-wall) in
           omega (arith, f .exact)
 
@@ -215,5 +209,6 @@ module _ {costs window cells corners built : List ℕ} (s : Sector costs window 
       go (a-plain p q) =
           let y-in = beside-below y x b .0 in
           let c : getD costs x 0 ≤ 254 = omega (arith, s .cost-to x (p .inside), p .no-wall) in
-          let m : value y ≤ 254 * 99 = bounded 99 y y-in (rank-few y y-in) v in
+          let few = rank-few y y-in in
+          let m = bounded 100 y y-in (omega arith) v in
           omega (arith, enters y x (walk-into y y-in v) b p (omega arith))

@@ -17,7 +17,7 @@ use Rattle.utilities.specs.Compass.{all}
 use Rattle.fields.specs.declared.Stepped.the-variants.{Cell}
 use Rattle.fields.specs.Cell.{cell, indexOf, cellAt, stepped}
 use Rattle.fields.proofs.Steps.{stepped-cell, index-of-cell}
-use Rattle.fields.proofs.Beside.{beside-flip, beside-below}
+use Rattle.fields.proofs.Beside.{beside-flip}
 use Rattle.route.specs.Step.{isWindow, windowCells, boundaryByte, routeStep}
 use Rattle.route.proofs.Accepted.{accepted-window}
 use Rattle.integration_field.specs.Word.{low, isGoal, isPortal}
@@ -152,7 +152,7 @@ module _ (costs step cells corners built : List ℕ) (s : Sector costs (windowCe
       reached d n e = reached-there s x d n e r
 
       open-cell : wallAt built (f .cell) ≡ false
-      open-cell = at (kind s (f .cell) (beside-below (f .cell) x (f .beside) .0))
+      open-cell = at (kind s (f .cell) (f .inside))
         where
           at : Kind s (f .cell) (getD built (f .cell) 0) → wallAt built (f .cell) ≡ false
           at (a-window a e) = ap word.isImpassable e
@@ -175,26 +175,28 @@ module _ (costs step cells corners built : List ℕ) (s : Sector costs (windowCe
 
   -- ---- the arrows lead to the window
 
-  abbrev Led : ℕ → ℕ → Type 0
-  Led r x = (n : ℕ) × (n ≤ r) × Leads costs step built bytes n x
+  abbrev Led : ℕ → Type 0
+  Led x = (n : ℕ) × (n ≤ rank s x) × Leads costs step built bytes n x
 
-  lead : (r x : ℕ) → x < 100 → rank s x ≤ r → value s x < 65535 → Led r x
-  lead zero x h l v = go (kind s x h)
-    where
-      go : Kind s x (getD built x 0) → Led zero x
-      go (a-window a e) = (zero, omega arith, ends (on, among-mem x window a))
-      go (a-wall c a e) = absurd (omega (arith, ap low e))
-      go (a-plain p q) = let n = next-of x p q v in absurd (omega (arith, rank-less s x (n .next) (near-in (n .sees .to)) (n .lower)))
+  lead : (r x : ℕ) → x < 100 → rank s x < r → value s x < 65535 → Led x
+  lead zero x h l v = absurd (omega arith)
   lead (suc r) x h l v = go (kind s x h) (λ y. lead r y)
     where
-      go : Kind s x (getD built x 0) → ((y : ℕ) → y < 100 → rank s y ≤ r → value s y < 65535 → Led r y) → Led (suc r) x
+      go : Kind s x (getD built x 0) → ((y : ℕ) → y < 100 → rank s y < r → value s y < 65535 → Led y) → Led x
       go (a-window a e) ih = (zero, omega arith, ends (on, among-mem x window a))
       go (a-wall c a e) ih = absurd (omega (arith, ap low e))
       go (a-plain p q) ih =
           let n = next-of x p q v in
           let to = near-in (n .sees .to) in
-          let rest = ih (n .next) to (omega (arith, rank-less s x (n .next) to (n .lower))) (omega (arith, n .lower)) in
+          let less = rank-less s x (n .next) to (n .lower) in
+          let rest = ih (n .next) to (omega arith) (omega (arith, n .lower)) in
           (suc (rest .0), omega (arith, rest .1), moves (λ w. p .no-window (mem-among x window (w .1))) (next-move h n) (rest .2))
+
+  leads-in : (x : ℕ) → x < 100 → Reached built x → (n : ℕ) × (n ≤ 99) × Leads costs step built bytes n x
+  leads-in x h r =
+      let few = rank-few s x h in
+      let l = lead 100 x h (omega arith) r in
+      (l .0, omega (arith, l .1), l .2)
 
   -- ---- all of 0xE0
 
@@ -239,8 +241,8 @@ module _ (costs step cells corners built : List ℕ) (s : Sector costs (windowCe
       go (a-plain p l) (inl w) = absurd (p .no-wall (w .impassable))
       go (a-plain p l) (inr u) = plain-unreached x p l u
 
-  pub sector-arrows : ArrowsLead costs step built bytes
-  sector-arrows = record { leads = λ x h r. lead 99 x h (rank-few s x h) r; marked = λ x h. (marked-cell x h, cell-marked x h) }
+  sector-arrows : ArrowsLead costs step built bytes
+  sector-arrows = record { leads = leads-in; marked = λ x h. (marked-cell x h, cell-marked x h) }
 
 -- ---- a sector left by a window
 

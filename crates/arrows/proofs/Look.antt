@@ -1,5 +1,6 @@
 -- A look, direction by direction.
 --     came          what looking in one more direction comes to
+--     along         what each direction keeps, holds of the whole look
 --     found         where all that a look sees is reached, and one cell of it is lower: it comes to a lower cell, or takes one
 --     nothing       where nothing that it sees is reached: it comes to no direction
 -- Assumes nothing.
@@ -56,17 +57,22 @@ module _ (cells : List ℕ) (i : ℕ) (h : i < 100) where
       x : ℕ
       x = at n
 
+      -- what each test leaves, where it fails
+      compared : Look
+      compared = cond (ltb (low x) value) (Looking d (low x)) (Looking best value)
+
+      untaken : Look
+      untaken = cond (eqb (low x) 65535) (Ended best) compared
+
       comparing : Sees cells i d n → (b : Bool) → ltb (low x) value ≡ b → Came d best value (cond b (Looking d (low x)) (Looking best value))
       comparing s true q = is-better n s (ltb-true (low x) value q) refl
       comparing s false q = not-better n s (ltb-false (low x) value q) refl
 
-      ending : Sees cells i d n → isTaken n ≡ false → (b : Bool) → eqb (low x) 65535 ≡ b
-          → Came d best value (cond b (Ended best) (cond (ltb (low x) value) (Looking d (low x)) (Looking best value)))
+      ending : Sees cells i d n → isTaken n ≡ false → (b : Bool) → eqb (low x) 65535 ≡ b → Came d best value (cond b (Ended best) compared)
       ending s t true q = is-ended n s t (eqb-true (low x) 65535 q) refl
       ending s t false q = comparing s (ltb (low x) value) refl
 
-      taking : Sees cells i d n → (b : Bool) → isTaken n ≡ b
-          → Came d best value (cond b (Taken d) (cond (eqb (low x) 65535) (Ended best) (cond (ltb (low x) value) (Looking d (low x)) (Looking best value))))
+      taking : Sees cells i d n → (b : Bool) → isTaken n ≡ b → Came d best value (cond b (Taken d) untaken)
       taking s true q = is-taken n s q refl
       taking s false q = ending s q (eqb (low x) 65535) refl
 
@@ -77,8 +83,7 @@ module _ (cells : List ℕ) (i : ℕ) (h : i < 100) where
           true≢false (sym t ∙ rw (← p, ← q, w, o))
 
       passing : (a b : Bool) → wallAt cells n ≡ a → betweenWalls cells i n ≡ b
-          → Came d best value (cond (a || b) (Looking best value)
-          (cond (isTaken n) (Taken d) (cond (eqb (low x) 65535) (Ended best) (cond (ltb (low x) value) (Looking d (low x)) (Looking best value)))))
+          → Came d best value (cond (a || b) (Looking best value) (cond (isTaken n) (Taken d) untaken))
       passing true b p q = passed (hidden true b p q refl) refl
       passing false true p q = passed (hidden false true p q refl) refl
       passing false false p q = taking (sees cells i h d c e p q) (isTaken n) refl
@@ -90,6 +95,17 @@ module _ (cells : List ℕ) (i : ℕ) (h : i < 100) where
       at-step (Cell c) e = came-cell d best value c e
       at-step Outside e = passed (λ n s. (let z : _≡_ {A = ℕ} 0 1 = cc (e, s .steps) in omega arith)) refl
 
+  -- what holds of a look and is kept by looking in one more direction, holds along all of them: what was taken or has ended stays
+  along : (P : Look → Type 0) → ((d best : CompassDir) (value : ℕ) (l : Look) → P (Looking best value) → Came d best value l → P l)
+      → (ds : List CompassDir) (l : Look) → P l → P (lookAlong cells i ds l)
+  along P kept [] l p = p
+  along P kept (d ∷ ds) l p = along P kept ds (lookAt cells i l d) (once l p)
+    where
+      once : (l : Look) → P l → P (lookAt cells i l d)
+      once (Looking best value) p = kept d best value (lookAt cells i (Looking best value) d) p (came d best value)
+      once (Taken e) p = p
+      once (Ended e) p = p
+
   -- ---- all that is seen is reached
 
   module _ (reached : (d : CompassDir) (n : ℕ) → Sees cells i d n → low (at n) < 65535) where
@@ -99,21 +115,15 @@ module _ (cells : List ℕ) (i : ℕ) (h : i < 100) where
     Sound (Taken d) = (n : ℕ) × Sees cells i d n × (isTaken n ≡ true)
     Sound (Ended best) = ⊥
 
-    sound-at : (l : Look) (d : CompassDir) → Sound l → Sound (lookAt cells i l d)
-    sound-at (Looking best value) d s = go (came d best value)
-      where
-        go : {l : Look} → Came d best value l → Sound l
-        go (passed p e) = rw e s
-        go (is-taken n p t e) = rw e (n, p, t)
-        go (is-ended n p t v e) = absurd (omega (arith, reached d n p))
-        go (is-better n p v e) = rw e (inr (n, p, refl))
-        go (not-better n p v e) = rw e s
-    sound-at (Taken e) d s = s
-    sound-at (Ended e) d s = s
-
     sound : (ds : List CompassDir) (l : Look) → Sound l → Sound (lookAlong cells i ds l)
-    sound [] l s = s
-    sound (d ∷ ds) l s = sound ds (lookAt cells i l d) (sound-at l d s)
+    sound = along Sound kept
+      where
+        kept : (d best : CompassDir) (value : ℕ) (l : Look) → Sound (Looking best value) → Came d best value l → Sound l
+        kept d best value l s (passed p e) = rw e s
+        kept d best value l s (is-taken n p t e) = rw e (n, p, t)
+        kept d best value l s (is-ended n p t v e) = absurd (omega (arith, reached d n p))
+        kept d best value l s (is-better n p v e) = rw e (inr (n, p, refl))
+        kept d best value l s (not-better n p v e) = rw e s
 
     -- the best so far is no more than m
     abbrev AtMost : ℕ → Look → Type 0
@@ -121,17 +131,15 @@ module _ (cells : List ℕ) (i : ℕ) (h : i < 100) where
     AtMost m (Taken d) = Unit
     AtMost m (Ended d) = Unit
 
-    stays-at : (m : ℕ) (l : Look) (d : CompassDir) → AtMost m l → AtMost m (lookAt cells i l d)
-    stays-at m (Looking best value) d a = go (came d best value)
+    stays : (m : ℕ) (ds : List CompassDir) (l : Look) → AtMost m l → AtMost m (lookAlong cells i ds l)
+    stays m = along (AtMost m) kept
       where
-        go : {l : Look} → Came d best value l → AtMost m l
-        go (passed p e) = rw e a
-        go (is-taken n p t e) = rw e tt
-        go (is-ended n p t v e) = rw e tt
-        go (is-better n p v e) = rw e (omega arith)
-        go (not-better n p v e) = rw e a
-    stays-at m (Taken e) d a = a
-    stays-at m (Ended e) d a = a
+        kept : (d best : CompassDir) (value : ℕ) (l : Look) → AtMost m (Looking best value) → Came d best value l → AtMost m l
+        kept d best value l a (passed p e) = rw e a
+        kept d best value l a (is-taken n p t e) = rw e tt
+        kept d best value l a (is-ended n p t v e) = rw e tt
+        kept d best value l a (is-better n p v e) = rw e (omega arith)
+        kept d best value l a (not-better n p v e) = rw e a
 
     noted-at : (m : ℕ) (l : Look) (d : CompassDir) → Sees cells i d m → AtMost (low (at m)) (lookAt cells i l d)
     noted-at m (Looking best value) d s = go (came d best value)
@@ -147,10 +155,6 @@ module _ (cells : List ℕ) (i : ℕ) (h : i < 100) where
         go (not-better n p v e) = rw (e, ← same n p) v
     noted-at m (Taken e) d s = tt
     noted-at m (Ended e) d s = tt
-
-    stays : (m : ℕ) (ds : List CompassDir) (l : Look) → AtMost m l → AtMost m (lookAlong cells i ds l)
-    stays m [] l a = a
-    stays m (d ∷ ds) l a = stays m ds (lookAt cells i l d) (stays-at m l d a)
 
     noted : (m : ℕ) (d : CompassDir) → Sees cells i d m → (ds : List CompassDir) → List·Memᴰ d ds → (l : Look) → AtMost (low (at m)) (lookAlong cells i ds l)
     noted m d s [] k l = absurd (List·Memᴰ·not-nil k)
@@ -184,22 +188,13 @@ module _ (cells : List ℕ) (i : ℕ) (h : i < 100) where
     Nothing (Taken d) = ⊥
     Nothing (Ended best) = best ≡ Zero
 
-    nothing-at : (l : Look) (d : CompassDir) → Nothing l → Nothing (lookAt cells i l d)
-    nothing-at (Looking best value) d s = go (came d best value)
-      where
-        go : {l : Look} → Came d best value l → Nothing l
-        go (passed p e) = rw e s
-        go (is-taken n p t e) = absurd (true≢false (sym t ∙ unreached d n p .1))
-        go (is-ended n p t v e) = rw e (s .0)
-        go (is-better n p v e) = absurd (omega (arith, unreached d n p .0, s .1))
-        go (not-better n p v e) = rw e s
-    nothing-at (Taken e) d s = s
-    nothing-at (Ended e) d s = s
-
-    nothing-along : (ds : List CompassDir) (l : Look) → Nothing l → Nothing (lookAlong cells i ds l)
-    nothing-along [] l s = s
-    nothing-along (d ∷ ds) l s = nothing-along ds (lookAt cells i l d) (nothing-at l d s)
-
     pub nothing : Nothing (lookAround cells i)
     unfolding lookAround
-    nothing = nothing-along all (Looking Zero 65535) (refl, refl)
+    nothing = along Nothing kept all (Looking Zero 65535) (refl, refl)
+      where
+        kept : (d best : CompassDir) (value : ℕ) (l : Look) → Nothing (Looking best value) → Came d best value l → Nothing l
+        kept d best value l s (passed p e) = rw e s
+        kept d best value l s (is-taken n p t e) = absurd (true≢false (sym t ∙ unreached d n p .1))
+        kept d best value l s (is-ended n p t v e) = rw e (s .0)
+        kept d best value l s (is-better n p v e) = absurd (omega (arith, unreached d n p .0, s .1))
+        kept d best value l s (not-better n p v e) = rw e s
