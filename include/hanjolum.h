@@ -9,7 +9,8 @@
  * A sheet must not overlap any other argument.
  *
  * Slices.  A pointer and behind it its length, in elements. A length other than the one that a function asks for is
- * refused, never read past. Where the length is 0 the pointer may be anything, NULL too. Pointers are aligned as in C.
+ * refused, never read past; that of previous is judged only with has_previous. Where the length is 0 the pointer may be
+ * anything, NULL too. Pointers are aligned as in C.
  *
  * Fields and answers pass by value: a field is 1,208 bytes, and the compiler copies it to the stack. Padding between the
  * parts of an answer is not set: compare its parts, not its bytes.
@@ -17,7 +18,8 @@
  * Floating point.  Sight uses single precision, rounded to nearest: leave the processor's mode as a C program starts.
  *
  * Cells.  A sector is ten by ten cells; the cell at a column and a row has the index row * 10 + column, row 0 is north.
- * A cost field is 100 cost bytes by index; 255 is a wall. A sheet of a sector is 100 flow bytes by index.
+ * A cost field is 100 cost bytes by index; 255 is a wall, save under a goal or a window cell. A sheet of a sector is
+ * 100 flow bytes by index.
  * A floor is 64 sectors of 100 cost bytes one after the other, sector s at column s % 8 and row s / 8 of the floor;
  * a floor's sheet is laid out alike.
  *
@@ -29,8 +31,8 @@
  *     5      boundary that the window leads across: 0 North, 1 East, 2 South, 3 West (not read where the mark is 0)
  *     6, 7   0
  *
- * Refusals.  An accepted call answers 0. A refused one answers the number of the first line below that holds, writes not
- * one byte of the sheet, and has every other part of its answer zero.
+ * Refusals.  An accepted call's number is 0. A refused one answers the number of the first line below that holds, of
+ * those that its function names, writes not one byte of the sheet, and has every other part of its answer zero.
  *     1   cost bytes not 100 (leg: 6,400)
  *     2   sheet not 100 bytes (leg: 6,400)
  *     3   step not 8 bytes (leg: none, over 128, or no multiple of 8)
@@ -145,9 +147,10 @@ typedef struct {
 /*
  * Plans one sector: starts the field of a step on 100 cost bytes, builds it, and writes its 100 flow bytes to the sheet,
  * whatever they were before. Answers the built field and its wave count.
- * With has_previous, previous is the 100 cells of the built field of the sector across the window; each window cell then
- * points at the cheapest of the cells that it faces. Without, previous is not read and each window cell points straight
- * across the boundary.
+ * With has_previous, previous is the 100 cells of the built field of the sector across the window; each cell of a window
+ * of two or more then points at the cheapest of the two or three cells that it faces, straight across where that is no
+ * dearer. Without, previous is not read, and each window cell points straight across the boundary, as a window of one
+ * cell always does.
  * With a window, and no cost of 0, the arrows lead from every reached cell into the window in at most 99 moves, over no
  * wall and between no two walls. With a goal that is not promised: behind a wall two arrows may point at each other.
  * Numbers 1, 2, 3, 4 to 8, 12.
