@@ -1,5 +1,5 @@
 -- The built costs of a window sector: they fall from every reached cell to the window, and spread to every cell beside a reached one.
---     kind        what a cell's built word is: a window cell's, a wall's, or a cost alone
+--     by-kind     a cell's built word is a window cell's, a wall's, or a cost alone
 --     falls       beside a reached cell that is no window cell lies one of lower cost, from which its own cost is made
 --     rank        how many cells cost less than a cell: at most 99
 --     bounded     a reached cell costs at most 254 for each cell of lower cost, so 25,146 at most
@@ -59,12 +59,6 @@ module _ {costs window cells corners built : List ℕ} (s : Sector costs window 
     pub no-window : Among x window → ⊥
     pub no-wall : getD costs x 0 ≡ 255 → ⊥
 
-  -- what a built word is
-  pub data Kind (x w : ℕ) : Type 0 where
-    a-window : Among x window → w ≡ 0x80000 → Kind x w
-    a-wall : getD costs x 0 ≡ 255 → (Among x window → ⊥) → w ≡ 0x200FFFF → Kind x w
-    a-plain : Plain x → w < 2 ^ 16 → Kind x w
-
   window-word : (x : ℕ) → Among x window → getD built x 0 ≡ 0x80000
   window-word x a = go (s .least .attained x)
     where
@@ -81,24 +75,31 @@ module _ {costs window cells corners built : List ℕ} (s : Sector costs window 
   plain-word : (x : ℕ) → Plain x → getD cells x 0 ≡ 65535
   plain-word x p = s .started .other-cell x (p .inside) (p .no-wall) (p .no-window)
 
-  pub kind : (x : ℕ) → x < 100 → Kind x (getD built x 0)
-  kind x h = go (isIn x window) refl (eqb (getD costs x 0) 255) refl
+  plain-small : (x : ℕ) → Plain x → getD built x 0 < 2 ^ 16
+  plain-small x p = go (s .least .attained x)
     where
-      plain : Plain x → Kind x (getD built x 0)
-      plain p = a-plain p (small (s .least .attained x))
-        where
-          small : (getD built x 0 ≡ getD cells x 0) ⊎ Walked costs cells corners x (getD built x 0) → getD built x 0 < 2 ^ 16
-          small (inl e) = omega (arith, e, plain-word x p)
-          small (inr w) = omega (arith, w .lower)
+      go : (getD built x 0 ≡ getD cells x 0) ⊎ Walked costs cells corners x (getD built x 0) → getD built x 0 < 2 ^ 16
+      go (inl e) = omega (arith, e, plain-word x p)
+      go (inr w) = omega (arith, w .lower)
 
-      go : (a : Bool) → isIn x window ≡ a → (b : Bool) → eqb (getD costs x 0) 255 ≡ b → Kind x (getD built x 0)
-      go true p b q = a-window (in-among x window p) (window-word x (in-among x window p))
+  -- a cell's built word is a window cell's, a wall's, or a cost alone
+  pub by-kind : {P : Type 0} (x : ℕ) → x < 100 → (Among x window → getD built x 0 ≡ 0x80000 → P)
+      → (getD costs x 0 ≡ 255 → (Among x window → ⊥) → getD built x 0 ≡ 0x200FFFF → P) → (Plain x → getD built x 0 < 2 ^ 16 → P) → P
+  by-kind {P} x h at-window at-wall at-plain = go (isIn x window) refl (eqb (getD costs x 0) 255) refl
+    where
+      go : (a : Bool) → isIn x window ≡ a → (b : Bool) → eqb (getD costs x 0) 255 ≡ b → P
+      go true p b q = at-window (in-among x window p) (window-word x (in-among x window p))
       go false p true q =
           let a : Among x window → ⊥ = λ i. true≢false (sym (is-in x window i) ∙ p) in
           let c = eqb-true (getD costs x 0) 255 q in
-          a-wall c a (wall-word x h c a)
+          at-wall c a (wall-word x h c a)
       go false p false q =
-          plain (record { inside = h; no-window = λ i. true≢false (sym (is-in x window i) ∙ p); no-wall = λ e. true≢false (sym (eq-eqb (getD costs x 0) 255 e) ∙ q) })
+          let plain : Plain x = record {
+            inside = h;
+            no-window = λ i. true≢false (sym (is-in x window i) ∙ p);
+            no-wall = λ e. true≢false (sym (eq-eqb (getD costs x 0) 255 e) ∙ q);
+          } in
+          at-plain plain (plain-small x plain)
 
   -- ---- walks into reached cells
 
@@ -107,13 +108,15 @@ module _ {costs window cells corners built : List ℕ} (s : Sector costs window 
   Arrived x = (k : ℕ) × Permitted costs cells corners k x (value x)
 
   walk-into : (x : ℕ) → x < 100 → value x < 65535 → Arrived x
-  walk-into x h r = go (kind x h) (s .least .attained x)
+  walk-into x h r =
+      by-kind x h
+      (λ a e. (zero, start {x = x} {s = value x} (rw (s .started .list) (among-mem x window a)) (omega (arith, ap low e, ap low (s .started .portal-cell x a)))))
+      (λ c a e. absurd (omega (arith, ap low e)))
+      (λ p l. plain p l (s .least .attained x))
     where
-      go : Kind x (getD built x 0) → (getD built x 0 ≡ getD cells x 0) ⊎ Walked costs cells corners x (getD built x 0) → (k : ℕ) × Permitted costs cells corners k x (value x)
-      go (a-window a e) w = (zero, start {x = x} {s = value x} (rw (s .started .list) (among-mem x window a)) (omega (arith, ap low e, ap low (s .started .portal-cell x a))))
-      go (a-wall c a e) w = absurd (omega (arith, ap low e))
-      go (a-plain p l) (inl e) = absurd (omega (arith, ap low e, ap low (plain-word x p)))
-      go (a-plain p l) (inr w) = let e : value x ≡ getD built x 0 = omega arith in (w .moves, rw e (w .walk))
+      plain : Plain x → getD built x 0 < 2 ^ 16 → (getD built x 0 ≡ getD cells x 0) ⊎ Walked costs cells corners x (getD built x 0) → Arrived x
+      plain p l (inl e) = absurd (omega (arith, ap low e, ap low (plain-word x p)))
+      plain p l (inr w) = let e : value x ≡ getD built x 0 = omega arith in (w .moves, rw e (w .walk))
 
   -- one move more
   enters : (y x : ℕ) → Arrived y → BesideAt y x → Plain x → value y + getD costs x 0 < 65535 → value x ≤ value y + getD costs x 0
@@ -184,31 +187,25 @@ module _ {costs window cells corners built : List ℕ} (s : Sector costs window 
 
   bounded : (r x : ℕ) → x < 100 → rank x < r → value x < 65535 → value x ≤ 254 * rank x
   bounded zero x h l v = absurd (omega arith)
-  bounded (suc r) x h l v = go (kind x h) (λ y. bounded r y)
-    where
-      go : Kind x (getD built x 0) → ((y : ℕ) → y < 100 → rank y < r → value y < 65535 → value y ≤ 254 * rank y) → value x ≤ 254 * rank x
-      go (a-window a e) ih = omega (arith, ap low e)
-      go (a-wall c a e) ih = absurd (omega (arith, ap low e))
-      go (a-plain p q) ih =
-          let f = falls x p v in
-          let less = rank-less x (f .cell) (f .inside) (f .lower) in
-          let b = ih (f .cell) (f .inside) (omega arith) (omega (arith, f .lower)) in
-          let c : getD costs x 0 ≤ 254 = omega (arith, s .cost-to x h, p .no-wall) in
-          omega (arith, f .exact)
+  bounded (suc r) x h l v =
+      by-kind x h (λ a e. omega (arith, ap low e)) (λ c a e. absurd (omega (arith, ap low e)))
+      (λ p q.
+      let f = falls x p v in
+      let less = rank-less x (f .cell) (f .inside) (f .lower) in
+      let b = bounded r (f .cell) (f .inside) (omega arith) (omega (arith, f .lower)) in
+      let c : getD costs x 0 ≤ 254 = omega (arith, s .cost-to x h, p .no-wall) in
+      omega (arith, f .exact))
 
   -- a cell that is no wall
   abbrev pub NoWall : ℕ → Type 0
   NoWall x = isImpassable (getD built x 0) ≡ false
 
   pub spreads : (y x : ℕ) → BesideAt y x → value y < 65535 → NoWall x → value x < 65535
-  spreads y x b v n = go (kind x (beside-below y x b .1))
-    where
-      go : Kind x (getD built x 0) → value x < 65535
-      go (a-window a e) = omega (arith, ap low e)
-      go (a-wall c a e) = absurd (true≢false (sym (ap isImpassable e) ∙ n))
-      go (a-plain p q) =
-          let y-in = beside-below y x b .0 in
-          let c : getD costs x 0 ≤ 254 = omega (arith, s .cost-to x (p .inside), p .no-wall) in
-          let few = rank-few y y-in in
-          let m = bounded 100 y y-in (omega arith) v in
-          omega (arith, enters y x (walk-into y y-in v) b p (omega arith))
+  spreads y x b v n =
+      let y-in = beside-below y x b .0 in
+      by-kind x (beside-below y x b .1) (λ a e. omega (arith, ap low e)) (λ c a e. absurd (true≢false (sym (ap isImpassable e) ∙ n)))
+      (λ p q.
+      let c : getD costs x 0 ≤ 254 = omega (arith, s .cost-to x (p .inside), p .no-wall) in
+      let few = rank-few y y-in in
+      let m = bounded 100 y y-in (omega arith) v in
+      omega (arith, enters y x (walk-into y y-in v) b p (omega arith)))

@@ -38,7 +38,7 @@ use Rattle.flow_byte.specs.New.{isIn, inWindow, startOf, windowBits, newByte, f
 use Rattle.flow_byte.specs.Look.{lookedByte, lookAround, pointed, builtByte, flowBuild}
 use Rattle.arrows.specs.Arrows.{Reached, Away, Cuts, Move, Leads, ends, moves, ArrowsLead}
 use Rattle.arrows.specs.Promise.{WindowSector, builtCells, BuildArrows}
-use Rattle.arrows.proofs.Fall.{is-in, in-among, Sector, value, Plain, Kind, a-window, a-wall, a-plain, wall-word, kind, Lower, falls, rank, rank-less, rank-few}
+use Rattle.arrows.proofs.Fall.{is-in, in-among, Sector, value, Plain, wall-word, by-kind, Lower, falls, rank, rank-less, rank-few}
 use Rattle.arrows.proofs.Around.{Sees, differ, near-in, reached-there, reached-back, sees-beside}
 use Rattle.arrows.proofs.Look.{Found, found, Nothing, nothing}
 use Rattle.arrows.proofs.Bytes.{built-byte, new-byte, new-length, Pointed, pointed-is, Kept, portal-kept, window-bits}
@@ -129,18 +129,15 @@ module _ (costs step cells corners built : List ℕ) (s : Sector costs (windowCe
     goes = rw (n .byte, next-pointed n .arrow-is) (n .sees .steps);
     away = rw (n .byte, next-pointed n .arrow-is) (stepped-away (n .way) x (n .next) (n .sees .steps));
     inside = near-in (n .sees .to);
-    lower = n .lower;
+    lower = omega (arith, n .lower);
     uncut = no-cut x (n .next) h (near-in (n .sees .to)) (n .sees .open-way);
   }
 
   -- a goal or portal of the built field is a window cell, of cost 0
   taken-zero : (n : ℕ) → n < 100 → wallAt built n ≡ false → (isGoal (getD built n 0) || isPortal (getD built n 0)) ≡ true → value s n ≡ 0
-  taken-zero n h w t = go (kind s n h)
-    where
-      go : Kind s n (getD built n 0) → value s n ≡ 0
-      go (a-window a e) = ap low e
-      go (a-wall c a e) = absurd (true≢false (sym (ap word.isImpassable e) ∙ w))
-      go (a-plain p l) = absurd (true≢false (sym t ∙ small-untaken (getD built n 0) l))
+  taken-zero n h w t =
+      by-kind s n h (λ a e. ap low e) (λ c a e. absurd (true≢false (sym (ap word.isImpassable e) ∙ w)))
+      (λ p l. absurd (true≢false (sym t ∙ small-untaken (getD built n 0) l)))
 
   next-of : (x : ℕ) → Plain s x → getD built x 0 < 2 ^ 16 → value s x < 65535 → Next x
   next-of x p l r = go (lookAround built x) (plain-byte x p l) (found built x (p .inside) reached (value s x) (f .cell) (d .0) (d .1) (d .2) (f .lower))
@@ -152,12 +149,9 @@ module _ (costs step cells corners built : List ℕ) (s : Sector costs (windowCe
       reached d n e = reached-there s x d n e r
 
       open-cell : wallAt built (f .cell) ≡ false
-      open-cell = at (kind s (f .cell) (f .inside))
-        where
-          at : Kind s (f .cell) (getD built (f .cell) 0) → wallAt built (f .cell) ≡ false
-          at (a-window a e) = ap word.isImpassable e
-          at (a-wall c a e) = absurd (omega (arith, ap low e, f .lower))
-          at (a-plain q m) = small-flag (getD built (f .cell) 0) 25 (omega arith)
+      open-cell =
+          by-kind s (f .cell) (f .inside) (λ a e. ap word.isImpassable e) (λ c a e. absurd (omega (arith, ap low e, f .lower)))
+          (λ q m. small-flag (getD built (f .cell) 0) 25 (omega arith))
 
       d : (d : CompassDir) × List·Memᴰ d all × Sees built x d (f .cell)
       d = sees-beside built x (p .inside) (f .cell) (beside-flip (cellAt (f .cell)) (cellAt x) (f .beside)) open-cell
@@ -180,23 +174,14 @@ module _ (costs step cells corners built : List ℕ) (s : Sector costs (windowCe
 
   lead : (r x : ℕ) → x < 100 → rank s x < r → value s x < 65535 → Led x
   lead zero x h l v = absurd (omega arith)
-  lead (suc r) x h l v = go (kind s x h) (λ y. lead r y)
-    where
-      go : Kind s x (getD built x 0) → ((y : ℕ) → y < 100 → rank s y < r → value s y < 65535 → Led y) → Led x
-      go (a-window a e) ih = (zero, omega arith, ends (on, among-mem x window a))
-      go (a-wall c a e) ih = absurd (omega (arith, ap low e))
-      go (a-plain p q) ih =
-          let n = next-of x p q v in
-          let to = near-in (n .sees .to) in
-          let less = rank-less s x (n .next) to (n .lower) in
-          let rest = ih (n .next) to (omega arith) (omega (arith, n .lower)) in
-          (suc (rest .0), omega (arith, rest .1), moves (λ w. p .no-window (mem-among x window (w .1))) (next-move h n) (rest .2))
-
-  leads-in : (x : ℕ) → x < 100 → Reached built x → (n : ℕ) × (n ≤ 99) × Leads costs step built bytes n x
-  leads-in x h r =
-      let few = rank-few s x h in
-      let l = lead 100 x h (omega arith) r in
-      (l .0, omega (arith, l .1), l .2)
+  lead (suc r) x h l v =
+      by-kind s x h (λ a e. (zero, omega arith, ends (on, among-mem x window a))) (λ c a e. absurd (omega (arith, ap low e)))
+      (λ p q.
+      let n = next-of x p q v in
+      let to = near-in (n .sees .to) in
+      let less = rank-less s x (n .next) to (n .lower) in
+      let rest = lead r (n .next) to (omega arith) (omega (arith, n .lower)) in
+      (suc (rest .0), omega (arith, rest .1), moves (λ w. p .no-window (mem-among x window (w .1))) (next-move h n) (rest .2)))
 
   -- ---- all of 0xE0
 
@@ -206,17 +191,13 @@ module _ (costs step cells corners built : List ℕ) (s : Sector costs (windowCe
   plain-unreached x p l u = rw (plain-byte x p l) (go (lookAround built x) (nothing built x (p .inside) unreached))
     where
       unreached : (d : CompassDir) (n : ℕ) → Sees built x d n → (low (getD built n 0) ≡ 65535) × ((isGoal (getD built n 0) || isPortal (getD built n 0)) ≡ false)
-      unreached d n e = (v, at (kind s n (near-in (e .to))))
-        where
-          v : low (getD built n 0) ≡ 65535
-          v =
-              let w : value s n < 65535 → ⊥ = λ r. u (reached-back s x d n e (small-flag (getD built x 0) 25 (omega arith)) r) in
-              omega arith
-
-          at : Kind s n (getD built n 0) → (isGoal (getD built n 0) || isPortal (getD built n 0)) ≡ false
-          at (a-window a q) = absurd (omega (arith, ap low q, v))
-          at (a-wall c a q) = absurd (true≢false (sym (ap word.isImpassable q) ∙ e .no-wall))
-          at (a-plain q m) = small-untaken (getD built n 0) m
+      unreached d n e =
+          let w : value s n < 65535 → ⊥ = λ r. u (reached-back s x d n e (small-flag (getD built x 0) 25 (omega arith)) r) in
+          let v : low (getD built n 0) ≡ 65535 = omega arith in (
+            v,
+            by-kind s n (near-in (e .to)) (λ a q. absurd (omega (arith, ap low q))) (λ c a q. absurd (true≢false (sym (ap word.isImpassable q) ∙ e .no-wall)))
+                (λ q m. small-untaken (getD built n 0) m),
+          )
 
       go : (look : Look) → Nothing built x (p .inside) unreached look → isImpassable (lookedByte 0 look) ≡ true
       go (Looking best v) q = rw (q .0)
@@ -224,25 +205,25 @@ module _ (costs step cells corners built : List ℕ) (s : Sector costs (windowCe
       go (Ended best) q = rw q
 
   marked-cell : (x : ℕ) → x < 100 → isImpassable (getD bytes x 0) ≡ true → Wall costs step x ⊎ (Reached built x → ⊥)
-  marked-cell x h m = go (kind s x h)
-    where
-      go : Kind s x (getD built x 0) → Wall costs step x ⊎ (Reached built x → ⊥)
-      go (a-window a e) = absurd (true≢false (sym m ∙ window-byte x h a e .unmarked))
-      go (a-wall c a e) = inl (record { impassable = c; not-goal = λ g. true≢false (sym on ∙ g .0); not-window = λ w. a (mem-among x window (w .1)) })
-      go (a-plain p l) = inr (λ r. (let n = next-of x p l r in true≢false (sym m ∙ ap isImpassable (n .byte) ∙ next-pointed n .unmarked)))
+  marked-cell x h m =
+      by-kind s x h (λ a e. absurd (true≢false (sym m ∙ window-byte x h a e .unmarked)))
+      (λ c a e. inl (record { impassable = c; not-goal = λ g. true≢false (sym on ∙ g .0); not-window = λ w. a (mem-among x window (w .1)) }))
+      (λ p l. inr (λ r. (let n = next-of x p l (omega arith) in true≢false (sym m ∙ ap isImpassable (n .byte) ∙ next-pointed n .unmarked))))
 
   cell-marked : (x : ℕ) → x < 100 → Wall costs step x ⊎ (Reached built x → ⊥) → isImpassable (getD bytes x 0) ≡ true
-  cell-marked x h u = go (kind s x h) u
-    where
-      go : Kind s x (getD built x 0) → Wall costs step x ⊎ (Reached built x → ⊥) → isImpassable (getD bytes x 0) ≡ true
-      go (a-window a e) (inl w) = absurd (w .not-window (on, among-mem x window a))
-      go (a-window a e) (inr u) = absurd (u (omega (arith, ap low e)))
-      go (a-wall c a e) w = ap isImpassable (wall-byte x h a e)
-      go (a-plain p l) (inl w) = absurd (p .no-wall (w .impassable))
-      go (a-plain p l) (inr u) = plain-unreached x p l u
+  cell-marked x h (inl w) =
+      by-kind s x h (λ a e. absurd (w .not-window (on, among-mem x window a))) (λ c a e. ap isImpassable (wall-byte x h a e)) (λ p l. absurd (p .no-wall (w .impassable)))
+  cell-marked x h (inr u) =
+      by-kind s x h (λ a e. absurd (u (omega (arith, ap low e)))) (λ c a e. ap isImpassable (wall-byte x h a e)) (λ p l. plain-unreached x p l (λ v. u (omega arith)))
 
   sector-arrows : ArrowsLead costs step built bytes
-  sector-arrows = record { leads = leads-in; marked = λ x h. (marked-cell x h, cell-marked x h) }
+  sector-arrows = record {
+    leads = λ x h r.
+        (let few = rank-few s x h in
+        let l = lead 100 x h (omega arith) (omega arith) in
+        (l .0, omega (arith, l .1), l .2));
+    marked = λ x h. (marked-cell x h, cell-marked x h);
+  }
 
 -- ---- a sector left by a window
 
@@ -260,7 +241,7 @@ module _ (costs step : List ℕ) (w : WindowSector costs step) where
   inside x m = let a = mem-among x corners m in omega (arith, told .corner-in (a .0) (a .1), a .2)
 
   sector : Sector costs (windowCells step) cells corners (builtCells costs step)
-  sector = record { started = told; least = least-walks costs cells corners (told .full) inside; cost-from = w .no-zero; cost-to = w .byte }
+  sector = record { started = told; least = least-walks costs cells corners (told .full) inside; cost-from = λ x h. omega (arith, w .no-zero x h); cost-to = w .byte }
 
   pub arrows-lead : (has : Bool) (previous : List ℕ)
       → ArrowsLead costs step (builtCells costs step) (flowBuild (builtCells costs step) (flowNew step (builtCells costs step) has previous))
