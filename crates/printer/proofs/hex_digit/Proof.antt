@@ -1,3 +1,5 @@
+-- `printer::hex_digit` meets its contract: a digit below ten, or a letter.
+-- Assumes nothing.
 use borrow.Author.Tests.{lt-ltb, le-ltb}
 use Rattle.printer.specs.Text.{hexDigit}
 use borrow.Author.Needs.{needs}

@@ -1,3 +1,5 @@
+-- `printer::put_cell` meets its contract: the high digit, and the low one behind it.
+-- Assumes nothing.
 use native.Mathlib.Numerals.{add-one}
 use Rattle.printer.specs.Text.{cellText}
 use borrow.Author.Needs.{needs}

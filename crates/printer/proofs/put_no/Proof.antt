@@ -1,3 +1,5 @@
+-- `printer::put_no` meets its contract: the bytes of a refusal, of one digit or two, stored one by one.
+-- Assumes nothing.
 use native.Mathlib.Omega.{arith}
 use mathlib.Core.Path.{refl}
 use borrow.Author.Tests.{lt-ltb, le-ltb}

@@ -1,3 +1,5 @@
+-- `printer::render` meets its contract: the line of a refusal, or the lines of a sheet.
+-- Assumes nothing.
 use native.Mathlib.Omega.{arith}
 use denote.Ref.{now}
 use mathlib.Core.Path.{sym}

@@ -1,3 +1,5 @@
+-- `printer::report` meets its contract: an input too short to have costs, or what the sector call answers for its parts.
+-- Assumes nothing.
 use denote.Ref.{now}
 use mathlib.Core.Path.{_∙_}
 use lib.ListN.{replicate}
