@@ -13,7 +13,7 @@ use Rattle.sectors.specs.declared.Across.the-variants.{Sector, OffFloor}
 use Rattle.sectors.specs.Floor.{across}
 use Rattle.sector.specs.Sector.{sectorField, sectorBytes}
 
--- the 100 bytes of a sector, of a floor or of a sheet
+-- a sector's own 100 bytes, of a floor or of a sheet
 abbrev pub part : List ℕ → ℕ → List ℕ
 part bytes sector = take 100 (drop (sector * 100) bytes)
 
@@ -22,10 +22,16 @@ unfoldable pub stepsIn : ℕ → List ℕ → List (List ℕ)
 stepsIn zero bytes = []
 stepsIn (suc n) bytes = take 8 bytes ∷ stepsIn n (drop 8 bytes)
 
+-- a list of bytes as its steps
 abbrev pub stepsOf : List ℕ → List (List ℕ)
 stepsOf bytes = stepsIn (length bytes / 8) bytes
 
--- ---- the whole leg
+-- ---- the table, "each step" and "whole leg"
+
+-- 4 to 8 for one step before the next step
+abbrev pub eachRows : List (List ℕ) → List Row
+eachRows [] = []
+eachRows (s ∷ ss) = row (eachStep s) (not (eqb (eachStep s) 0)) ∷ eachRows ss
 
 -- a step of the list names the sector
 abbrev pub names : ℕ → List (List ℕ) → Bool
@@ -52,21 +58,17 @@ abbrev pub isSector : ℕ → Across → Bool
 isSector s (Sector t) = eqb t s
 isSector s OffFloor = false
 
--- 10: the sector across the boundary is not that of the step before, or is off the floor
+-- the sector across a step's boundary is not that of the step before, or is off the floor
 abbrev pub apartFrom : List ℕ → List (List ℕ) → Bool
 apartFrom before [] = false
 apartFrom before (s ∷ ss) = not (isSector (sectorOf before) (across (sectorOf s) (boundaryOf s))) || apartFrom s ss
 
+-- 10: so for a later step of the list
 abbrev pub apart : List (List ℕ) → Bool
 apart [] = false
 apart (s ∷ ss) = apartFrom s ss
 
--- the table's lines for each step, one step before the next
-abbrev pub eachRows : List (List ℕ) → List Row
-eachRows [] = []
-eachRows (s ∷ ss) = row (eachStep s) (not (eqb (eachStep s) 0)) ∷ eachRows ss
-
--- the table's lines for a leg: 1, 2, 3, each step's 4 to 8, 9, 10
+-- its number: the table's lines 1, 2, 3, each step's 4 to 8, 9 and 10
 unfoldable pub legNumber : List ℕ → List ℕ → List ℕ → ℕ
 legNumber floor steps sheet =
     firstNumber (
@@ -95,6 +97,6 @@ partsAfter floor steps sheet (n ∷ ns) = partAfter floor steps false [] n (part
 unfoldable pub planned : List ℕ → List (List ℕ) → List ℕ → List ℕ
 planned floor steps sheet = partsAfter floor steps sheet (below 64)
 
--- what a leg leaves of the sheet: a refused one writes nothing
+-- what a leg leaves of the sheet: a refusal writes nothing
 abbrev pub legSheet : List ℕ → List ℕ → List ℕ → List ℕ
 legSheet floor steps sheet = cond (eqb (legNumber floor steps sheet) 0) (planned floor (stepsOf steps) sheet) sheet

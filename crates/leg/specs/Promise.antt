@@ -12,10 +12,11 @@ use Rattle.sector.specs.Sector.{sectorField, sectorBytes}
 use Rattle.sector.specs.Promise.{Planned}
 use Rattle.leg.specs.Leg.{part, names}
 
--- the step at a place of the list, and the sector that it names
+-- the step at a place of the list
 abbrev pub stepOf : List (List ℕ) → ℕ → List ℕ
 stepOf steps k = getD steps k []
 
+-- the sector that it names
 abbrev pub sectorAt : List (List ℕ) → ℕ → ℕ
 sectorAt steps k = sectorOf (stepOf steps k)
 
@@ -25,10 +26,11 @@ hasBefore zero = false
 hasBefore (suc k) = true
 
 module _ (floor : List ℕ) (steps : List (List ℕ)) where
-  -- its sector's costs, and the built costs that the sector call's definition gives for it
+  -- its sector's costs
   abbrev pub costsAt : ℕ → List ℕ
   costsAt k = part floor (sectorAt steps k)
 
+  -- its sector's built costs: those that the sector call's definition gives
   abbrev pub builtAt : ℕ → List ℕ
   builtAt k = sectorField (costsAt k) (stepOf steps k) .field
 

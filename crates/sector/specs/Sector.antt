@@ -16,7 +16,7 @@ use Rattle.started_field.specs.Started.{started}
 use Rattle.flow_byte.specs.New.{flowNew}
 use Rattle.flow_byte.specs.Look.{flowBuild}
 
--- the table's lines for a sector: 1, 2, the step's 3 to 8, and 12
+-- its number: the table's lines 1 and 2, the step's 3 to 8, and 12
 unfoldable pub sectorNumber : List ℕ → List ℕ → Bool → List ℕ → List ℕ → ℕ
 sectorNumber costs step has previous sheet =
     firstNumber (
@@ -27,21 +27,21 @@ sectorNumber costs step has previous sheet =
     ∷ []
     )
 
--- the field that the call answers: started, and built
+-- the built field that it answers: started, and built on the costs it was started with
 abbrev pub sectorField : List ℕ → List ℕ → IntegrationField
 sectorField costs step = builtField costs (started costs step)
 
--- the 100 bytes that it writes: the flow field of the built field, new and built
+-- the 100 bytes that it writes (01, "Flow byte"): the flow field of the built field, new and built
 unfoldable pub sectorBytes : List ℕ → List ℕ → Bool → List ℕ → List ℕ
 sectorBytes costs step has previous =
     let cells = sectorField costs step .field in
     flowBuild cells (flowNew step cells has previous)
 
--- what the call answers: its number, the built field and its wave count
+-- what it answers: its number, the built field and its wave count; a refusal has every other part zero
 abbrev pub sectorAnswer : List ℕ → List ℕ → Bool → List ℕ → List ℕ → BuildAnswer
 sectorAnswer costs step has previous sheet = answerOf (sectorNumber costs step has previous sheet) costs (started costs step)
 
--- and what it leaves of the sheet: a refused call writes nothing
+-- what it leaves of the sheet: a refusal writes nothing
 abbrev pub sectorSheet : List ℕ → List ℕ → Bool → List ℕ → List ℕ → List ℕ
 sectorSheet costs step has previous sheet =
     cond (eqb (sectorNumber costs step has previous sheet) 0) (sectorBytes costs step has previous) sheet

@@ -37,8 +37,9 @@ returns-6 : tie.Need-returns-6
 unfolding legNumber
 returns-6 c sheet e =
     let judged = c .before in
-    let n = judged .each-step .ensures in
-    rw n (search (tests, e ∙ judged .before .before .before .before .if2 .left, each-first, ne-eqb _ 0 (λ z. c .if6 .taken (n ∙ z))))
+    let lent = e ∙ judged .before .before .before .before .if2 .left in
+    let number = judged .each-step .ensures in
+    rw number (search (tests, lent, each-first, ne-eqb _ 0 (λ z. c .if6 .taken (number ∙ z))))
 
 is-out-of-order-requires : tie.Need-is-out-of-order-requires
 is-out-of-order-requires c κs = omega arith
@@ -48,13 +49,9 @@ unfolding legNumber
 returns-7 c sheet e =
     let ordered = c .before in
     let judged = ordered .before .before in
-    search (
-      tests,
-      e ∙ judged .before .before .before .before .if2 .left,
-      each-none,
-      sym (judged .each-step .ensures) ∙ ordered .before .if6 .left,
-      sym (ordered .is-out-of-order .ensures) ∙ c .if7 .taken,
-    )
+    let lent = e ∙ judged .before .before .before .before .if2 .left in
+    let each = sym (judged .each-step .ensures) ∙ ordered .before .if6 .left in
+    search (tests, lent, each-none, each, sym (ordered .is-out-of-order .ensures) ∙ c .if7 .taken)
 
 is-apart-requires : tie.Need-is-apart-requires
 is-apart-requires c κs = omega arith
@@ -65,14 +62,10 @@ returns-8 c sheet e =
     let faced = c .before in
     let ordered = faced .before .before in
     let judged = ordered .before .before in
-    search (
-      tests,
-      e ∙ judged .before .before .before .before .if2 .left,
-      each-none,
-      sym (judged .each-step .ensures) ∙ ordered .before .if6 .left,
-      sym (ordered .is-out-of-order .ensures) ∙ faced .before .if7 .left,
-      sym (faced .is-apart .ensures) ∙ c .if8 .taken,
-    )
+    let lent = e ∙ judged .before .before .before .before .if2 .left in
+    let each = sym (judged .each-step .ensures) ∙ ordered .before .if6 .left in
+    let order = sym (ordered .is-out-of-order .ensures) ∙ faced .before .if7 .left in
+    search (tests, lent, each-none, each, order, sym (faced .is-apart .ensures) ∙ c .if8 .taken)
 
 returns-9 : tie.Need-returns-9
 unfolding legNumber
@@ -80,14 +73,10 @@ returns-9 c sheet e =
     let faced = c .before in
     let ordered = faced .before .before in
     let judged = ordered .before .before in
-    search (
-      tests,
-      e ∙ judged .before .before .before .before .if2 .left,
-      each-none,
-      sym (judged .each-step .ensures) ∙ ordered .before .if6 .left,
-      sym (ordered .is-out-of-order .ensures) ∙ faced .before .if7 .left,
-      sym (faced .is-apart .ensures) ∙ c .if8 .left,
-    )
+    let lent = e ∙ judged .before .before .before .before .if2 .left in
+    let each = sym (judged .each-step .ensures) ∙ ordered .before .if6 .left in
+    let order = sym (ordered .is-out-of-order .ensures) ∙ faced .before .if7 .left in
+    search (tests, lent, each-none, each, order, sym (faced .is-apart .ensures) ∙ c .if8 .left)
 
 pub leg-number-spec : {M : Type 1} → statement M
 leg-number-spec =
