@@ -3,7 +3,7 @@
 --     accepted                 what is known of a leg that is not refused
 -- Assumes nothing.
 use mathlib.Core.Path.{_≡_, refl, sym, ap, _∙_}
-use mathlib.Core.Bool.{Bool, true, false, cond, not, _||_}
+use mathlib.Core.Bool.{Bool, true, false, true≢false, cond, not, _||_}
 use mathlib.Core.List.{List, [], _∷_, _++_}
 use Prim.Native.Nat.{ℕ, zero, suc, _%_, _<_}
 use native.Mathlib.Omega.{arith}
@@ -21,7 +21,7 @@ use Rattle.leg.proofs.Steps.{neither, steps-count, step-of, step-long}
 
 -- a step that is refused decides
 pub each-first : (ss : List (List ℕ)) (rest : List Row) → eqb (firstNumber (eachRows ss)) 0 ≡ false → firstNumber (eachRows ss ++ rest) ≡ firstNumber (eachRows ss)
-each-first [] rest h = let z : _≡_ {A = ℕ} 0 1 = cc in absurd (omega arith)
+each-first [] rest h = absurd (true≢false h)
 each-first (s ∷ ss) rest h = go (eqb (eachStep s) 0) h (each-first ss rest)
   where
     go : (b : Bool) → eqb (cond (not b) (eachStep s) (firstNumber (eachRows ss))) 0 ≡ false

@@ -6,7 +6,7 @@
 --     kept, written            a sector that no step names; the sector of the step at a place
 -- Assumes nothing.
 use mathlib.Core.Path.{_≡_, refl, sym, ap, ap₂, _∙_}
-use mathlib.Core.Bool.{Bool, true, false, cond, _||_}
+use mathlib.Core.Bool.{Bool, true, false, true≢false, cond, _||_}
 use mathlib.Core.List.{List, [], _∷_, _++_, append-assoc, append-nil}
 use Prim.Native.Nat.{ℕ, zero, suc, _+_, _-_, _*_, _<_, _≤_}
 use native.Mathlib.Omega.{arith}
@@ -115,7 +115,7 @@ module _ (floor : List ℕ) where
       go : (b : Bool) → (names n ss ≡ false → partAfter floor ss true (cellsOf floor s) n old ≡ old)
           → (b || names n ss) ≡ false
           → cond b (sectorBytes (part floor n) s has previous) (partAfter floor ss true (cellsOf floor s) n old) ≡ old
-      go true ih e = let z : _≡_ {A = ℕ} 0 1 = cc in absurd (omega arith)
+      go true ih e = absurd (true≢false e)
       go false ih e = ih e
 
   part-from : (ss : List (List ℕ)) (has : Bool) (previous sheet : List ℕ) → InFloor ss → namesTwice ss ≡ false → length sheet ≡ 6400
@@ -151,7 +151,7 @@ module _ (floor : List ℕ) where
 
 unnamed-at : (ss : List (List ℕ)) (n : ℕ) → names n ss ≡ false → (k : ℕ) → k < length ss → n ≡ sectorAt ss k → ⊥
 unnamed-at [] n e k h q = omega arith
-unnamed-at (s ∷ ss) n e zero h q = let z : _≡_ {A = ℕ} 0 1 = cc (neither (eqb (sectorOf s) n) (names n ss) e .0, eq-eqb (sectorOf s) n (sym q)) in absurd (omega arith)
+unnamed-at (s ∷ ss) n e zero h q = absurd (true≢false (sym (eq-eqb (sectorOf s) n (sym q)) ∙ neither (eqb (sectorOf s) n) (names n ss) e .0))
 unnamed-at (s ∷ ss) n e (suc k) h q = unnamed-at ss n (neither (eqb (sectorOf s) n) (names n ss) e .1) k (omega arith) q
 
 module _ (floor : List ℕ) where

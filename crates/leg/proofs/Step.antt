@@ -1,12 +1,12 @@
 -- One step of a leg.
 --     in-floor         its sector is one of the floor's
 --     plans-step       what the sector call leaves, lent the sector's part, is what planning the step leaves
---     from-first, from-more, from-end    planning step after step: before the first, a step more, none left
+--     from-first, from-more    planning step after step: before the first, and a step more
 -- Assumes nothing.
 use mathlib.Core.Path.{_≡_, refl, sym, ap, _∙_}
 use mathlib.Core.Bool.{Bool, true, false, not, _&&_}
 use mathlib.Core.List.{List, [], _++_}
-use Prim.Native.Nat.{ℕ, _+_, _*_, _/_, _<_, _≤_}
+use Prim.Native.Nat.{ℕ, _+_, _*_, _/_, _<_}
 use native.Mathlib.Omega.{arith}
 use lib.Dec.{eqb, ltb}
 use lib.ListN.{length, take, drop}
@@ -18,7 +18,7 @@ use Rattle.integration_field.specs.declared.BuildAnswer.{BuildAnswer}
 use Rattle.sector.specs.Sector.{sectorNumber, sectorAnswer, sectorSheet}
 use Rattle.leg.specs.Leg.{part, stepsOf, planned}
 use Rattle.leg.specs.Plan.{stepAt, StepReady, StepPlanned, LegReady}
-use Rattle.leg.proofs.Steps.{stepsFrom, from-start, from-here, from-done}
+use Rattle.leg.proofs.Steps.{stepsFrom, from-start, from-here}
 use Rattle.leg.proofs.Sheet.{planFrom, from-none, planned-from}
 use Rattle.leg.proofs.Planned.{part-hundred, ready-floor}
 
@@ -72,9 +72,3 @@ pub from-more : (steps : List ℕ) (k : ℕ) → k < length steps / 8 → {step 
     → planFrom floor (stepsFrom steps k) has previous sheet ≡ planFrom floor (stepsFrom steps (k + 1)) (ltb 0 (k + 1)) built after
 unfolding planFrom
 from-more steps k h e p = rw (from-here steps k h, p .answered, p .wrote, e, lt-ltb 0 (k + 1) (omega arith))
-
--- no step is left
-pub from-end : (floor steps : List ℕ) (k : ℕ) → length steps / 8 ≤ k → (has : Bool) (previous sheet : List ℕ)
-    → planFrom floor (stepsFrom steps k) has previous sheet ≡ sheet
-unfolding planFrom
-from-end floor steps k h has previous sheet = rw (from-done steps k h)

@@ -1,9 +1,6 @@
 -- `leg::faces` meets its contract: the sector that is found across the boundary is compared.
 -- Assumes nothing.
-use mathlib.Core.Path.{sym, ap, ap₂, _∙_}
-use lib.Dec.{eqb}
-use Rattle.sectors.specs.Floor.{across}
-use Rattle.leg.specs.Leg.{isSector}
+use mathlib.Core.Path.{sym, _∙_}
 use borrow.Author.Needs.{needs}
 use Rattle.leg.proofs.faces.Statement.{statement}
 use Rattle.leg.proofs.faces.Tie as tie
@@ -26,10 +23,8 @@ enum-told c = search needs
 returns : tie.Need-returns
 returns c =
     let asked = c .before .before in
-    let widened = asked .before in
-    let sided = widened .before in
-    ap (isSector (sided .before .args .other))
-    (sym (c .enum-told .given .1) ∙ asked .get-in-compass-direction .ensures ∙ ap₂ across (widened .wide .ensures) (sided .from-boundary .ensures))
+    let found = sym (asked .get-in-compass-direction .ensures) ∙ c .enum-told .given .1 in
+    search (found, sym (asked .before .wide .ensures), sym (asked .before .before .from-boundary .ensures))
 
 wide-requires-2 : tie.Need-wide-requires-2
 wide-requires-2 c κs = search needs
@@ -38,11 +33,8 @@ returns-2 : tie.Need-returns-2
 returns-2 c =
     let told = c .before .before in
     let asked = told .before .before in
-    let widened = asked .before in
-    let sided = widened .before in
-    ap (eqb (told .found .given .0 .0)) (c .wide2 .ensures)
-    ∙ ap (isSector (sided .before .args .other))
-    (sym (told .found .given .1) ∙ asked .get-in-compass-direction .ensures ∙ ap₂ across (widened .wide .ensures) (sided .from-boundary .ensures))
+    let found = sym (asked .get-in-compass-direction .ensures) ∙ told .found .given .1 in
+    search (found, sym (asked .before .wide .ensures), sym (asked .before .before .from-boundary .ensures), c .wide2 .ensures)
 
 pub faces-spec : {M : Type 1} → statement M
 faces-spec =

@@ -1,7 +1,7 @@
 -- `leg::plan_steps` meets its contract. The loop's invariant: planning the steps from place k on, with the built field of the step before, leaves
 -- the sheet of the planned leg.
 -- Assumes nothing.
-use mathlib.Core.Path.{_≡_, sym, ap, _∙_}
+use mathlib.Core.Path.{_≡_, ap, _∙_}
 use Prim.Native.Nat.{_-_, _/_, _≤_}
 use native.Mathlib.Omega.{arith}
 use denote.Ref.{now}
@@ -10,9 +10,9 @@ use lib.Dec.{ltb}
 use borrow.Author.Needs.{needs}
 use Rattle.route.specs.Step.{stepNumber}
 use Rattle.leg.specs.Leg.{stepsOf, planned}
-use Rattle.leg.proofs.Steps.{stepsFrom, lent-step}
+use Rattle.leg.proofs.Steps.{stepsFrom, from-done, lent-step}
 use Rattle.leg.proofs.Sheet.{planFrom}
-use Rattle.leg.proofs.Step.{from-first, from-more, from-end}
+use Rattle.leg.proofs.Step.{from-first, from-more}
 use Rattle.leg.proofs.plan_steps.Statement.{statement}
 use Rattle.leg.proofs.plan_steps.Tie as tie
 
@@ -84,10 +84,8 @@ same-length : tie.Need-same-length Inv-loop μ-loop
 same-length c = omega arith
 
 returns : tie.Need-returns Inv-loop μ-loop
-returns c =
-    let at = c .before in
-    let a = at .before .before .before .before .args in
-    sym (at .loop .inv .1 .1 .1 ∙ from-end (now (a .floor)) (now (a .steps)) (at .loop .k) (omega arith) (ltb 0 (at .loop .k)) (at .loop .previous) (at .loop .sheet))
+unfolding planFrom
+returns c = search (c .before .loop .inv .1 .1 .1, from-done)
 
 pub plan-steps-spec : {M : Type 1} → statement M
 plan-steps-spec =
