@@ -6,7 +6,7 @@
 --     sees-beside                   a cell beside that is no wall is seen in some direction
 -- Assumes nothing.
 use mathlib.Core.Path.{_≡_, refl, sym}
-use mathlib.Core.Bool.{Bool, true, false, true≢false, not, _&&_}
+use mathlib.Core.Bool.{Bool, true, false, true≢false, not, _&&_, and-false}
 use mathlib.Core.Logic.{_⊎_, inl, inr}
 use mathlib.Core.List.{List, [], _∷_, List·Memᴰ, List·Memᴰ·head, List·Memᴰ·tail, Memᴰ·append-left}
 use Prim.Native.Nat.{ℕ, _+_, _*_, _/_, _%_, _<_}
@@ -84,9 +84,9 @@ turned : {a b : ℕ} → ByOne a b → ByOne b a
 turned (inl e) = inr e
 turned (inr e) = inl e
 
-and-false : (a b : Bool) → (a && b) ≡ false → (a ≡ false) ⊎ (b ≡ false)
-and-false true b e = inr e
-and-false false b e = inl refl
+one-false : (a b : Bool) → (a && b) ≡ false → (a ≡ false) ⊎ (b ≡ false)
+one-false true b e = inr e
+one-false false b e = inl refl
 
 pub differ : (a b : ℕ) → (a ≡ b → ⊥) → not (eqb a b) ≡ true
 differ a b h = rw (ne-eqb a b h)
@@ -101,7 +101,7 @@ module _ (cells : List ℕ) (i n : ℕ) where
       → (wallAt cells (aside i n) ≡ false) ⊎ (wallAt cells (aside n i) ≡ false)
   unfolding betweenWalls
   open-sides c r e =
-      and-false (wallAt cells (aside i n)) (wallAt cells (aside n i))
+      one-false (wallAt cells (aside i n)) (wallAt cells (aside n i))
       (rw (differ (i / 10) (n / 10) (by-one r), differ (i % 10) (n % 10) (by-one c)) at e)
 
   way : Near i n → betweenWalls cells i n ≡ false → Way
@@ -149,9 +149,5 @@ module _ (cells : List ℕ) (i : ℕ) (h : i < 100) where
       (r .0, in-all (r .0) (r .1), record { steps = r .2; to = beside b; no-wall = w; open-way = rw (no-diagonal (b .one-apart)) })
     where
       no-diagonal : ((i % 10 ≡ n % 10) × ByOne (i / 10) (n / 10)) ⊎ ((i / 10 ≡ n / 10) × ByOne (i % 10) (n % 10)) → diagonal i n ≡ false
-      no-diagonal (inl (c, o)) = rw (eq-eqb (i % 10) (n % 10) c) (and-none (not (eqb (i / 10) (n / 10))))
-        where
-          and-none : (t : Bool) → (t && false) ≡ false
-          and-none true = refl
-          and-none false = refl
+      no-diagonal (inl (c, o)) = rw (eq-eqb (i % 10) (n % 10) c) (and-false (not (eqb (i / 10) (n / 10))))
       no-diagonal (inr (r, o)) = rw (eq-eqb (i / 10) (n / 10) r)

@@ -65,7 +65,11 @@ module _ (costs step cells corners built : List ℕ) (s : Sector costs (windowCe
 
   -- ---- the byte of each kind of cell
 
-  made : (x : ℕ) → x < 100 → getD bytes x 0 ≡ builtByte built x (newByte (routeStep step) (getD built x 0) has previous x)
+  -- what building begins from
+  abbrev newAt : ℕ → ℕ
+  newAt x = newByte (routeStep step) (getD built x 0) has previous x
+
+  made : (x : ℕ) → x < 100 → getD bytes x 0 ≡ builtByte built x (newAt x)
   made x h = built-byte built (flowNew step built has previous) x h ∙ ap (builtByte built x) (new-byte step built has previous x h)
 
   no-bits : (x : ℕ) → (Among x window → ⊥) → inWindow (routeStep step) x ≡ false
@@ -85,19 +89,19 @@ module _ (costs step cells corners built : List ℕ) (s : Sector costs (windowCe
   window-byte x h a e =
       let b = windowBits (routeStep step .portal) has previous x in
       let k = portal-kept b (window-bits step has previous x side) in
-      let n : newByte (routeStep step) (getD built x 0) has previous x ≡ bitOr 0x90 b = rw (e, bits x a) in
+      let n : newAt x ≡ bitOr 0x90 b = rw (e, bits x a) in
       rw (made x h, n, k .pathable) k
 
   wall-byte : (x : ℕ) → x < 100 → (Among x window → ⊥) → getD built x 0 ≡ 0x200FFFF → getD bytes x 0 ≡ 0xE0
   unfolding newByte startOf builtByte
   wall-byte x h a e =
-      let n : newByte (routeStep step) (getD built x 0) has previous x ≡ 0xE0 = rw (e, no-bits x a) in
+      let n : newAt x ≡ 0xE0 = rw (e, no-bits x a) in
       made x h ∙ ap (builtByte built x) n
 
   plain-byte : (x : ℕ) → Plain s x → getD built x 0 < 2 ^ 16 → getD bytes x 0 ≡ lookedByte 0 (lookAround built x)
   unfolding newByte builtByte
   plain-byte x p l =
-      let n : newByte (routeStep step) (getD built x 0) has previous x ≡ 0 = rw (small-start (getD built x 0) l, no-bits x (p .no-window)) in
+      let n : newAt x ≡ 0 = rw (small-start (getD built x 0) l, no-bits x (p .no-window)) in
       made x (p .inside) ∙ ap (builtByte built x) n
 
   -- ---- a move
