@@ -1,81 +1,42 @@
 // The records of init, build and the sector call.
-use crate::bytes::corners;
-use crate::bytes::same_field;
-use crate::bytes::same_sheet;
-use crate::bytes::size;
-use crate::bytes::words;
-use integration_field::IntegrationField;
-ghost use mathlib.Core.Path.{_≡_};
-ghost use lib.ListN.{length};
+use crate::recorded::byte_at;
+use crate::recorded::field_of;
+use crate::recorded::part;
+use crate::recorded::same_field;
+use crate::recorded::size_at;
 
 // A record: 100 costs, 8 bytes of step; number, field.
 pub fn init_agrees(record: &[u8]) -> bool {
-    if record.len() != 610 {
-        return false;
-    }
-    let answer = integration_init::init(&record[0..100], &record[100..108]);
-    if answer.number != record[108] {
-        return false;
-    }
+    let answer = integration_init::init(part(record, 0, 100), part(record, 100, 108));
     let field = answer.field;
-    same_field(field, &record[109..610])
-}
-
-// The field that is given by hand: cells, count, corners.
-fn given_field(bytes: &[u8]) -> IntegrationField
-    requires { ⌜ length (now bytes) ≡ 501 ⌝ }
-{
-    let field = words(&bytes[0..400]);
-    let count = size(bytes[400]);
-    let los_corners = corners(&bytes[401..501]);
-    IntegrationField {
-        field,
-        los_corners,
-        count,
-    }
+    answer.number == byte_at(record, 108) && same_field(field, part(record, 109, 610))
 }
 
 // A record: 100 costs, the field; number, waves, field.
 pub fn build_agrees(record: &[u8]) -> bool {
-    if record.len() != 1104 {
-        return false;
-    }
-    let given = given_field(&record[100..601]);
-    let answer = integration_build::build(&record[0..100], given);
-    if answer.number != record[601] {
-        return false;
-    }
-    if answer.waves != size(record[602]) {
-        return false;
-    }
+    let given = field_of(part(record, 100, 601));
+    let answer = integration_build::build(part(record, 0, 100), given);
     let field = answer.field;
-    same_field(field, &record[603..1104])
+    answer.number == byte_at(record, 601)
+        && answer.waves == size_at(record, 602)
+        && same_field(field, part(record, 603, 1104))
 }
 
 // A record: 100 costs, 8 bytes of step, has_previous, 100 previous numbers; number, waves, field, sheet.
 pub fn sector_agrees(record: &[u8]) -> bool {
-    if record.len() != 1112 {
-        return false;
-    }
-    let previous = words(&record[109..509]);
-    let has_previous = record[108] == 1;
+    let given = field_of(part(record, 109, 509));
+    let previous = given.field;
     let mut sheet = [0x55u8; 100];
     let answer = sector::plan_sector(
-        &record[0..100],
-        &record[100..108],
-        has_previous,
+        part(record, 0, 100),
+        part(record, 100, 108),
+        byte_at(record, 108) == 1,
         &previous,
         &mut sheet,
     );
-    if answer.number != record[509] {
-        return false;
-    }
-    if answer.waves != size(record[510]) {
-        return false;
-    }
-    if !same_sheet(&sheet, &record[1012..1112]) {
-        return false;
-    }
     let field = answer.field;
-    same_field(field, &record[511..1012])
+    answer.number == byte_at(record, 509)
+        && answer.waves == size_at(record, 510)
+        && same_field(field, part(record, 511, 1012))
+        && check::same(&sheet, part(record, 1012, 1112))
 }

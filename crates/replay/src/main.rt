@@ -1,10 +1,10 @@
 // Compares our calls with recorded answers of the Rust, a file for each section: prints how many records agree and a sum
 // of all their bytes, or the first record that differs.
-mod bytes;
 mod flow;
 mod integration;
 mod legs;
 mod lines;
+mod recorded;
 mod refusals;
 
 ghost use Prim.Native.Nat.{_≤_, _<_};
@@ -49,7 +49,7 @@ fn compare(section: u8, file: i32, record: &mut [u8]) -> Tally {
         if read != record.len() {
             break;
         }
-        sum = bytes::summed(sum, record);
+        sum = recorded::summed(sum, record);
         if !agrees(section, record) {
             break;
         }
@@ -75,33 +75,26 @@ fn print_tally(name: &[u8], counted: Tally) {
     io::write_all(1, b"\n");
 }
 
-// A section, whose records are as long as `record`.
-fn replay(section: u8, name: &[u8], record: &mut [u8]) {
+// A section, whose records are this long.
+fn replay(section: u8, name: &[u8], length: usize)
+    requires { ⌜ length ≤ 3330 ⌝ }
+{
+    let mut longest = [0u8; 3330];
     let file = os::open_read(name);
-    let counted = compare(section, file, record);
+    let counted = compare(section, file, &mut longest[0..length]);
     libc::close(file);
     print_tally(name, counted);
 }
 
 fn main() {
-    let mut line = [0u8; 16];
-    replay(0, b"line", &mut line);
-    let mut line_end = [0u8; 8];
-    replay(1, b"line_end", &mut line_end);
-    let mut readers = [0u8; 8];
-    replay(2, b"readers", &mut readers);
-    let mut init = [0u8; 610];
-    replay(3, b"init", &mut init);
-    let mut build = [0u8; 1104];
-    replay(4, b"build", &mut build);
-    let mut flow_new = [0u8; 910];
-    replay(5, b"flow_new", &mut flow_new);
-    let mut flow_build = [0u8; 601];
-    replay(6, b"flow_build", &mut flow_build);
-    let mut sector = [0u8; 1112];
-    replay(7, b"sector", &mut sector);
-    let mut leg = [0u8; 3330];
-    replay(8, b"leg", &mut leg);
-    let mut refusals = [0u8; 160];
-    replay(9, b"refusals", &mut refusals);
+    replay(0, b"line", 16);
+    replay(1, b"line_end", 8);
+    replay(2, b"readers", 8);
+    replay(3, b"init", 610);
+    replay(4, b"build", 1104);
+    replay(5, b"flow_new", 910);
+    replay(6, b"flow_build", 601);
+    replay(7, b"sector", 1112);
+    replay(8, b"leg", 3330);
+    replay(9, b"refusals", 160);
 }

@@ -18,26 +18,14 @@ mul-cell c = omega arith
 array-copy-out-cell : tie.Need-array-copy-out-cell Inv-loop μ-loop
 array-copy-out-cell c = omega arith
 
+as-1d-index-requires : tie.Need-as-1d-index-requires Inv-loop μ-loop
+as-1d-index-requires c κs = omega arith
+
+size-at-requires : tie.Need-size-at-requires Inv-loop μ-loop
+size-at-requires c κs = omega arith
+
 returns : tie.Need-returns Inv-loop μ-loop
 returns c = tt
-
-returns-2 : tie.Need-returns-2 Inv-loop μ-loop
-returns-2 c = tt
-
-mul-if3 : tie.Need-mul-if3 Inv-loop μ-loop
-mul-if3 c = omega arith
-
-add-if3 : tie.Need-add-if3 Inv-loop μ-loop
-add-if3 c = omega arith
-
-shared-slice-read-size : tie.Need-shared-slice-read-size Inv-loop μ-loop
-shared-slice-read-size c = omega arith
-
-size-requires : tie.Need-size-requires Inv-loop μ-loop
-size-requires c κs = omega arith
-
-returns-3 : tie.Need-returns-3 Inv-loop μ-loop
-returns-3 c = tt
 
 add-i : tie.Need-add-i Inv-loop μ-loop
 add-i c = omega arith
@@ -48,8 +36,8 @@ loop-less c = omega arith
 loop-again : tie.Need-loop-again Inv-loop μ-loop
 loop-again c = omega arith
 
-returns-4 : tie.Need-returns-4 Inv-loop μ-loop
-returns-4 c = tt
+returns-2 : tie.Need-returns-2 Inv-loop μ-loop
+returns-2 c = tt
 
 pub same-cells-spec : {M : Type 1} → statement M
 same-cells-spec =
@@ -60,14 +48,10 @@ same-cells-spec =
     loop-holds
     mul-cell
     array-copy-out-cell
+    as-1d-index-requires
+    size-at-requires
     returns
-    returns-2
-    mul-if3
-    add-if3
-    shared-slice-read-size
-    size-requires
-    returns-3
     add-i
     loop-less
     loop-again
-    returns-4)
+    returns-2)

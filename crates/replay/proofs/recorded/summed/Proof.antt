@@ -1,8 +1,8 @@
 use native.Mathlib.Omega.{arith}
 use Prim.Native.Nat.{_≤_, _<_, _-_}
 use lib.ListN.{length}
-use Rattle.replay.proofs.bytes.summed.Statement.{statement}
-use Rattle.replay.proofs.bytes.summed.Tie as tie
+use Rattle.replay.proofs.recorded.summed.Statement.{statement}
+use Rattle.replay.proofs.recorded.summed.Tie as tie
 
 abbrev Inv-loop : tie.InvT-loop
 Inv-loop before bytes sum₀ i₀ sum i = (i ≤ length bytes) × (sum < 4294967291)
@@ -11,16 +11,13 @@ abbrev μ-loop : tie.MeasureT-loop
 μ-loop before bytes sum₀ i₀ sum i = length bytes - i
 
 loop-holds : tie.Need-loop-holds Inv-loop μ-loop
-loop-holds c = (omega arith, omega arith)
+loop-holds c = omega arith
 
 mul-sum : tie.Need-mul-sum Inv-loop μ-loop
 mul-sum c = omega arith
 
-shared-slice-read-wide : tie.Need-shared-slice-read-wide Inv-loop μ-loop
-shared-slice-read-wide c = omega arith
-
-wide-requires : tie.Need-wide-requires Inv-loop μ-loop
-wide-requires c κs = omega arith
+byte-at-requires : tie.Need-byte-at-requires Inv-loop μ-loop
+byte-at-requires c κs = omega arith
 
 cast-sum : tie.Need-cast-sum Inv-loop μ-loop
 cast-sum c = omega arith
@@ -35,7 +32,7 @@ loop-less : tie.Need-loop-less Inv-loop μ-loop
 loop-less c = omega arith
 
 loop-again : tie.Need-loop-again Inv-loop μ-loop
-loop-again c = (omega arith, omega arith)
+loop-again c = omega arith
 
 returns : tie.Need-returns Inv-loop μ-loop
 returns c = tt
@@ -48,8 +45,7 @@ summed-spec =
     μ-loop
     loop-holds
     mul-sum
-    shared-slice-read-wide
-    wide-requires
+    byte-at-requires
     cast-sum
     add-sum
     add-i

@@ -1,0 +1,75 @@
+use native.Mathlib.Omega.{arith}
+use Prim.Native.Nat.{_≤_, _-_}
+use mathlib.Core.Path.{_≡_, refl}
+use lib.ListN.{length, length-set}
+use Rattle.replay.proofs.recorded.field_of.Statement.{statement}
+use Rattle.replay.proofs.recorded.field_of.Tie as tie
+
+abbrev Inv-loop : tie.InvT-loop
+Inv-loop bytes field₀ los-corners₀ i₀ field los-corners i = (i ≤ 100) × (length field ≡ 100)
+
+abbrev μ-loop : tie.MeasureT-loop
+μ-loop bytes field₀ los-corners₀ i₀ field los-corners i = 100 - i
+
+loop-holds : tie.Need-loop-holds Inv-loop μ-loop
+loop-holds c = (omega arith, refl)
+
+mul-word-at : tie.Need-mul-word-at Inv-loop μ-loop
+mul-word-at c = omega arith
+
+word-at-requires : tie.Need-word-at-requires Inv-loop μ-loop
+word-at-requires c κs = omega arith
+
+mul-field : tie.Need-mul-field Inv-loop μ-loop
+mul-field c = omega arith
+
+array-write-field : tie.Need-array-write-field Inv-loop μ-loop
+array-write-field c = omega arith
+
+add-size-at : tie.Need-add-size-at Inv-loop μ-loop
+add-size-at c = omega arith
+
+size-at-requires : tie.Need-size-at-requires Inv-loop μ-loop
+size-at-requires c κs = omega arith
+
+mul-los-corners : tie.Need-mul-los-corners Inv-loop μ-loop
+mul-los-corners c = omega arith
+
+array-write-los-corners : tie.Need-array-write-los-corners Inv-loop μ-loop
+array-write-los-corners c = omega arith
+
+add-i : tie.Need-add-i Inv-loop μ-loop
+add-i c = omega arith
+
+loop-less : tie.Need-loop-less Inv-loop μ-loop
+loop-less c = omega arith
+
+loop-again : tie.Need-loop-again Inv-loop μ-loop
+loop-again c = (omega arith, simp length-set (c .before .before .before .loop .inv .1))
+
+size-at-requires-2 : tie.Need-size-at-requires-2 Inv-loop μ-loop
+size-at-requires-2 c κs = omega arith
+
+returns : tie.Need-returns Inv-loop μ-loop
+returns c = c .before .before .loop .inv .1
+
+pub field-of-spec : {M : Type 1} → statement M
+field-of-spec =
+    tie.close
+    (tie.spec
+    Inv-loop
+    μ-loop
+    loop-holds
+    mul-word-at
+    word-at-requires
+    mul-field
+    array-write-field
+    add-size-at
+    size-at-requires
+    mul-los-corners
+    array-write-los-corners
+    add-i
+    loop-less
+    loop-again
+    size-at-requires-2
+    returns)

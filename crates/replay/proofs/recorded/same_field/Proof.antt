@@ -1,0 +1,95 @@
+use native.Mathlib.Omega.{arith}
+use Prim.Native.Nat.{_≤_, _-_}
+use mathlib.Core.Path.{_≡_, sym, _∙_}
+use mathlib.Core.Bool.{true≢false}
+use borrow.Author.Count.{below-none, below-more}
+use Rattle.replay.specs.Same.{SameTo}
+use Rattle.replay.proofs.recorded.same_field.Statement.{statement}
+use Rattle.replay.proofs.recorded.same_field.Tie as tie
+
+abbrev Inv-loop : tie.InvT-loop
+Inv-loop bytes count los-corners cells i₀ i = (i ≤ 100) × SameTo i los-corners cells bytes
+
+abbrev μ-loop : tie.MeasureT-loop
+μ-loop bytes count los-corners cells i₀ i = 100 - i
+
+size-at-requires : tie.Need-size-at-requires Inv-loop μ-loop
+size-at-requires c κs = omega arith
+
+returns : tie.Need-returns Inv-loop μ-loop
+returns c = λ e. absurd (true≢false (sym e))
+
+loop-holds : tie.Need-loop-holds Inv-loop μ-loop
+loop-holds c = (omega arith, below-none _)
+
+mul-if2 : tie.Need-mul-if2 Inv-loop μ-loop
+mul-if2 c = omega arith
+
+array-read-if2 : tie.Need-array-read-if2 Inv-loop μ-loop
+array-read-if2 c = omega arith
+
+add-size-at : tie.Need-add-size-at Inv-loop μ-loop
+add-size-at c = omega arith
+
+size-at-requires-2 : tie.Need-size-at-requires-2 Inv-loop μ-loop
+size-at-requires-2 c κs = omega arith
+
+returns-2 : tie.Need-returns-2 Inv-loop μ-loop
+returns-2 c = λ e. absurd (true≢false (sym e))
+
+mul-if3 : tie.Need-mul-if3 Inv-loop μ-loop
+mul-if3 c = omega arith
+
+array-read-if3 : tie.Need-array-read-if3 Inv-loop μ-loop
+array-read-if3 c = omega arith
+
+mul-word-at : tie.Need-mul-word-at Inv-loop μ-loop
+mul-word-at c = omega arith
+
+add-word-at : tie.Need-add-word-at Inv-loop μ-loop
+add-word-at c = omega arith
+
+word-at-requires : tie.Need-word-at-requires Inv-loop μ-loop
+word-at-requires c κs = omega arith
+
+returns-3 : tie.Need-returns-3 Inv-loop μ-loop
+returns-3 c = λ e. absurd (true≢false (sym e))
+
+add-i : tie.Need-add-i Inv-loop μ-loop
+add-i c = omega arith
+
+loop-less : tie.Need-loop-less Inv-loop μ-loop
+loop-less c = omega arith
+
+loop-again : tie.Need-loop-again Inv-loop μ-loop
+loop-again c = let l = c .before .before .before .before .before .loop in
+    (omega arith, below-more _ (l .i) (l .inv .1) (c .before .before .if2 .left ∙ c .before .before .before .size-at2 .ensures .0, c .if3 .left ∙ c .before .word-at .ensures))
+
+returns-4 : tie.Need-returns-4 Inv-loop μ-loop
+returns-4 c = let k : c .before .loop .i ≡ 100 = omega arith in
+    λ e. (c .before .before .before .before .if1 .left ∙ c .before .before .before .before .before .size-at .ensures .0, rw k at (c .before .loop .inv .1))
+
+pub same-field-spec : {M : Type 1} → statement M
+same-field-spec =
+    tie.close
+    (tie.spec
+    Inv-loop
+    μ-loop
+    size-at-requires
+    returns
+    loop-holds
+    mul-if2
+    array-read-if2
+    add-size-at
+    size-at-requires-2
+    returns-2
+    mul-if3
+    array-read-if3
+    mul-word-at
+    add-word-at
+    word-at-requires
+    returns-3
+    add-i
+    loop-less
+    loop-again
+    returns-4)
