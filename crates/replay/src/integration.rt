@@ -4,22 +4,34 @@ use crate::recorded::field_of;
 use crate::recorded::part;
 use crate::recorded::same_field;
 use crate::recorded::size_at;
+use integration_field::BuildAnswer;
+use started_field::InitAnswer;
+
+// Number, field.
+pub fn same_init(answer: InitAnswer, bytes: &[u8]) -> bool {
+    let field = answer.field;
+    answer.number == byte_at(bytes, 0) && same_field(field, part(bytes, 1, 502))
+}
+
+// Number, waves, field.
+pub fn same_build(answer: BuildAnswer, bytes: &[u8]) -> bool {
+    let field = answer.field;
+    answer.number == byte_at(bytes, 0)
+        && answer.waves == size_at(bytes, 1)
+        && same_field(field, part(bytes, 2, 503))
+}
 
 // A record: 100 costs, 8 bytes of step; number, field.
 pub fn init_agrees(record: &[u8]) -> bool {
     let answer = integration_init::init(part(record, 0, 100), part(record, 100, 108));
-    let field = answer.field;
-    answer.number == byte_at(record, 108) && same_field(field, part(record, 109, 610))
+    same_init(answer, part(record, 108, 610))
 }
 
 // A record: 100 costs, the field; number, waves, field.
 pub fn build_agrees(record: &[u8]) -> bool {
     let given = field_of(part(record, 100, 601));
     let answer = integration_build::build(part(record, 0, 100), given);
-    let field = answer.field;
-    answer.number == byte_at(record, 601)
-        && answer.waves == size_at(record, 602)
-        && same_field(field, part(record, 603, 1104))
+    same_build(answer, part(record, 601, 1104))
 }
 
 // A record: 100 costs, 8 bytes of step, has_previous, 100 previous numbers; number, waves, field, sheet.
@@ -34,9 +46,5 @@ pub fn sector_agrees(record: &[u8]) -> bool {
         &previous,
         &mut sheet,
     );
-    let field = answer.field;
-    answer.number == byte_at(record, 509)
-        && answer.waves == size_at(record, 510)
-        && same_field(field, part(record, 511, 1012))
-        && check::same(&sheet, part(record, 1012, 1112))
+    same_build(answer, part(record, 509, 1012)) && check::same(&sheet, part(record, 1012, 1112))
 }

@@ -2,7 +2,9 @@
 use crate::recorded::byte_at;
 use crate::recorded::part;
 use crate::recorded::size_at;
+use bresenham::Line;
 use fields::FieldCell;
+use line_end::LineEnd;
 
 // The cell whose column and row stand at these places.
 pub fn cell_at(bytes: &[u8], column: usize, row: usize) -> FieldCell {
@@ -25,25 +27,35 @@ pub fn same_cells(cells: [FieldCell; 10], indexes: &[u8]) -> bool {
     true
 }
 
-// A record: source, target; number, count, ten indexes.
+// Number, count, ten indexes.
+pub fn same_line(line: Line, bytes: &[u8]) -> bool {
+    let cells = line.cells;
+    line.number == byte_at(bytes, 0)
+        && line.count == size_at(bytes, 1)
+        && same_cells(cells, part(bytes, 2, 12))
+}
+
+// Number, column, row, 0.
+pub fn same_end(end: LineEnd, bytes: &[u8]) -> bool {
+    let cell = end.cell;
+    end.number == byte_at(bytes, 0)
+        && cell.column == size_at(bytes, 1)
+        && cell.row == size_at(bytes, 2)
+        && byte_at(bytes, 3) == 0
+}
+
+// A record: source, target; line.
 pub fn line_agrees(record: &[u8]) -> bool {
     let source = cell_at(record, 0, 1);
     let target = cell_at(record, 2, 3);
     let line = bresenham::get_cells_between_points(source, target);
-    let cells = line.cells;
-    line.number == byte_at(record, 4)
-        && line.count == size_at(record, 5)
-        && same_cells(cells, part(record, 6, 16))
+    same_line(line, part(record, 4, 16))
 }
 
-// A record: corner, goal; number, column, row, 0.
+// A record: corner, goal; line end.
 pub fn line_end_agrees(record: &[u8]) -> bool {
     let corner = cell_at(record, 0, 1);
     let goal = cell_at(record, 2, 3);
     let end = line_end::check_los_corner_propagation(corner, goal);
-    let cell = end.cell;
-    end.number == byte_at(record, 4)
-        && cell.column == size_at(record, 5)
-        && cell.row == size_at(record, 6)
-        && byte_at(record, 7) == 0
+    same_end(end, part(record, 4, 8))
 }

@@ -76,12 +76,10 @@ fn print_tally(name: &[u8], counted: Tally) {
 }
 
 // A section, whose records are this long.
-fn replay(section: u8, name: &[u8], length: usize)
-    requires { ⌜ length ≤ 3330 ⌝ }
-{
+fn replay(section: u8, name: &[u8], length: usize) {
     let mut longest = [0u8; 3330];
     let file = os::open_read(name);
-    let counted = compare(section, file, &mut longest[0..length]);
+    let counted = compare(section, file, recorded::front(&mut longest, length));
     libc::close(file);
     print_tally(name, counted);
 }

@@ -18,6 +18,14 @@ pub fn part(bytes: &[u8], from: usize, to: usize) -> &[u8]
     &bytes[0..0]
 }
 
+// The first bytes, to be written, none where there are not so many.
+pub fn front(bytes: &mut [u8], length: usize) -> &mut [u8] {
+    if length <= bytes.len() {
+        return &mut bytes[0..length];
+    }
+    &mut bytes[0..0]
+}
+
 // The byte at a place, 0 past the end.
 pub fn byte_at(bytes: &[u8], at: usize) -> u8
     ensures { λ r. ⌜ r ≡ getD (now (bytes .entry)) at 0 ⌝ }
@@ -35,7 +43,9 @@ pub fn size_at(bytes: &[u8], at: usize) -> usize
 }
 
 // The number of 16 bits whose low and high byte stand at these places.
-pub fn short_at(bytes: &[u8], low: usize, high: usize) -> usize {
+pub fn short_at(bytes: &[u8], low: usize, high: usize) -> usize
+    ensures { λ r. ⌜ r < 65536 ⌝ }
+{
     size_at(bytes, low) + 256 * size_at(bytes, high)
 }
 
