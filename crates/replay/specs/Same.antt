@@ -11,9 +11,9 @@ abbrev pub wordAt : List ℕ → ℕ → ℕ
 wordAt bytes at = getD bytes at 0 + 256 * getD bytes (at + 1) 0 + 65536 * getD bytes (at + 2) 0 + 16777216 * getD bytes (at + 3) 0
 
 -- the first corners and cells of a field are those that stand after its count, a byte and four bytes each
-abbrev pub SameTo : ℕ → List ℕ → List ℕ → List ℕ → Type 0
-SameTo n corners cells bytes = (i : ℕ) → i < n → (getD corners i 0 ≡ getD bytes (1 + i) 0) × (getD cells i 0 ≡ wordAt bytes (101 + 4 * i))
+abbrev pub SameFirst : ℕ → List ℕ → List ℕ → List ℕ → Type 0
+SameFirst n corners cells bytes = (i : ℕ) → i < n → (getD corners i 0 ≡ getD bytes (1 + i) 0) × (getD cells i 0 ≡ wordAt bytes (101 + 4 * i))
 
 -- a field is the one that stands as count, corners and cells
 abbrev pub SameField : IntegrationField → List ℕ → Type 0
-SameField field bytes = (field .count ≡ getD bytes 0 0) × SameTo 100 (field .«los_corners») (field .field) bytes
+SameField field bytes = (field .count ≡ getD bytes 0 0) × SameFirst 100 (field .«los_corners») (field .field) bytes

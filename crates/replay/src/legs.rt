@@ -5,7 +5,7 @@ use crate::recorded::size_at;
 ghost use Prim.Native.Nat.{_≤_};
 ghost use lib.ListN.{length};
 
-// At most a hundred bytes put where a sector's stand.
+// A sector's bytes put where they stand, if there is such a sector.
 fn put_sector(whole: &mut [u8], sector: usize, bytes: &[u8])
     requires { ⌜ (sector ≤ 255) × (length (now bytes) ≤ 100) ⌝ }
 {
@@ -16,7 +16,7 @@ fn put_sector(whole: &mut [u8], sector: usize, bytes: &[u8])
     }
 }
 
-// The k-th hundred of the parts put in the sector that the k-th step names.
+// The k-th hundred of the parts put in the sector that the k-th step names, as far as there are any.
 fn put_sectors(whole: &mut [u8], steps: &[u8], parts: &[u8]) {
     let mut k = 0;
     while k < 16 {

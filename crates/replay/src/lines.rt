@@ -7,15 +7,25 @@ use fields::FieldCell;
 use line_end::LineEnd;
 
 // The cell whose column and row stand at these places.
-pub fn cell_at(bytes: &[u8], column: usize, row: usize) -> FieldCell {
+fn cell_at(bytes: &[u8], column: usize, row: usize) -> FieldCell {
     FieldCell {
         column: size_at(bytes, column),
         row: size_at(bytes, row),
     }
 }
 
+// From source to target.
+pub fn line_of(bytes: &[u8]) -> Line {
+    bresenham::get_cells_between_points(cell_at(bytes, 0, 1), cell_at(bytes, 2, 3))
+}
+
+// From corner and goal.
+pub fn end_of(bytes: &[u8]) -> LineEnd {
+    line_end::check_los_corner_propagation(cell_at(bytes, 0, 1), cell_at(bytes, 2, 3))
+}
+
 // Whether the cells of a line are those at ten indexes.
-pub fn same_cells(cells: [FieldCell; 10], indexes: &[u8]) -> bool {
+fn same_cells(cells: [FieldCell; 10], indexes: &[u8]) -> bool {
     let mut i = 0;
     while i < 10 {
         let cell = cells[i];
@@ -44,18 +54,12 @@ pub fn same_end(end: LineEnd, bytes: &[u8]) -> bool {
         && byte_at(bytes, 3) == 0
 }
 
-// A record: source, target; line.
+// A record: source, target; number, count, ten indexes.
 pub fn line_agrees(record: &[u8]) -> bool {
-    let source = cell_at(record, 0, 1);
-    let target = cell_at(record, 2, 3);
-    let line = bresenham::get_cells_between_points(source, target);
-    same_line(line, part(record, 4, 16))
+    same_line(line_of(part(record, 0, 4)), part(record, 4, 16))
 }
 
-// A record: corner, goal; line end.
+// A record: corner, goal; number, column, row, 0.
 pub fn line_end_agrees(record: &[u8]) -> bool {
-    let corner = cell_at(record, 0, 1);
-    let goal = cell_at(record, 2, 3);
-    let end = line_end::check_los_corner_propagation(corner, goal);
-    same_end(end, part(record, 4, 8))
+    same_end(end_of(part(record, 0, 4)), part(record, 4, 8))
 }

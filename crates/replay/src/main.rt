@@ -7,8 +7,6 @@ mod lines;
 mod recorded;
 mod refusals;
 
-ghost use Prim.Native.Nat.{_≤_, _<_};
-
 // How many records agree, a sum of the bytes that were read, and whether the next record differs.
 struct Tally {
     agreed: u64,
@@ -75,7 +73,7 @@ fn print_tally(name: &[u8], counted: Tally) {
     io::write_all(1, b"\n");
 }
 
-// A section, whose records are this long.
+// Replays a section, whose records are this long.
 fn replay(section: u8, name: &[u8], length: usize) {
     let mut longest = [0u8; 3330];
     let file = os::open_read(name);

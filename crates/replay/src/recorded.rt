@@ -1,5 +1,5 @@
 // The bytes of a record: parts, numbers and fields read from them, and a field compared with them.
-ghost use Prim.Native.Nat.{_+_, _*_, _-_, _≤_, _<_};
+ghost use Prim.Native.Nat.{_-_, _≤_, _<_};
 ghost use mathlib.Core.Path.{_≡_};
 ghost use mathlib.Core.Bool.{true};
 ghost use lib.ListN.{length, getD};
@@ -10,10 +10,8 @@ use integration_field::IntegrationField;
 pub fn part(bytes: &[u8], from: usize, to: usize) -> &[u8]
     ensures { λ r. ⌜ length (now r) ≤ to - from ⌝ }
 {
-    if from <= to {
-        if to <= bytes.len() {
-            return &bytes[from..to];
-        }
+    if from <= to && to <= bytes.len() {
+        return &bytes[from..to];
     }
     &bytes[0..0]
 }
@@ -36,6 +34,7 @@ pub fn byte_at(bytes: &[u8], at: usize) -> u8
     0
 }
 
+// The same, as a count, a coordinate or a corner.
 pub fn size_at(bytes: &[u8], at: usize) -> usize
     ensures { λ r. ⌜ (r ≡ getD (now (bytes .entry)) at 0) × (r < 256) ⌝ }
 {

@@ -2,7 +2,8 @@
 // leaves the sheet as it was.
 use crate::integration::same_build;
 use crate::integration::same_init;
-use crate::lines::cell_at;
+use crate::lines::end_of;
+use crate::lines::line_of;
 use crate::lines::same_end;
 use crate::lines::same_line;
 use crate::recorded::byte_at;
@@ -13,7 +14,7 @@ use crate::recorded::size_at;
 use integration_field::BuildAnswer;
 use integration_field::IntegrationField;
 
-// A call's number; 255, which is none, where it is refused and answers more than the recorded number and zeros.
+// A call's number; 255, which none has, where it is refused and answers anything but the recorded number and zeros.
 fn settled(number: u8, same: bool) -> u8 {
     if number == 0 || same { number } else { 255 }
 }
@@ -28,16 +29,12 @@ fn build_number(record: &[u8], answer: BuildAnswer) -> u8 {
 }
 
 fn line_number(record: &[u8]) -> u8 {
-    let source = cell_at(record, 15, 16);
-    let target = cell_at(record, 17, 18);
-    let line = bresenham::get_cells_between_points(source, target);
+    let line = line_of(part(record, 15, 19));
     settled(line.number, same_line(line, part(record, 155, 156)))
 }
 
 fn line_end_number(record: &[u8]) -> u8 {
-    let corner = cell_at(record, 15, 16);
-    let goal = cell_at(record, 17, 18);
-    let end = line_end::check_los_corner_propagation(corner, goal);
+    let end = end_of(part(record, 15, 19));
     settled(end.number, same_end(end, part(record, 155, 156)))
 }
 
@@ -78,14 +75,16 @@ fn call_number(record: &[u8], costs: &[u8], step: &[u8], previous: &[u32], sheet
 // A record: the call, lengths of costs, sheet and step, has_previous, length of previous, corner count, a corner's place and
 // value, four coordinates, 136 step bytes; number, four zeros.
 pub fn refusal_agrees(record: &[u8]) -> bool {
-    let costs = [1u8; 65536];
-    let previous = [0u32; 65536];
-    let before = [0x55u8; 65536];
-    let mut sheet = [0x55u8; 65536];
     let costs_length = short_at(record, 1, 2);
     let sheet_length = short_at(record, 3, 4);
     let step_length = short_at(record, 5, 6);
     let previous_length = short_at(record, 8, 9);
+    if costs_length > 6401 || sheet_length > 6401 || step_length > 136 || previous_length > 101 {
+        return false;
+    }
+    let costs = [1u8; 6401];
+    let previous = [0u32; 101];
+    let mut sheet = [0x55u8; 6401];
     let number = call_number(
         record,
         part(&costs, 0, costs_length),
@@ -93,5 +92,6 @@ pub fn refusal_agrees(record: &[u8]) -> bool {
         &previous[0..previous_length],
         front(&mut sheet, sheet_length),
     );
+    let before = [0x55u8; 6401];
     number == byte_at(record, 155) && (number == 0 || check::same(&sheet, &before))
 }
