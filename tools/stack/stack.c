@@ -109,7 +109,7 @@ int main(void)
         if (number != 0)
             printf("refused with number %d\n", number);
     }
-    printf("%zu bytes of stack at most, with %zu waves\n", deepest, most);
     free(stack);
-    return stack == NULL;
+    printf("%zu bytes of stack at most, with %zu waves\n", deepest, most);
+    return deepest == 0;
 }
