@@ -84,17 +84,11 @@ fn open_side(cells: &[u32; 100], from: usize, side: CompassDir) -> Stepped
 fn first_side(dir: CompassDir) -> CompassDir
     ensures { λ r. ⌜ r ≡ firstSide dir ⌝ }
 {
-    match dir {
-        CompassDir::North => CompassDir::West,
-        CompassDir::East => CompassDir::North,
-        CompassDir::South => CompassDir::West,
-        CompassDir::West => CompassDir::North,
-        CompassDir::NorthEast => CompassDir::Zero,
-        CompassDir::SouthEast => CompassDir::Zero,
-        CompassDir::SouthWest => CompassDir::Zero,
-        CompassDir::NorthWest => CompassDir::Zero,
-        CompassDir::Zero => CompassDir::Zero,
+    let apart = dir.differences();
+    if apart.east + apart.west == 0 {
+        return CompassDir::West;
     }
+    CompassDir::North
 }
 
 // Marks the cells of a corner's line up to where it stops; the i-th gets wave cost + 1 + i. Answers how many are listed.

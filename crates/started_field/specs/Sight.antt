@@ -7,8 +7,8 @@ use Prim.Native.Nat.{ℕ, zero, suc, _+_}
 use lib.Dec.{eqb}
 use lib.ListN.{getD, set}
 use Rattle.utilities.specs.declared.CompassDir.{CompassDir}
-use Rattle.utilities.specs.declared.CompassDir.the-variants.{North, East, South, West, NorthEast, SouthEast, SouthWest, NorthWest, Zero}
-use Rattle.utilities.specs.Compass.{orthogonal, opposite}
+use Rattle.utilities.specs.declared.CompassDir.the-variants.{North, West}
+use Rattle.utilities.specs.Compass.{differences, orthogonal, opposite}
 use Rattle.fields.specs.declared.Stepped.{Stepped}
 use Rattle.fields.specs.declared.Stepped.the-variants.{Cell, Outside}
 use Rattle.fields.specs.Cell.{cellAt, indexOf, stepped}
@@ -71,17 +71,9 @@ abbrev pub unlessWall : List ℕ → Stepped → Stepped
 unlessWall cells (Cell n) = cond (wallAt cells (indexOf n)) Outside (Cell n)
 unlessWall cells Outside = Outside
 
--- the first of a direction's two sides: West of North and South, North of East and West; the second is opposite
+-- which of a direction's two sides is tried first: West of North and South, North of East and West; the second is opposite
 abbrev pub firstSide : CompassDir → CompassDir
-firstSide North = West
-firstSide South = West
-firstSide East = North
-firstSide West = North
-firstSide NorthEast = Zero
-firstSide SouthEast = Zero
-firstSide SouthWest = Zero
-firstSide NorthWest = Zero
-firstSide Zero = Zero
+firstSide d = let δ = differences d in cond (eqb (δ .east + δ .west) 0) West North
 
 -- what a wave begins with: nothing is queued yet
 abbrev pub begun : Sight → Sight
