@@ -2,7 +2,7 @@
 --     wave-step, wave-end          the offers of the cells from place i on: those of the cell at i, then those from i + 1 on; none past the last
 --     corners-step, corners-end    the same for the test of the corners
 --     changed-more, pushed         one index more: a place written, and counted where the cells differ
---     ready, changed-ready         places that begin with cells, with the changed ones, are a wavefront
+--     indexes, changed-indexes     places whose list has indexes of cells alone, and those with the changed cells
 --     corner-more                  a corner more
 -- Assumes nothing.
 use mathlib.Core.Path.{_≡_, refl, sym, ap, subst, _∙_}
@@ -21,11 +21,10 @@ use Rattle.utilities.specs.Lists.{consIf}
 use Rattle.utilities.specs.Compass.{orthogonal}
 use Rattle.fields.specs.Cell.{cellAt}
 use Rattle.integration_field.specs.Word.{low}
-use Rattle.integration_field.specs.Listed.{padded}
+use Rattle.integration_field.specs.Listed.{padded, Indexes}
 use Rattle.integration_field.specs.Wave.{offeredAround, offeredBy, changedFrom}
 use Rattle.integration_field.specs.Answer.{allCells}
 use Rattle.integration_field.proofs.Lists.{padded-push}
-use Rattle.integration_build.specs.Wavefront.{Ready}
 
 -- ---- the offers of a wavefront
 
@@ -124,15 +123,15 @@ changed-below k n (a ∷ olds) [] h i l = absurd (omega arith)
 changed-below k n (a ∷ olds) (b ∷ news) h i l =
     cons-below (not (eqb a b)) k n (changedFrom (suc k) olds news) (omega arith) (λ j m. changed-below (suc k) n olds news (omega arith) j m) i l
 
--- places that begin with indexes of cells are a wavefront
-pub ready : (places : List ℕ) (count : ℕ) → length places ≡ 100 → count ≤ 100 → AllBelow 100 (take count places) → Ready count places
-ready places count long few a = record {
-  long = long;
+-- from the list that the places begin with
+pub indexes : (places : List ℕ) (count : ℕ) → length places ≡ 100 → count ≤ 100 → AllBelow 100 (take count places) → Indexes 100 places count
+indexes places count long few a = record {
+  full = long;
   count-in = few;
   cells-in = λ i k.
       subst (λ (n : ℕ). n < 100) (getD-take count places i 0 k) (a i (omega (arith, length-take-le count places (omega arith))));
 }
 
-pub changed-ready : (before after places : List ℕ) (count : ℕ) → length before ≡ 100 → length places ≡ 100 → count ≤ 100 → take count places ≡ changedFrom 0 before after
-    → Ready count places
-changed-ready before after places count e long few l = ready places count long few (subst (AllBelow 100) (sym l) (changed-below 0 100 before after (omega arith)))
+pub changed-indexes : (before after places : List ℕ) (count : ℕ) → length before ≡ 100 → length places ≡ 100 → count ≤ 100 → take count places ≡ changedFrom 0 before after
+    → Indexes 100 places count
+changed-indexes before after places count e long few l = indexes places count long few (subst (AllBelow 100) (sym l) (changed-below 0 100 before after (omega arith)))

@@ -16,7 +16,7 @@ use lib.Seq.{length-take-le}
 use borrow.Author.Tests.{eqb-true}
 use Rattle.utilities.specs.Lists.{consIf}
 use Rattle.integration_field.specs.declared.IntegrationField.{IntegrationField}
-use Rattle.integration_field.specs.Listed.{padded, listOf, withCorners}
+use Rattle.integration_field.specs.Listed.{padded, Indexes, listOf, withCorners}
 use Rattle.integration_field.specs.Wave.{offeredBy, changedFrom, next}
 use Rattle.integration_field.specs.Build.{Built, isEmpty}
 use Rattle.integration_field.specs.Answer.{answerOf, Accepted}
@@ -25,8 +25,8 @@ use Rattle.integration_field.proofs.Offers.{offers-made}
 use Rattle.integration_field.proofs.Settled.{settle-none, settle-more, settle-any, settle-build}
 use Rattle.integration_field.proofs.Least.{rests-within}
 use Rattle.integration_field.proofs.Answers.{all-cells, all-below}
-use Rattle.integration_build.proofs.Loops.{ready}
-use Rattle.integration_build.specs.Wavefront.{Ready, Settles}
+use Rattle.integration_build.proofs.Loops.{indexes}
+use Rattle.integration_build.specs.Wavefront.{Settles}
 
 -- where no cell changed, the cells are as before
 unchanged : (i : ℕ) (olds news : List ℕ) → length news ≡ length olds → changedFrom i olds news ≡ [] → news ≡ olds
@@ -53,7 +53,7 @@ module _ (costs cells wave : List ℕ) where
   new-length made = ap length made ∙ offers-made costs cells wave cells .size
 
   -- a wave made: the cells that it left, and in the first places those that it changed
-  module _ (new places : List ℕ) (some : ℕ) (made : new ≡ offeredBy costs cells wave cells) (found : Ready some places × (take some places ≡ changedFrom 0 cells new)) where
+  module _ (new places : List ℕ) (some : ℕ) (made : new ≡ offeredBy costs cells wave cells) (found : Indexes 100 places some × (take some places ≡ changedFrom 0 cells new)) where
     pub settles-still : (fuel : ℕ) → some ≡ 0 → Settles costs cells wave fuel new 0
     unfolding next
     settles-still fuel e =
@@ -74,7 +74,7 @@ module _ (costs cells wave : List ℕ) where
         let after = offeredBy costs cells wave cells in
         let t : Settles costs after (changedFrom 0 cells after) n left waves = rw (less, found .1, made) at s in
         let many : length (changedFrom 0 cells after) ≡ some =
-        ap (λ (x : List ℕ). length (changedFrom 0 cells x)) (sym made) ∙ ap length (sym (found .1)) ∙ length-take-le some places (omega (arith, found .0 .count-in, found .0 .long)) in
+        ap (λ (x : List ℕ). length (changedFrom 0 cells x)) (sym made) ∙ ap length (sym (found .1)) ∙ length-take-le some places (omega (arith, found .0 .count-in, found .0 .full)) in
         record {
           within = omega (arith, t .within);
           settled = λ h.
@@ -91,9 +91,9 @@ module _ (costs : List ℕ) (f : IntegrationField) (long : length (f .«los_corn
   listed : take (f .count) places ≡ listOf f
   listed = ap₂ take (sym many) e ∙ padded-list (listOf f)
 
-  pub corners-ready : Ready (f .count) places
-  corners-ready =
-      ready places (f .count) (ap length e ∙ padded-length (listOf f) (omega (arith, many, a .count-in))) (a .count-in)
+  pub corners-indexes : Indexes 100 places (f .count)
+  corners-indexes =
+      indexes places (f .count) (ap length e ∙ padded-length (listOf f) (omega (arith, many, a .count-in))) (a .count-in)
       (rw listed (all-below (listOf f) (a .corners-in)))
 
   -- any number of waves from 99 on is enough

@@ -2,16 +2,9 @@
 -- Assumes nothing.
 use mathlib.Core.Path.{_≡_}
 use mathlib.Core.List.{List}
-use Prim.Native.Nat.{ℕ, _≤_, _<_}
-use lib.ListN.{length, getD}
+use Prim.Native.Nat.{ℕ, _≤_}
 use Rattle.integration_field.specs.Rest.{Rests}
 use Rattle.integration_field.specs.Build.{settle}
-
--- 100 places, a count of at most 100, and indexes of cells in the places below it
-pub record Ready (count : ℕ) (cells : List ℕ) : Type 0 where
-  pub long : length cells ≡ 100
-  pub count-in : count ≤ 100
-  pub cells-in : (i : ℕ) → i < count → getD cells i 0 < 100
 
 -- `fuel` waves or fewer; and where that many are enough, the cells and the count that the definition settles on
 pub record Settles (costs cells wave : List ℕ) (fuel : ℕ) (left : List ℕ) (waves : ℕ) : Type 0 where

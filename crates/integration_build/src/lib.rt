@@ -9,12 +9,12 @@ ghost use Prim.Native.Nat.{_<_, _≤_};
 ghost use lib.ListN.{length, take};
 ghost use Rattle.utilities.specs.Compass.{orthogonal};
 ghost use Rattle.fields.specs.Cell.{cellAt, stepped};
-ghost use Rattle.integration_field.specs.Listed.{listOf, padded};
+ghost use Rattle.integration_field.specs.Listed.{listOf, padded, Indexes};
 ghost use Rattle.integration_field.specs.Wave.{isWritten, relaxed, offered, offeredAround, offeredBy, changedFrom};
 ghost use Rattle.integration_field.specs.Answer.{answerOf, allCells, Accepted, buildAnswer};
 ghost use Rattle.integration_field.specs.Promise.{LeastWalks, Counted};
 ghost use Rattle.least_walks.specs.Promise.{BuildsStarted};
-ghost use Rattle.integration_build.specs.Wavefront.{Ready, Settles};
+ghost use Rattle.integration_build.specs.Wavefront.{Settles};
 
 // A cost byte as a number of a cell's width.
 fn wide(cost: u8) -> u32
@@ -81,7 +81,7 @@ fn offer_wave(
     wave: &[usize; 100],
     count: usize,
 )
-    requires { ⌜ (Ready count (now wave)) × (length (now costs) ≡ 100) ⌝ }
+    requires { ⌜ (Indexes 100 (now wave) count) × (length (now costs) ≡ 100) ⌝ }
     ensures { λ _. ⌜ now (cells .exit) ≡ offeredBy (now (costs .entry)) (now (before .entry)) (take count (now (wave .entry))) (now (cells .entry)) ⌝ }
 {
     let mut i = 0;
@@ -96,7 +96,7 @@ fn offer_wave(
 // The cells that a wave changed, each once, in the order of their indexes. Answers how many.
 fn changed(before: &[u32; 100], after: &[u32; 100], next: &mut [usize; 100]) -> usize
     requires { ⌜ (length (now before) ≡ 100) × ((length (now after) ≡ 100) × (length (now next) ≡ 100)) ⌝ }
-    ensures { λ r. ⌜ (Ready r (now (next .exit))) × (take r (now (next .exit)) ≡ changedFrom 0 (now (before .entry)) (now (after .entry))) ⌝ }
+    ensures { λ r. ⌜ (Indexes 100 (now (next .exit)) r) × (take r (now (next .exit)) ≡ changedFrom 0 (now (before .entry)) (now (after .entry))) ⌝ }
 {
     let mut count = 0;
     let mut i = 0;
@@ -117,7 +117,7 @@ fn propagate_integrated_wavefront(
     count: usize,
     fuel: usize,
 ) -> usize
-    requires { ⌜ (Ready count (now wavefront)) × ((length (now cells) ≡ 100) × (length (now costs) ≡ 100)) ⌝ }
+    requires { ⌜ (Indexes 100 (now wavefront) count) × ((length (now cells) ≡ 100) × (length (now costs) ≡ 100)) ⌝ }
     ensures { λ r. ⌜ Settles (now (costs .entry)) (now (cells .entry)) (take count (now (wavefront .entry))) fuel (now (cells .exit)) r ⌝ }
 {
     if fuel == 0 {

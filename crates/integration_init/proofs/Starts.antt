@@ -17,7 +17,7 @@ use Rattle.route.specs.Window.{listed}
 use Rattle.route.specs.Step.{windowCells}
 use Rattle.route.proofs.Accepted as accepted
 use Rattle.route.proofs.Windows.{window-few, window-at}
-use Rattle.integration_field.specs.Listed.{padded}
+use Rattle.integration_field.specs.Listed.{padded, Indexes}
 use Rattle.integration_field.proofs.Lists.{padded-push}
 use Rattle.started_field.specs.Sight.{wallOr, walls, withPortals, withGoal, sightAfter}
 use Rattle.started_field.specs.Started.{startedAt}
@@ -25,7 +25,7 @@ use Rattle.started_field.specs.CornerLine.{cornerLine}
 use Rattle.started_field.proofs.Before.{walls-length}
 use Rattle.started_field.proofs.Lines.{corner-lines}
 use Rattle.started_field.proofs.Waves.{sight-room}
-use Rattle.integration_init.specs.Held.{sightOf, Ready, Wavefront, Window}
+use Rattle.integration_init.specs.Held.{sightOf, Ready}
 
 module _ (costs cells : List ℕ) (hundred : length costs ≡ 100) (full : length cells ≡ 100) where
   pub wall-step : (i x : ℕ) → i < 100 → x ≡ wallOr (getD costs i 0) → take i cells ≡ take i (walls costs) → take (i + 1) (set cells i x) ≡ take (i + 1) (walls costs)
@@ -39,7 +39,7 @@ module _ (costs cells : List ℕ) (hundred : length costs ≡ 100) (full : lengt
   pub wall-end : take 100 cells ≡ take 100 (walls costs) → cells ≡ walls costs
   wall-end t = sym (take-all 100 cells (omega arith)) ∙ t ∙ take-all 100 (walls costs) (omega (arith, walls-length costs))
 
-module _ (window : List ℕ) (count : ℕ) (w : Window window count) where
+module _ (window : List ℕ) (count : ℕ) (w : Indexes 10 window count) where
   pub portal-step : (i : ℕ) (cells : List ℕ) → i < count → withPortals (slice i count window) cells ≡ withPortals (slice (i + 1) count window) (set cells (getD window i 0) 0x80000)
   unfolding withPortals
   portal-step i cells h =
@@ -67,7 +67,7 @@ module _ (window : List ℕ) (count : ℕ) (w : Window window count) where
       ∙ ap (λ (n : ℕ). record { field = withPortals l (walls costs); «los_corners» = padded l; count = n }) (sym long)
 
 module _ (step : List ℕ) (w : accepted.Window step) (cells : WindowCells) (e : cells ≡ listed (windowCells step)) where
-  pub window-held : Window (cells .cells) (cells .count)
+  pub window-held : Indexes 10 (cells .cells) (cells .count)
   window-held = rw e (record {
     full = padded-length 10 0 (windowCells step) (window-few step w);
     count-in = window-few step w;
@@ -90,8 +90,8 @@ module _ (costs : List ℕ) (hundred : length costs ≡ 100) (goal : ℕ) (insid
   unfolding sightAfter withGoal
   goal-sight cells e = ap (λ (l : List ℕ). record { cells = l; corners = []; queue = goal ∷ [] }) e
 
-  pub goal-wavefront : Wavefront (set (replicate 100 0) 0 goal) 1
-  goal-wavefront = record { full = refl; size-in = omega arith; cells-in = first }
+  pub goal-wavefront : Indexes 100 (set (replicate 100 0) 0 goal) 1
+  goal-wavefront = record { full = refl; count-in = omega arith; cells-in = first }
     where
       first : (i : ℕ) → i < 1 → getD (set (replicate 100 0) 0 goal) i 0 < 100
       first zero h = inside

@@ -16,10 +16,10 @@ use Rattle.utilities.specs.declared.CompassDir.{CompassDir}
 use Rattle.utilities.specs.declared.CompassDir.the-variants.{Zero}
 use Rattle.utilities.specs.Compass.{orthogonal, sideOf}
 use Rattle.fields.specs.Cell.{cellAt, stepped}
-use Rattle.integration_field.specs.Listed.{withCorners}
+use Rattle.integration_field.specs.Listed.{Indexes, withCorners}
 use Rattle.started_field.specs.Sight.{Sight, begun, looked, lookedAround, waveLooked, sightAfter}
 use Rattle.started_field.proofs.Room.{room-queued}
-use Rattle.integration_init.specs.Held.{sightOf, Holds, Ready, ReadyAll, Wavefront}
+use Rattle.integration_init.specs.Held.{sightOf, Holds, Ready, ReadyAll}
 
 pub wave-next : (line : ℕ → List ℕ) (cells : List ℕ) (goal k wave : ℕ) (s : Sight) → wave ≡ suc k → s ≡ sightAfter line cells goal k
     → waveLooked line wave (s .queue) (begun s) ≡ sightAfter line cells goal (suc k)
@@ -39,10 +39,10 @@ held-field {s} {cells} {corners} {count} h =
     ap (λ (x : List ℕ). record { field = x; «los_corners» = corners; count = count }) (h .cells-held)
     ∙ ap₂ (λ (x : List ℕ) (n : ℕ). record { field = s .cells; «los_corners» = x; count = n }) (h .corners-held) (h .count-held)
 
-pub held-wavefront : {cells corners : List ℕ} {count : ℕ} {queue : List ℕ} {queued : ℕ} → ReadyAll cells corners count queue queued → Wavefront queue queued
+pub held-wavefront : {cells corners : List ℕ} {count : ℕ} {queue : List ℕ} {queued : ℕ} → ReadyAll cells corners count queue queued → Indexes 100 queue queued
 held-wavefront {cells} {corners} {count} {queue} {queued} h = record {
   full = h .full;
-  size-in = omega (arith, h .queued-held, room-queued (sightOf cells corners count (take queued queue)) (h .room));
+  count-in = omega (arith, h .queued-held, room-queued (sightOf cells corners count (take queued queue)) (h .room));
   cells-in = λ i p.
       subst (λ (n : ℕ). n < 100) (getD-take queued queue i 0 p) (h .room .queued-in i (omega (arith, h .queued-held)));
 }

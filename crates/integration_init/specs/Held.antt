@@ -59,20 +59,8 @@ pub record InWave (wave goal from : ℕ) : Type 0 where
   pub goal-in : goal < 100
   pub from-in : from < 100
 
--- the cells of a wave, in an array of 100 places
-pub record Wavefront (wavefront : List ℕ) (size : ℕ) : Type 0 where
-  pub full : length wavefront ≡ 100
-  pub size-in : size ≤ 100
-  pub cells-in : (i : ℕ) → i < size → getD wavefront i 0 < 100
-
 -- the cells of a line, in an array of 10 places
 pub record Drawn (cells : List FieldCell) (count : ℕ) : Type 0 where
   pub full : length cells ≡ 10
   pub count-in : count ≤ 10
   pub cells-in : (i : ℕ) → i < count → Inside (getD cells i (cell 0 0))
-
--- the cells of a window, in an array of 10 places
-pub record Window (cells : List ℕ) (count : ℕ) : Type 0 where
-  pub full : length cells ≡ 10
-  pub count-in : count ≤ 10
-  pub cells-in : (i : ℕ) → i < count → getD cells i 0 < 100

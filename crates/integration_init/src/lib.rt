@@ -19,13 +19,13 @@ ghost use Prim.Native.Nat.{ℕ, suc, _+_, _<_, _≤_};
 ghost use lib.ListN.{length, take};
 ghost use Rattle.utilities.specs.Compass.{orthogonal};
 ghost use Rattle.fields.specs.Cell.{cellAt, indexOf, stepped};
-ghost use Rattle.integration_field.specs.Listed.{padded};
+ghost use Rattle.integration_field.specs.Listed.{padded, Indexes};
 ghost use Rattle.route.specs.Step.{stepNumber};
 ghost use Rattle.started_field.specs.Started.{startedAt, startedFrom, started, initRefused, initAnswer, StartedField};
 ghost use Rattle.started_field.specs.CornerLine.{cornerLine};
 ghost use Rattle.started_field.specs.Sight.{wallOr, walls, withPortals, marked, stopped, lineMarked, extended, unlessWall, firstSide, sideTried, wallMet, neighbourLooked, looked, lookedAround, waveLooked, sightAfter};
 ghost use Rattle.least_walks.specs.Promise.{OnceBuilt};
-ghost use Rattle.integration_init.specs.Held.{sightOf, Holds, Ready, Applied, AppliedAll, HoldsAll, ReadyAll, InWave, Wavefront, Drawn, Window};
+ghost use Rattle.integration_init.specs.Held.{sightOf, Holds, Ready, Applied, AppliedAll, HoldsAll, ReadyAll, InWave, Drawn};
 
 // How many corners are listed, and how many cells the wave has queued.
 struct Counts {
@@ -315,7 +315,7 @@ fn look_wave(
     goal: usize,
     wavefront_cost: u32,
 ) -> Counts
-    requires { ⌜ (Ready (now cells) (now corners) count) × ((Wavefront (now wavefront) size) × ((length (now next) ≡ 100) × ((«wavefront_cost» ≤ 100) × (goal < 100)))) ⌝ }
+    requires { ⌜ (Ready (now cells) (now corners) count) × ((Indexes 100 (now wavefront) size) × ((length (now next) ≡ 100) × ((«wavefront_cost» ≤ 100) × (goal < 100)))) ⌝ }
     ensures { λ r. ⌜ HoldsAll (waveLooked (cornerLine goal) «wavefront_cost» (take size (now (wavefront .entry))) (sightOf (now (cells .entry)) (now (corners .entry)) count [])) (now (cells .exit)) (now (corners .exit)) (r .corners) (now (next .exit)) (r .queued) ⌝ }
 {
     let mut counts = Counts {
@@ -342,7 +342,7 @@ fn propagate_los(
     wavefront_cost: u32,
     falling: usize,
 ) -> usize
-    requires { ⌜ (Ready (now cells) (now corners) count) × ((Wavefront (now wavefront) size) × ((goal < 100) × («wavefront_cost» + falling ≤ 101))) ⌝ }
+    requires { ⌜ (Ready (now cells) (now corners) count) × ((Indexes 100 (now wavefront) size) × ((goal < 100) × («wavefront_cost» + falling ≤ 101))) ⌝ }
     ensures { λ r. ⌜ ((before : List ℕ) (k : ℕ) → «wavefront_cost» ≡ suc k → sightOf (now (cells .entry)) (now (corners .entry)) count (take size (now (wavefront .entry))) ≡ sightAfter (cornerLine goal) before goal k → Holds (sightAfter (cornerLine goal) before goal (k + falling)) (now (cells .exit)) (now (corners .exit)) r) ⌝ }
 {
     if falling == 0 {
@@ -400,7 +400,7 @@ fn mark_walls(costs: &[u8], cells: &mut [u32; 100])
 
 // Marks the cells of a window as portals, and lists them as corners in order.
 fn mark_portals(cells: &mut [u32; 100], corners: &mut [usize; 100], window: WindowCells)
-    requires { ⌜ (Window (window .cells) (window .count)) × (now corners ≡ padded []) ⌝ }
+    requires { ⌜ (Indexes 10 (window .cells) (window .count)) × (now corners ≡ padded []) ⌝ }
     ensures { λ _. ⌜ (now (cells .exit) ≡ withPortals (take (window .count) (window .cells)) (now (cells .entry))) × (now (corners .exit) ≡ padded (take (window .count) (window .cells))) ⌝ }
 {
     let listed = window.cells;
@@ -416,7 +416,7 @@ fn mark_portals(cells: &mut [u32; 100], corners: &mut [usize; 100], window: Wind
 
 // The field that starts at a window.
 fn start_at(costs: &[u8], window: WindowCells) -> IntegrationField
-    requires { ⌜ (length (now costs) ≡ 100) × (Window (window .cells) (window .count)) ⌝ }
+    requires { ⌜ (length (now costs) ≡ 100) × (Indexes 10 (window .cells) (window .count)) ⌝ }
     ensures { λ r. ⌜ r ≡ startedAt (now (costs .entry)) (take (window .count) (window .cells)) ⌝ }
 {
     let mut cells: [u32; 100] = [65535; 100];

@@ -5,7 +5,7 @@ use native.Mathlib.Omega.{arith}
 use lib.ListN.{length}
 use denote.Ref.{now}
 use borrow.Author.Needs.{needs}
-use Rattle.integration_build.proofs.Recursion.{built-is, corners-ready}
+use Rattle.integration_build.proofs.Recursion.{built-is, corners-indexes}
 use Rattle.integration_build.proofs.built.Statement.{statement}
 use Rattle.integration_build.proofs.built.Tie as tie
 
@@ -17,7 +17,7 @@ propagate-integrated-wavefront-requires c κs =
     let corners = c .before .before .before in
     let s = corners .before .before .before .before in
     let long : length (s .args .t2 .«los_corners») ≡ 100 = search needs in
-    (corners-ready (now (s .args .costs)) (s .args .t2) long (s .pre) _ (corners .corner-wave .ensures), (search needs, s .pre .costs-hundred))
+    (corners-indexes (now (s .args .costs)) (s .args .t2) long (s .pre) _ (corners .corner-wave .ensures), (search needs, s .pre .costs-hundred))
 
 returns : tie.Need-returns
 returns c =

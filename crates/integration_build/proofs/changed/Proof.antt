@@ -11,7 +11,7 @@ use lib.Seq.{take-all}
 use borrow.Author.Needs.{needs}
 use Rattle.utilities.specs.Lists.{consIf}
 use Rattle.integration_field.specs.Wave.{changedFrom}
-use Rattle.integration_build.proofs.Loops.{changedTo, changed-more, changed-ready, bit-few, pushed}
+use Rattle.integration_build.proofs.Loops.{changedTo, changed-more, changed-indexes, bit-few, pushed}
 use Rattle.integration_build.proofs.changed.Statement.{statement}
 use Rattle.integration_build.proofs.changed.Tie as tie
 
@@ -84,7 +84,7 @@ returns c =
     let i-is : l .i ≡ 100 = omega arith in
     let listed : take (l .count) (l .next) ≡ changedFrom 0 b d =
     l .inv .3 ∙ ap₂ (changedFrom 0) (take-all (l .i) b (omega (arith, s .pre .0))) (take-all (l .i) d (omega (arith, s .pre .1 .0))) in
-    (changed-ready b d (l .next) (l .count) (s .pre .0) (l .inv .2) (omega arith) listed, listed)
+    (changed-indexes b d (l .next) (l .count) (s .pre .0) (l .inv .2) (omega arith) listed, listed)
 
 pub changed-spec : {M : Type 1} → statement M
 changed-spec =

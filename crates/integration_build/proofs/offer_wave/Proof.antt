@@ -59,7 +59,7 @@ loop-again c =
     let l = turn .before .loop in
     let s = turn .before .before .before in
     let a = s .args in
-    let room : a .count ≤ length (a .wave .now) = omega (arith, s .pre .0 .count-in, s .pre .0 .long) in
+    let room : a .count ≤ length (a .wave .now) = omega (arith, s .pre .0 .count-in, s .pre .0 .full) in
     let cell = getD (a .wave .now) (l .i) 0 in (
       search needs,
       l .inv .1

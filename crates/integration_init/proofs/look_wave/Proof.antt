@@ -36,7 +36,7 @@ look-around-requires c κs = let s = c .before .before .before .before .before .
 
 loop-again : tie.Need-loop-again Inv-loop μ-loop
 loop-again c = let s = c .before .before .before .before .before .before .before in let a = s .args in let l = c .before .before .before .before .before .before .loop in
-    let long : a .size ≤ length (now (a .wavefront)) = omega (arith, s .pre .1 .0 .full, s .pre .1 .0 .size-in) in
+    let long : a .size ≤ length (now (a .wavefront)) = omega (arith, s .pre .1 .0 .full, s .pre .1 .0 .count-in) in
     let s : Sight = sightOf (l .cells) (l .corners) (l .counts .corners) (take (l .counts .queued) (l .next)) in (
       search needs,
       (
