@@ -1,9 +1,11 @@
 -- Laws of cells and steps that later layers cite.
---     index-inside, cell-of-index, index-of-cell    a cell of the sector and its index
---     stepped-cell                                  where a step arrives: at the two sums, inside
---     step-back                                     a step is undone by the opposite step
+--     index-told                    what `as_1d_index` answers of a cell of the sector
+--     cell-of-index, index-of-cell  a cell of the sector and its index
+--     stepped-cell                  where a step arrives: at the two sums, inside
+--     step-told                     where a step from an index arrives, by what its calls answer
+--     step-back                     a step is undone by the opposite step
 -- Assumes nothing.
-use mathlib.Core.Path.{_≡_, refl, subst, ap, _∙_}
+use mathlib.Core.Path.{_≡_, refl, sym, subst, ap, _∙_}
 use mathlib.Core.Bool.{Bool, true, false, _&&_, and-eq-true-iff}
 use Prim.Native.Nat.{ℕ, _+_, _-_, _<_, _≤_, _/_, _%_}
 use native.Mathlib.Omega.{arith}
@@ -13,6 +15,7 @@ use Rattle.utilities.specs.declared.Differences.{Differences}
 use Rattle.utilities.specs.Compass.{differences, points, sumWithin, opposite}
 use Rattle.utilities.proofs.Compass.{opposite-differences, opposite-points, within}
 use Rattle.fields.specs.declared.FieldCell.{FieldCell}
+use Rattle.fields.specs.declared.Stepped.{Stepped}
 use Rattle.fields.specs.declared.Stepped.the-variants.{Cell}
 use Rattle.fields.specs.Cell.{cell, Inside, indexOf, cellAt, indexOr, cellIf, stepped}
 use Rattle.fields.proofs.Coordinates.{sum-in}
@@ -23,9 +26,11 @@ cell-inside i h = record { column-in = omega arith; row-in = omega arith }
 pub index-below : (c : FieldCell) → Inside c → indexOf c < 100
 index-below c h = omega arith
 
-pub index-inside : (n : ℕ) (c : FieldCell) → Inside c → indexOr n c ≡ indexOf c
+pub index-told : {c : FieldCell} {i : ℕ} → Inside c → i ≡ indexOr 100 c → (i ≡ indexOf c) × (i < 100)
 unfolding indexOr
-index-inside n c h = rw (lt-ltb (c .column) 10 (h .column-in), lt-ltb (c .row) 10 (h .row-in))
+index-told {c} {i} h e =
+    let k : i ≡ indexOf c = e ∙ rw (lt-ltb (c .column) 10 (h .column-in), lt-ltb (c .row) 10 (h .row-in)) in
+    (k, omega (arith, k))
 
 pub index-of-cell : (i : ℕ) → indexOf (cellAt i) ≡ i
 index-of-cell i = omega arith
@@ -82,6 +87,10 @@ steps-to c d n a =
       ← p,
       ← q,
     )
+
+-- where a step from an index arrives
+pub step-told : (from : ℕ) (d : CompassDir) {c : FieldCell} {t u : Stepped} → c ≡ cellAt from → t ≡ stepped c d → t ≡ u → stepped (cellAt from) d ≡ u
+step-told from d e f g = ap (λ (x : FieldCell). stepped x d) (sym e) ∙ sym f ∙ g
 
 -- a step that stays inside is undone by the opposite step
 pub step-back : (c : FieldCell) (d : CompassDir) (n : FieldCell) → Inside c → stepped c d ≡ Cell n → stepped n (opposite d) ≡ Cell c

@@ -7,7 +7,7 @@
 --     answer-promises   both, of whatever equals the answer
 -- Assumes nothing.
 use mathlib.Core.Path.{_≡_, refl, sym, _∙_}
-use mathlib.Core.Bool.{Bool, true, false, not, cond, _||_}
+use mathlib.Core.Bool.{Bool, true, false, not, cond, _||_, and-eq-true-iff}
 use mathlib.Core.List.{List, [], _∷_, List·Memᴰ, List·Memᴰ·head, List·Memᴰ·tail}
 use Prim.Native.Nat.{ℕ, zero, suc, _≤_, _<_}
 use native.Mathlib.Omega.{arith}
@@ -17,21 +17,20 @@ use borrow.Author.Tests.{ltb-true, ltb-false, lt-ltb, le-ltb, eqb-true, eq-eqb, 
 use Rattle.integration_field.specs.declared.IntegrationField.{IntegrationField}
 use Rattle.integration_field.specs.declared.BuildAnswer.{BuildAnswer}
 use Rattle.integration_field.specs.Listed.{listOf}
-use Rattle.integration_field.specs.Rest.{and-true}
 use Rattle.integration_field.specs.Answer.{answerOf, allCells, buildNumber, Accepted, buildAnswer}
 use Rattle.integration_field.specs.Promise.{LeastWalks, Counted}
 use Rattle.integration_field.proofs.Least.{least-walks, waves-counted}
 
 pub all-cells : (l : List ℕ) → allCells l ≡ true → (x : ℕ) → List·Memᴰ x l → x < 100
 unfolding allCells
-all-cells l e x (List·Memᴰ·head {x = y} {xs = ys} q) = rw q (ltb-true y 100 (and-true (ltb y 100) (allCells ys) e .0))
-all-cells l e x (List·Memᴰ·tail {x = y} {xs = ys} m) = all-cells ys (and-true (ltb y 100) (allCells ys) e .1) x m
+all-cells l e x (List·Memᴰ·head {x = y} {xs = ys} q) = rw q (ltb-true y 100 (and-eq-true-iff (ltb y 100) (allCells ys) .0 e .0))
+all-cells l e x (List·Memᴰ·tail {x = y} {xs = ys} m) = all-cells ys (and-eq-true-iff (ltb y 100) (allCells ys) .0 e .1) x m
 
 pub all-below : (l : List ℕ) → allCells l ≡ true → (i : ℕ) → i < length l → getD l i 0 < 100
 unfolding allCells
 all-below [] e i h = absurd (omega arith)
-all-below (x ∷ xs) e zero h = ltb-true x 100 (and-true (ltb x 100) (allCells xs) e .0)
-all-below (x ∷ xs) e (suc i) h = all-below xs (and-true (ltb x 100) (allCells xs) e .1) i (omega arith)
+all-below (x ∷ xs) e zero h = ltb-true x 100 (and-eq-true-iff (ltb x 100) (allCells xs) .0 e .0)
+all-below (x ∷ xs) e (suc i) h = all-below xs (and-eq-true-iff (ltb x 100) (allCells xs) .0 e .1) i (omega arith)
 
 pub accepted : (costs : List ℕ) (f : IntegrationField) → buildNumber costs f ≡ 0 → Accepted costs f
 unfolding buildNumber

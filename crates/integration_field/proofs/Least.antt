@@ -4,7 +4,7 @@
 --     rests-within      any number of waves from 99 on is enough
 -- Assumes nothing.
 use mathlib.Core.Path.{_≡_, refl, sym, ap, _∙_}
-use mathlib.Core.Bool.{true, false, not, true≢false}
+use mathlib.Core.Bool.{true, false, not, true≢false, and-eq-true-iff}
 use mathlib.Core.Logic.{_⊎_, inl, inr, _↔_}
 use mathlib.Core.List.{List, [], _∷_, List·Memᴰ, List·Memᴰ·head, List·Memᴰ·not-nil}
 use Prim.Native.Nat.{ℕ, zero, suc, _+_, _-_, _≤_, _<_}
@@ -21,7 +21,7 @@ use Rattle.waves.proofs.Least.{walk-into, fallen-walk}
 use Rattle.waves.proofs.End.{few, least, counted}
 use Rattle.integration_field.specs.Word.{low, isOpen, isLos, isImpassable}
 use Rattle.integration_field.specs.Wave.{changedFrom, Wave, next, waveAt}
-use Rattle.integration_field.specs.Rest.{and-true, Rests}
+use Rattle.integration_field.specs.Rest.{Rests}
 use Rattle.integration_field.specs.Build.{isEmpty, build}
 use Rattle.integration_field.specs.Walks.{grid, MayEnter, Permitted}
 use Rattle.integration_field.specs.Promise.{Walked, LeastWalks, Changes, Counted}
@@ -174,7 +174,7 @@ module _ (costs cells corners : List ℕ) where
 
     permitted : (x s : ℕ) → Below (grid costs cells corners) Open x s → MayEnter costs cells corners x s
     permitted x s p =
-        let f = and-true (not (isImpassable (getD cells x 0))) (not (isLos (getD cells x 0))) (p .0) in
+        let f = and-eq-true-iff (not (isImpassable (getD cells x 0))) (not (isLos (getD cells x 0))) .0 (p .0) in
         record { no-wall = not-true _ (f .0); not-in-sight = not-true _ (f .1); below = p .1 }
 
     attained : (k x : ℕ) → (getD (at k) x 0 ≡ getD cells x 0) ⊎ Walked costs cells corners x (getD (at k) x 0)

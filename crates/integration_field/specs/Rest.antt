@@ -1,8 +1,8 @@
 -- Waves come to rest: each wave that changes a cell lowers the total of the values, so that one changes none. The definition of the
 -- built field leans on this, and on nothing else, to be a total function; how soon waves come to rest is `proofs/Least.antt`.
 -- Assumes nothing.
-use mathlib.Core.Path.{_≡_, refl, sym, ap, _∙_}
-use mathlib.Core.Bool.{Bool, true, false, cond, _&&_, true≢false}
+use mathlib.Core.Path.{_≡_, refl, ap, _∙_}
+use mathlib.Core.Bool.{Bool, true, false, cond, and-eq-true-iff}
 use mathlib.Core.Logic.{_⊎_, inl, inr}
 use mathlib.Core.List.{List, [], _∷_}
 use Prim.Native.Nat.{ℕ, zero, suc, _+_, _≤_, _<_}
@@ -44,16 +44,12 @@ set-lower [] x s h = absurd (omega arith)
 set-lower (w ∷ ws) zero s h = omega arith
 set-lower (w ∷ ws) (suc x) s h = omega (arith, set-lower ws x s h)
 
-pub and-true : (a b : Bool) → (a && b) ≡ true → (a ≡ true) × (b ≡ true)
-and-true true b e = (refl, e)
-and-true false b e = absurd (true≢false (sym e))
-
 relaxed-lowered : (s x : ℕ) (cells : List ℕ) → Lowered cells (relaxed s x cells)
 unfolding relaxed
 relaxed-lowered s x cells = go (isWritten (getD cells x 0) s) refl
   where
     go : (b : Bool) → isWritten (getD cells x 0) s ≡ b → Lowered cells (cond b (set cells x s) cells)
-    go true e = inr (set-lower cells x s (ltb-true s (low (getD cells x 0)) (and-true (isOpen (getD cells x 0)) _ e .1)))
+    go true e = inr (set-lower cells x s (ltb-true s (low (getD cells x 0)) (and-eq-true-iff (isOpen (getD cells x 0)) _ .0 e .1)))
     go false e = inl refl
 
 module _ (costs : List ℕ) where

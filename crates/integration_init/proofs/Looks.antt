@@ -3,7 +3,6 @@
 --     wall-held               a wall met
 --     seen-room, seen-held    a cell that comes into sight
 --     wave-step, wave-end     a wave, from the cell at place i on
---     step-told               where a step from an index arrives
 --     open-cell               a cell that is no wall is the cell stepped to
 -- Assumes nothing.
 use mathlib.Core.Path.{_≡_, refl, sym, ap, _∙_}
@@ -14,12 +13,11 @@ use native.Mathlib.Numerals.{add-one}
 use native.Mathlib.Omega.{arith}
 use lib.ListN.{length, getD, set, take, length-append, length-set}
 use lib.Seq.{slice, slice-cons, slice-empty, take-suc-set}
-use Rattle.utilities.specs.declared.CompassDir.{CompassDir}
 use Rattle.utilities.specs.Compass.{orthogonal}
 use Rattle.fields.specs.declared.FieldCell.{FieldCell}
 use Rattle.fields.specs.declared.Stepped.{Stepped}
 use Rattle.fields.specs.declared.Stepped.the-variants.{Cell, Outside}
-use Rattle.fields.specs.Cell.{cellAt, indexOf, stepped}
+use Rattle.fields.specs.Cell.{indexOf}
 use Rattle.integration_field.specs.Word.{isLos, isBlocked}
 use Rattle.integration_field.specs.Diagonal.{wallAt}
 use Rattle.started_field.specs.Sight.{Sight, sightWord, unlessWall, seen, lookedAround, waveLooked}
@@ -70,9 +68,6 @@ module _ (line : ℕ → List ℕ) (wave : ℕ) (cells : List ℕ) (count : ℕ)
   pub wave-end : (s : Sight) → waveLooked line wave (slice count count cells) s ≡ s
   unfolding waveLooked
   wave-end s = ap (λ (l : List ℕ). waveLooked line wave l s) (slice-empty count cells)
-
-pub step-told : (from : ℕ) (d : CompassDir) (c : FieldCell) (t u : Stepped) → c ≡ cellAt from → t ≡ stepped c d → t ≡ u → stepped (cellAt from) d ≡ u
-step-told from d c t u e f g = ap (λ (x : FieldCell). stepped x d) (sym e) ∙ sym f ∙ g
 
 no-wall : (t : Bool) (m n : FieldCell) → cond t Outside (Cell m) ≡ Cell n → Cell m ≡ Cell n
 no-wall true m n e = let z : _≡_ {A = ℕ} 0 1 = cc in absurd (omega arith)

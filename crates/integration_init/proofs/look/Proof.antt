@@ -1,18 +1,17 @@
 -- `integration_init::look` meets its contract: the neighbour is where a step arrives.
 -- Assumes nothing.
-use mathlib.Core.Path.{_≡_, _∙_}
-use native.Mathlib.Omega.{arith}
+use mathlib.Core.Path.{_≡_}
+use Prim.Native.Nat.{_<_}
 use borrow.Author.Needs.{needs}
 use Rattle.fields.specs.declared.Stepped.the-variants.{Cell, Outside}
-use Rattle.fields.specs.Cell.{Inside, stepped, cellAt, indexOf}
-use Rattle.fields.proofs.Steps.{stepped-cell, index-inside, index-below}
-use Rattle.integration_init.proofs.Looks.{step-told}
+use Rattle.fields.specs.Cell.{stepped, cellAt, indexOf}
+use Rattle.fields.proofs.Steps.{stepped-cell, step-told, index-told}
 use Rattle.integration_init.proofs.look.Statement.{statement}
 use Rattle.integration_init.proofs.look.Tie as tie
 
 returns : tie.Need-returns
 returns c = let s = c .before .before .before .before in
-    let e : stepped (cellAt (s .args .from)) (s .args .dir) ≡ Outside = step-told _ _ _ _ _ (c .before .before .before .from-index .ensures) (c .before .before .get-in-compass-direction .ensures) (c .enum-told .given .1) in
+    let e : stepped (cellAt (s .args .from)) (s .args .dir) ≡ Outside = step-told _ _ (c .before .before .before .from-index .ensures) (c .before .before .get-in-compass-direction .ensures) (c .enum-told .given .1) in
     rw e (s .pre .0)
 
 -- what the function is given
@@ -20,20 +19,17 @@ abbrev start : tie.After-known-told → tie.Start
 start c = c .before .before .before .before .before
 
 arrives : (c : tie.After-known-told) → stepped (cellAt (start c .args .from)) (start c .args .dir) ≡ Cell (c .before .neighbour .given .0 .0)
-arrives c = step-told _ _ _ _ _ (c .before .before .before .before .from-index .ensures) (c .before .before .before .get-in-compass-direction .ensures) (c .before .neighbour .given .1)
+arrives c = step-told _ _ (c .before .before .before .before .from-index .ensures) (c .before .before .before .get-in-compass-direction .ensures) (c .before .neighbour .given .1)
 
-inside : (c : tie.After-known-told) → Inside (c .before .neighbour .given .0 .0)
-inside c = stepped-cell _ _ _ (arrives c) .within
-
-index : (c : tie.After-as-1d-index) → c .as-1d-index .result ≡ indexOf (c .before .before .neighbour .given .0 .0)
-index c = c .as-1d-index .ensures ∙ index-inside 100 (c .before .before .neighbour .given .0 .0) (inside (c .before))
+index : (c : tie.After-as-1d-index) → let i = c .as-1d-index .result in (i ≡ indexOf (c .before .before .neighbour .given .0 .0)) × (i < 100)
+index c = index-told (stepped-cell _ _ _ (arrives (c .before)) .within) (c .as-1d-index .ensures)
 
 look-at-requires : tie.Need-look-at-requires
 look-at-requires c κs = let s = c .before .before .before .before .before .before .before .before .before in
-    (s .pre .0, (s .pre .1, omega (arith, index (c .before .before .before), index-below (c .before .before .before .before .before .neighbour .given .0 .0) (inside (c .before .before .before .before)))))
+    (s .pre .0, (s .pre .1, index (c .before .before .before) .1))
 
 returns-2 : tie.Need-returns-2
-returns-2 c = rw (arrives (c .before .before .before .before .before), ← index (c .before .before .before .before)) (c .look-at .ensures)
+returns-2 c = rw (arrives (c .before .before .before .before .before), ← index (c .before .before .before .before) .0) (c .look-at .ensures)
 
 pub look-spec : {M : Type 1} → statement M
 look-spec = tie.close (tie.spec

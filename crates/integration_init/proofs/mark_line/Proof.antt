@@ -7,7 +7,7 @@ use borrow.Author.Needs.{needs}
 use denote.Ref.{now}
 use lib.ListN.{length, getD}
 use Rattle.fields.specs.Cell.{Inside, cell, indexOf}
-use Rattle.fields.proofs.Steps.{index-inside, index-below}
+use Rattle.fields.proofs.Steps.{index-told}
 use Rattle.integration_init.proofs.Lines.{Walking, walk-starts, walk-goes, walk-stops, walk-ends}
 use Rattle.integration_init.proofs.mark_line.Statement.{statement}
 use Rattle.integration_init.proofs.mark_line.Tie as tie
@@ -29,23 +29,20 @@ long c = omega (arith, c .pre .1 .0 .full, c .pre .1 .0 .count-in)
 inside : (c : tie.After-as-1d-index Inv-loop μ-loop) → Inside (getD (c .before .before .before .before .before .args .line .cells) (c .before .before .before .loop .i) (cell 0 0))
 inside c = c .before .before .before .before .before .pre .1 .0 .cells-in (c .before .before .before .loop .i) (c .before .before .loop-test .taken)
 
-index : (c : tie.After-as-1d-index Inv-loop μ-loop) → c .as-1d-index .result ≡ indexOf (getD (c .before .before .before .before .before .args .line .cells) (c .before .before .before .loop .i) (cell 0 0))
-index c = c .as-1d-index .ensures ∙ index-inside 100 (getD (c .before .before .before .before .before .args .line .cells) (c .before .before .before .loop .i) (cell 0 0)) (inside c)
-
-below : (c : tie.After-as-1d-index Inv-loop μ-loop) → c .as-1d-index .result < 100
-below c = omega (arith, index c, index-below _ (inside c))
+index : (c : tie.After-as-1d-index Inv-loop μ-loop) → let i = c .as-1d-index .result in (i ≡ indexOf (getD (c .before .before .before .before .before .args .line .cells) (c .before .before .before .loop .i) (cell 0 0))) × (i < 100)
+index c = index-told (inside c) (c .as-1d-index .ensures)
 
 is-stopped-requires : tie.Need-is-stopped-requires Inv-loop μ-loop
-is-stopped-requires c κs = (c .before .before .before .before .loop .inv .entered, below (c .before))
+is-stopped-requires c κs = (c .before .before .before .before .loop .inv .entered, index (c .before) .1)
 
 returns : tie.Need-returns Inv-loop μ-loop
 returns c =
-    walk-stops (c .before .before .before .before .before .before .loop .inv) (long (c .before .before .before .before .before .before .before .before)) (c .before .before .before .as-1d-index .result) (c .before .before .before .before .before .loop-test .taken) (index (c .before .before .before))
+    walk-stops (c .before .before .before .before .before .before .loop .inv) (long (c .before .before .before .before .before .before .before .before)) (c .before .before .before .as-1d-index .result) (c .before .before .before .before .before .loop-test .taken) (index (c .before .before .before) .0)
     (sym (c .before .is-stopped .ensures) ∙ c .if1 .taken)
 
 mark-requires : tie.Need-mark-requires Inv-loop μ-loop
 mark-requires c κs = let s = c .before .before .before .before .before .before .before .before .before .before in let v = c .before .before .before .before .before .before .before .before .loop .inv in
-    (v .ready, (below (c .before .before .before .before .before), omega (arith, v .next, s .pre .1 .1 .1, c .before .before .before .before .before .before .before .loop-test .taken, s .pre .1 .0 .count-in)))
+    (v .ready, (index (c .before .before .before .before .before) .1, omega (arith, v .next, s .pre .1 .1 .1, c .before .before .before .before .before .before .before .loop-test .taken, s .pre .1 .0 .count-in)))
 
 add-value-2 : tie.Need-add-value-2 Inv-loop μ-loop
 add-value-2 c = let s = c .before .before .before .before .before .before .before .before .before .before .before in
@@ -59,8 +56,8 @@ loop-less c = omega (arith, c .before .before .before .before .before .before .b
 
 loop-again : tie.Need-loop-again Inv-loop μ-loop
 loop-again c =
-    walk-goes (c .before .before .before .before .before .before .before .before .before .loop .inv) (long (c .before .before .before .before .before .before .before .before .before .before .before)) (c .before .before .before .before .before .before .as-1d-index .result) (c .before .before .before .before .before .before .before .before .loop-test .taken) (index (c .before .before .before .before .before .before))
-    (below (c .before .before .before .before .before .before)) (sym (c .before .before .before .before .is-stopped .ensures) ∙ c .before .before .before .if1 .left) (c .mark .ensures)
+    walk-goes (c .before .before .before .before .before .before .before .before .before .loop .inv) (long (c .before .before .before .before .before .before .before .before .before .before .before)) (c .before .before .before .before .before .before .as-1d-index .result) (c .before .before .before .before .before .before .before .before .loop-test .taken) (index (c .before .before .before .before .before .before) .0)
+    (index (c .before .before .before .before .before .before) .1) (sym (c .before .before .before .before .is-stopped .ensures) ∙ c .before .before .before .if1 .left) (c .mark .ensures)
 
 pub mark-line-spec : {M : Type 1} → statement M
 mark-line-spec = tie.close (tie.spec

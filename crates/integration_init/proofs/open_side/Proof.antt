@@ -1,18 +1,17 @@
 -- `integration_init::open_side` meets its contract: the side cell is where a step arrives.
 -- Assumes nothing.
 use mathlib.Core.Path.{_≡_, sym, _∙_}
-use native.Mathlib.Omega.{arith}
+use Prim.Native.Nat.{_<_}
 use borrow.Author.Needs.{needs}
 use Rattle.fields.specs.declared.Stepped.the-variants.{Cell, Outside}
 use Rattle.fields.specs.Cell.{stepped, cellAt, indexOf}
-use Rattle.fields.proofs.Steps.{stepped-cell, index-inside, index-below}
-use Rattle.integration_init.proofs.Looks.{step-told}
+use Rattle.fields.proofs.Steps.{stepped-cell, step-told, index-told}
 use Rattle.integration_init.proofs.open_side.Statement.{statement}
 use Rattle.integration_init.proofs.open_side.Tie as tie
 
 returns : tie.Need-returns
 returns c = let a = c .before .before .before .before .args in
-    let e : stepped (cellAt (a .from)) (a .side) ≡ Outside = step-told _ _ _ _ _ (c .before .before .before .from-index .ensures) (c .before .before .get-in-compass-direction .ensures) (c .enum-told .given .1) in
+    let e : stepped (cellAt (a .from)) (a .side) ≡ Outside = step-told _ _ (c .before .before .before .from-index .ensures) (c .before .before .get-in-compass-direction .ensures) (c .enum-told .given .1) in
     rw e
 
 -- what the function is given
@@ -20,19 +19,19 @@ abbrev start : tie.After-known-told → tie.Start
 start c = c .before .before .before .before .before
 
 arrives : (c : tie.After-known-told) → stepped (cellAt (start c .args .from)) (start c .args .side) ≡ Cell (c .before .n .given .0 .0)
-arrives c = step-told _ _ _ _ _ (c .before .before .before .before .from-index .ensures) (c .before .before .before .get-in-compass-direction .ensures) (c .before .n .given .1)
+arrives c = step-told _ _ (c .before .before .before .before .from-index .ensures) (c .before .before .before .get-in-compass-direction .ensures) (c .before .n .given .1)
 
-index : (c : tie.After-as-1d-index) → c .as-1d-index .result ≡ indexOf (c .before .before .n .given .0 .0)
-index c = c .as-1d-index .ensures ∙ index-inside 100 (c .before .before .n .given .0 .0) (stepped-cell _ _ _ (arrives (c .before)) .within)
+index : (c : tie.After-as-1d-index) → let i = c .as-1d-index .result in (i ≡ indexOf (c .before .before .n .given .0 .0)) × (i < 100)
+index c = index-told (stepped-cell _ _ _ (arrives (c .before)) .within) (c .as-1d-index .ensures)
 
 is-wall-at-requires : tie.Need-is-wall-at-requires
-is-wall-at-requires c κs = omega (arith, index c, index-below (c .before .before .n .given .0 .0) (stepped-cell _ _ _ (arrives (c .before)) .within))
+is-wall-at-requires c κs = index c .1
 
 returns-2 : tie.Need-returns-2
-returns-2 c = rw (arrives (c .before .before .before), ← index (c .before .before), sym (c .before .is-wall-at .ensures) ∙ c .if1 .taken)
+returns-2 c = rw (arrives (c .before .before .before), ← index (c .before .before) .0, sym (c .before .is-wall-at .ensures) ∙ c .if1 .taken)
 
 returns-3 : tie.Need-returns-3
-returns-3 c = rw (arrives (c .before .before .before), ← index (c .before .before), sym (c .before .is-wall-at .ensures) ∙ c .if1 .left)
+returns-3 c = rw (arrives (c .before .before .before), ← index (c .before .before) .0, sym (c .before .is-wall-at .ensures) ∙ c .if1 .left)
 
 pub open-side-spec : {M : Type 1} → statement M
 open-side-spec = tie.close (tie.spec

@@ -1,12 +1,12 @@
 -- `integration_init::try_side` meets its contract: both side cells are taken apart, and the corner is the cell beside the wall.
 -- Assumes nothing.
 use mathlib.Core.Path.{_≡_, sym, _∙_}
-use native.Mathlib.Omega.{arith}
+use Prim.Native.Nat.{_<_}
 use borrow.Author.Needs.{needs}
 use denote.Ref.{now}
 use Rattle.fields.specs.declared.Stepped.the-variants.{Cell, Outside}
 use Rattle.fields.specs.Cell.{Inside, stepped, cellAt, indexOf}
-use Rattle.fields.proofs.Steps.{stepped-cell, index-inside, index-below}
+use Rattle.fields.proofs.Steps.{stepped-cell, index-told}
 use Rattle.started_field.specs.Sight.{unlessWall, sideTried}
 use Rattle.integration_init.proofs.Held.{applied-still}
 use Rattle.integration_init.proofs.Looks.{open-cell}
@@ -36,19 +36,19 @@ found c = sym (c .before .before .before .open-side2 .ensures) ∙ c .before .co
 inside : (c : tie.After-known-told) → Inside (c .before .corner .given .0 .0)
 inside c = let a = start c .args in stepped-cell _ _ _ (open-cell (now (a .cells)) (stepped (cellAt (a .wall)) (a .side)) _ (found c)) .within
 
-index : (c : tie.After-as-1d-index) → c .as-1d-index .result ≡ indexOf (c .before .before .corner .given .0 .0)
-index c = c .as-1d-index .ensures ∙ index-inside 100 (c .before .before .corner .given .0 .0) (inside (c .before))
+index : (c : tie.After-as-1d-index) → let i = c .as-1d-index .result in (i ≡ indexOf (c .before .before .corner .given .0 .0)) × (i < 100)
+index c = index-told (inside (c .before)) (c .as-1d-index .ensures)
 
 extend-los-corner-requires : tie.Need-extend-los-corner-requires
 extend-los-corner-requires c κs =
     let s = c .before .before .before .before .before .before .before .before .before .before .before .before in
-    (s .pre .0, record { wave-in = s .pre .1 .0 .wave-in; goal-in = s .pre .1 .0 .goal-in; from-in = omega (arith, index (c .before .before), index-below (c .before .before .before .before .corner .given .0 .0) (inside (c .before .before .before))) })
+    (s .pre .0, record { wave-in = s .pre .1 .0 .wave-in; goal-in = s .pre .1 .0 .goal-in; from-in = index (c .before .before) .1 })
 
 returns-3 : tie.Need-returns-3
 unfolding sideTried
 returns-3 c = let a = c .before .before .before .before .before .before .before .before .before .before .before .before .before .args in
     let e : unlessWall (now (a .cells)) (stepped (cellAt (a .from)) (a .side)) ≡ Cell _ = sym (c .before .before .before .before .before .before .before .before .before .before .before .open-side .ensures) ∙ c .before .before .before .before .before .before .before .before .before .enum-told .given .1 in
-    rw (e, found (c .before .before .before .before), ← index (c .before .before .before)) (c .extend-los-corner .ensures)
+    rw (e, found (c .before .before .before .before), ← index (c .before .before .before) .0) (c .extend-los-corner .ensures)
 
 pub try-side-spec : {M : Type 1} → statement M
 try-side-spec = tie.close (tie.spec
