@@ -1,10 +1,10 @@
 -- What is promised of a leg, of whatever equals the definitions.
---     ready-floor      every step of a leg that is not refused names a sector of the floor
 --     leg-planned      each part of the sheet, and demand 3 for every sector that is written
 --     refuses, plans   all that is promised of a number and a sheet
 -- Assumes nothing.
 use mathlib.Core.Path.{_≡_, sym, ap, subst, _∙_}
-use mathlib.Core.List.{List}
+use mathlib.Core.Bool.{false}
+use mathlib.Core.List.{List, []}
 use Prim.Native.Nat.{ℕ, _/_, _<_}
 use native.Mathlib.Omega.{arith}
 use lib.ListN.{length, length-take, length-drop}
@@ -20,7 +20,7 @@ use Rattle.leg.specs.Plan.{LegReady}
 use Rattle.leg.specs.Promise.{stepOf, sectorAt, hasBefore, costsAt, builtAt, builtBefore, LegPlanned}
 use Rattle.leg.proofs.Steps.{steps-count, step-of}
 use Rattle.leg.proofs.Numbers.{accepted}
-use Rattle.leg.proofs.Sheet.{InFloor, planned-length, kept, written}
+use Rattle.leg.proofs.Sheet.{Fits, full-after, kept, written}
 
 pub part-hundred : (l : List ℕ) (sector : ℕ) → length l ≡ 6400 → sector < 64 → length (part l sector) ≡ 100
 part-hundred l sector e h = simp (length-take, length-drop) (omega arith)
@@ -31,22 +31,23 @@ module _ (floor steps sheet : List ℕ) (ready : LegReady floor steps sheet) whe
       let g : k < length steps / 8 = omega (arith, steps-count steps) in
       ap stepNumber (step-of steps k g) ∙ ready .accepted k g
 
-  pub ready-floor : InFloor (stepsOf steps)
-  ready-floor k h = accepted-step (stepOf (stepsOf steps) k) (good k h) .sector-in
+  fits : Fits (stepsOf steps) sheet
+  fits = record { in-floor = λ k h. accepted-step (stepOf (stepsOf steps) k) (good k h) .sector-in; full = ready .sheet-full }
 
   pub leg-planned : LegPlanned floor (stepsOf steps) sheet (planned floor (stepsOf steps) sheet)
+  unfolding planned
   leg-planned =
-      let wrote = written floor (stepsOf steps) sheet ready-floor (ready .named-once) (ready .sheet-full) in
+      let wrote = written floor (stepsOf steps) fits (ready .named-once) in
       record {
         written = wrote;
-        kept = kept floor (stepsOf steps) sheet ready-floor (ready .named-once) (ready .sheet-full);
-        same-length = planned-length floor (stepsOf steps) sheet ready-floor (ready .named-once) (ready .sheet-full);
+        kept = kept floor (stepsOf steps) false [] fits;
+        same-length = full-after floor (stepsOf steps) false [] fits ∙ sym (ready .sheet-full);
         demand3 =
             λ k h.
             let costs = costsAt floor (stepsOf steps) k in
             let step = stepOf (stepsOf steps) k in
             subst (sector.Planned costs step (builtAt floor (stepsOf steps) k) (waveCount costs (started costs step))) (sym (wrote k h))
-            (sector-planned costs step (part-hundred floor (sectorAt (stepsOf steps) k) (ready .floor-full) (ready-floor k h)) (good k h) (hasBefore k) (builtBefore floor (stepsOf steps) k));
+            (sector-planned costs step (part-hundred floor (sectorAt (stepsOf steps) k) (ready .floor-full) (fits .in-floor k h)) (good k h) (hasBefore k) (builtBefore floor (stepsOf steps) k));
       }
 
 module _ (floor steps sheet : List ℕ) where

@@ -3,7 +3,7 @@
 --     plans-step       what the sector call leaves, lent the sector's part, is what planning the step leaves
 --     from-first, from-more    planning step after step: before the first, and a step more
 -- Assumes nothing.
-use mathlib.Core.Path.{_≡_, refl, sym, ap, _∙_}
+use mathlib.Core.Path.{_≡_, refl, ap, _∙_}
 use mathlib.Core.Bool.{Bool, true, false, not, _&&_}
 use mathlib.Core.List.{List, [], _++_}
 use Prim.Native.Nat.{ℕ, _+_, _*_, _/_, _<_}
@@ -16,11 +16,11 @@ use Rattle.route.specs.Step.{sectorOf}
 use Rattle.route.proofs.Accepted.{accepted-step}
 use Rattle.integration_field.specs.declared.BuildAnswer.{BuildAnswer}
 use Rattle.sector.specs.Sector.{sectorNumber, sectorAnswer, sectorSheet}
-use Rattle.leg.specs.Leg.{part, stepsOf, planned}
-use Rattle.leg.specs.Plan.{stepAt, StepReady, StepPlanned, LegReady}
+use Rattle.leg.specs.Leg.{part, stepsOf, plannedFrom, planned}
+use Rattle.leg.specs.Plan.{stepAt, StepReady, StepPlanned}
 use Rattle.leg.proofs.Steps.{stepsFrom, from-start, from-here}
-use Rattle.leg.proofs.Sheet.{planFrom, from-none, planned-from}
-use Rattle.leg.proofs.Planned.{part-hundred, ready-floor}
+use Rattle.leg.proofs.Sheet.{from-none}
+use Rattle.leg.proofs.Planned.{part-hundred}
 
 fits : (has : Bool) (previous : List ℕ) → (has ≡ true → length previous ≡ 100) → (has && not (eqb (length previous) 100)) ≡ false
 fits true previous h = rw (eq-eqb (length previous) 100 (h refl))
@@ -59,16 +59,13 @@ module _ {floor step : List ℕ} {has : Bool} {previous sheet : List ℕ} (ready
 -- ---- step after step
 
 -- before the first step, whatever stands in the place of a previous field
-pub from-first : {floor steps sheet : List ℕ} → LegReady floor steps sheet → (previous : List ℕ)
-    → planned floor (stepsOf steps) sheet ≡ planFrom floor (stepsFrom steps 0) (ltb 0 0) previous sheet
-from-first {floor} {steps} {sheet} ready previous =
-    planned-from floor (stepsOf steps) sheet (ready-floor floor steps sheet ready) (ready .named-once) (ready .sheet-full)
-    ∙ from-none floor (stepsOf steps) [] previous sheet
-    ∙ ap (λ (ss : List (List ℕ)). planFrom floor ss false previous sheet) (sym (from-start steps))
+pub from-first : (floor steps previous sheet : List ℕ) → planned floor (stepsOf steps) sheet ≡ plannedFrom floor (stepsFrom steps 0) (ltb 0 0) previous sheet
+unfolding planned
+from-first floor steps previous sheet = rw (from-start steps) (from-none floor (stepsOf steps) [] previous sheet)
 
 -- a step more is planned, lent as this part of the bytes
 pub from-more : (steps : List ℕ) (k : ℕ) → k < length steps / 8 → {step : List ℕ} → step ≡ stepAt steps k
-    → {floor : List ℕ} {has : Bool} {previous sheet built after : List ℕ} → StepPlanned floor step has previous sheet built after
-    → planFrom floor (stepsFrom steps k) has previous sheet ≡ planFrom floor (stepsFrom steps (k + 1)) (ltb 0 (k + 1)) built after
-unfolding planFrom
+    → {floor previous sheet built after : List ℕ} → StepPlanned floor step (ltb 0 k) previous sheet built after
+    → plannedFrom floor (stepsFrom steps k) (ltb 0 k) previous sheet ≡ plannedFrom floor (stepsFrom steps (k + 1)) (ltb 0 (k + 1)) built after
+unfolding plannedFrom
 from-more steps k h e p = rw (from-here steps k h, p .answered, p .wrote, e, lt-ltb 0 (k + 1) (omega arith))

@@ -2,12 +2,11 @@
 -- Assumes nothing.
 use mathlib.Core.Bool.{Bool, true, false, cond, not, _||_}
 use mathlib.Core.List.{List, [], _∷_, _++_}
-use Prim.Native.Nat.{ℕ, zero, suc, _*_, _/_, _%_}
+use Prim.Native.Nat.{ℕ, zero, suc, _+_, _*_, _/_, _%_}
 use lib.Dec.{eqb, ltb}
 use lib.ListN.{length, take, drop}
 use Rattle.route.specs.Table.{Row, row, firstNumber}
 use Rattle.route.specs.Step.{sectorOf, isWindow, boundaryOf, eachStep}
-use Rattle.route.specs.Window.{below}
 use Rattle.sectors.specs.declared.Across.{Across}
 use Rattle.sectors.specs.declared.Across.the-variants.{Sector, OffFloor}
 use Rattle.sectors.specs.Floor.{across}
@@ -80,22 +79,21 @@ legNumber floor steps sheet =
 
 -- ---- the sheet
 
--- A sector's part of the sheet: where a step names the sector, what the sector call gives for that sector's costs, that step, and as previous
--- field the built field of the step before (none for the first); else as it was. `has` and `previous` tell of the step before the list.
-unfoldable pub partAfter : List ℕ → List (List ℕ) → Bool → List ℕ → ℕ → List ℕ → List ℕ
-partAfter floor [] has previous sector old = old
-partAfter floor (s ∷ ss) has previous sector old =
-    cond (eqb (sectorOf s) sector) (sectorBytes (part floor sector) s has previous)
-    (partAfter floor ss true (sectorField (part floor (sectorOf s)) s .field) sector old)
+-- a sheet with other bytes as a sector's part
+abbrev pub withPart : List ℕ → ℕ → List ℕ → List ℕ
+withPart sheet sector bytes = take (sector * 100) sheet ++ (bytes ++ drop (sector * 100 + 100) sheet)
 
--- parts in the order of these sectors
-unfoldable pub partsAfter : List ℕ → List (List ℕ) → List ℕ → List ℕ → List ℕ
-partsAfter floor steps sheet [] = []
-partsAfter floor steps sheet (n ∷ ns) = partAfter floor steps false [] n (part sheet n) ++ partsAfter floor steps sheet ns
+-- The sheet after these steps: each runs the sector call, the built field of the step before serving as previous field, and writes its
+-- sector's own 100 bytes. `has` and `previous` tell of the step before the list.
+unfoldable pub plannedFrom : List ℕ → List (List ℕ) → Bool → List ℕ → List ℕ → List ℕ
+plannedFrom floor [] has previous sheet = sheet
+plannedFrom floor (s ∷ ss) has previous sheet =
+    plannedFrom floor ss true (sectorField (part floor (sectorOf s)) s .field)
+    (withPart sheet (sectorOf s) (sectorBytes (part floor (sectorOf s)) s has previous))
 
--- the sheet of a planned leg
+-- the sheet of a planned leg: the first step has no previous field
 unfoldable pub planned : List ℕ → List (List ℕ) → List ℕ → List ℕ
-planned floor steps sheet = partsAfter floor steps sheet (below 64)
+planned floor steps sheet = plannedFrom floor steps false [] sheet
 
 -- what a leg leaves of the sheet: a refusal writes nothing
 abbrev pub legSheet : List ℕ → List ℕ → List ℕ → List ℕ

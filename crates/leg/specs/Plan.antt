@@ -2,20 +2,16 @@
 -- Assumes nothing.
 use mathlib.Core.Path.{_≡_}
 use mathlib.Core.Bool.{Bool, true, false}
-use mathlib.Core.List.{List, _++_}
-use Prim.Native.Nat.{ℕ, _+_, _*_, _/_, _<_}
+use mathlib.Core.List.{List}
+use Prim.Native.Nat.{ℕ, _*_, _/_, _<_}
 use lib.ListN.{length, take, drop}
 use Rattle.route.specs.Step.{sectorOf, stepNumber}
 use Rattle.sector.specs.Sector.{sectorField, sectorBytes}
-use Rattle.leg.specs.Leg.{part, stepsOf, namesTwice}
+use Rattle.leg.specs.Leg.{part, stepsOf, namesTwice, withPart}
 
 -- the step at place k of a list of bytes
 abbrev pub stepAt : List ℕ → ℕ → List ℕ
 stepAt steps k = take 8 (drop (k * 8) steps)
-
--- a sheet with other bytes as a sector's part
-abbrev pub withPart : List ℕ → ℕ → List ℕ → List ℕ
-withPart sheet sector bytes = take (sector * 100) sheet ++ (bytes ++ drop (sector * 100 + 100) sheet)
 
 -- a step that the sector call takes, on a floor and a sheet of 64 sectors
 pub record StepReady (floor step : List ℕ) (has : Bool) (previous sheet : List ℕ) : Type 0 where

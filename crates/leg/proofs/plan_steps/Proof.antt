@@ -9,9 +9,8 @@ use lib.ListN.{length}
 use lib.Dec.{ltb}
 use borrow.Author.Needs.{needs}
 use Rattle.route.specs.Step.{stepNumber}
-use Rattle.leg.specs.Leg.{stepsOf, planned}
+use Rattle.leg.specs.Leg.{stepsOf, plannedFrom, planned}
 use Rattle.leg.proofs.Steps.{stepsFrom, from-done, lent-step}
-use Rattle.leg.proofs.Sheet.{planFrom}
 use Rattle.leg.proofs.Step.{from-first, from-more}
 use Rattle.leg.proofs.plan_steps.Statement.{statement}
 use Rattle.leg.proofs.plan_steps.Tie as tie
@@ -20,7 +19,7 @@ abbrev Inv-loop : tie.InvT-loop
 Inv-loop floor steps sheet₀ count previous₀ k₀ sheet previous k =
     (k ≤ length steps / 8)
     × ((length sheet ≡ 6400)
-    × ((length previous ≡ 100) × (planned floor (stepsOf steps) sheet₀ ≡ planFrom floor (stepsFrom steps k) (ltb 0 k) previous sheet)))
+    × ((length previous ≡ 100) × (planned floor (stepsOf steps) sheet₀ ≡ plannedFrom floor (stepsFrom steps k) (ltb 0 k) previous sheet)))
 
 abbrev μ-loop : tie.MeasureT-loop
 μ-loop floor steps sheet₀ count previous₀ k₀ sheet previous k = length steps / 8 - k
@@ -28,7 +27,7 @@ abbrev μ-loop : tie.MeasureT-loop
 loop-holds : tie.Need-loop-holds Inv-loop μ-loop
 loop-holds c =
     let start = c .before .before .before in
-    (omega arith, (start .pre .sheet-full, (search needs, from-first (start .pre) _)))
+    (omega arith, (start .pre .sheet-full, (search needs, from-first (now (start .args .floor)) (now (start .args .steps)) _ (now (start .args .sheet)))))
 
 mul-at : tie.Need-mul-at Inv-loop μ-loop
 mul-at c = omega arith
@@ -84,7 +83,7 @@ same-length : tie.Need-same-length Inv-loop μ-loop
 same-length c = omega arith
 
 returns : tie.Need-returns Inv-loop μ-loop
-unfolding planFrom
+unfolding plannedFrom
 returns c = search (c .before .loop .inv .1 .1 .1, from-done)
 
 pub plan-steps-spec : {M : Type 1} → statement M
