@@ -48,10 +48,10 @@
  *     13  a column or row outside 0 to 9
  * In a leg 4 to 8 are judged for one step before the next.
  *
- * Time and stack.  Every call ends, on all input. Each wave is one call on the stack, of 5,728 bytes in the compiled
- * archive; there are at most 101 at a time, so that a leg stays below 600,000 bytes. Deepest stack measured: 354,472
+ * Time and stack.  Every call ends, on all input. Each wave is one call on the stack, of 1,280 bytes in the compiled
+ * archive; there are at most 101 at a time, so that a leg stays below 150,000 bytes. Deepest stack measured: 87,960
  * bytes, in legs of sixteen steps over floors searched for many waves (59 in the worst sector), on a painted stack
- * (tools/stack/stack.c). Give a thread that calls sector, leg, init or build 1 MB.
+ * (tools/stack/stack.c). Give a thread that calls sector, leg, init or build 256 KB.
  */
 #ifndef HANJOLUM_H
 #define HANJOLUM_H
