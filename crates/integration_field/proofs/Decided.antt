@@ -1,6 +1,7 @@
 -- The promises leave no choice.
 --     walks-decide    two fields with the least walks of the same cells are equal
 --     waves-decide    two counts of the same waves are equal
+--     values-decide   whatever are waves of these cells leave what the counted ones leave
 -- Assumes nothing.
 use mathlib.Core.Path.{_≡_, sym, ap, _∙_}
 use mathlib.Core.Logic.{_⊎_, inl, inr}
@@ -9,8 +10,11 @@ use Prim.Native.Nat.{ℕ, zero, suc, _≤_}
 use native.Mathlib.Omega.{arith}
 use lib.ListN.{length, getD}
 use lib.Seq.{ext-getD}
+use Rattle.waves.specs.Waves.{Waves}
+use Rattle.waves.proofs.Decided.{waves-decide-values}
 use Rattle.integration_field.specs.Word.{low}
-use Rattle.integration_field.specs.Promise.{Walked, LeastWalks, Counted}
+use Rattle.integration_field.specs.Walks.{grid}
+use Rattle.integration_field.specs.Promise.{Walked, LeastWalks, valueAt, OpenAt, Counted}
 
 module _ (costs cells corners : List ℕ) where
   module _ (a b : List ℕ) (p : LeastWalks costs cells corners a) (q : LeastWalks costs cells corners b) where
@@ -41,3 +45,7 @@ module _ (costs cells corners : List ℕ) where
 
   pub waves-decide : (a b : List ℕ) (n m : ℕ) → Counted costs cells corners a n → Counted costs cells corners b m → n ≡ m
   waves-decide a b n m p q = omega (arith, no-more a b n m p q, no-more b a m n q p)
+
+  pub values-decide : (a : List ℕ) (n : ℕ) (u : ℕ → ℕ → ℕ) → Counted costs cells corners a n → Waves (grid costs cells corners) (OpenAt costs cells corners) u
+      → (k x : ℕ) → u k x ≡ valueAt costs cells corners k x
+  values-decide a n u p w = waves-decide-values (grid costs cells corners) (OpenAt costs cells corners) u (valueAt costs cells corners) w (p .are-waves)

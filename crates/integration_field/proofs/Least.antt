@@ -24,7 +24,7 @@ use Rattle.integration_field.specs.Wave.{changedFrom, Wave, next, waveAt
 use Rattle.integration_field.specs.Rest.{Rests}
 use Rattle.integration_field.specs.Build.{isEmpty, build}
 use Rattle.integration_field.specs.Walks.{grid, MayEnter, Permitted}
-use Rattle.integration_field.specs.Promise.{Walked, LeastWalks, Changes, Counted}
+use Rattle.integration_field.specs.Promise.{Walked, LeastWalks, valueAt, OpenAt, Changes, Counted}
 use Rattle.integration_field.proofs.Neighbours.{neighbour-beside, beside-neighbour}
 use Rattle.integration_field.proofs.Offers.{Held, kept, written, held-le, held-open, Made, Offer, offers-made, offers-taken, differs-changed, changed-differs}
 use Rattle.integration_field.proofs.Settled.{Settled, settled, next-wave}
@@ -54,12 +54,11 @@ module _ (costs cells corners : List ℕ) where
   abbrev changed : ℕ → List ℕ
   changed k = waveAt costs cells corners k .changed
 
-  -- what wave k leaves at x
-  abbrev pub value : ℕ → ℕ → ℕ
-  value k x = low (getD (at k) x 0)
+  abbrev value : ℕ → ℕ → ℕ
+  value = valueAt costs cells corners
 
-  abbrev pub Open : ℕ → Type 0
-  Open x = isOpen (getD cells x 0) ≡ true
+  abbrev Open : ℕ → Type 0
+  Open = OpenAt costs cells corners
 
   abbrev pub Fell : ℕ → ℕ → Type 0
   Fell = Changed (grid costs cells corners) Open value
@@ -244,6 +243,7 @@ module _ (costs cells corners : List ℕ) where
 
     pub waves-counted : Counted costs cells corners (build costs cells corners .cells) n
     waves-counted = rw built-at (record {
+      are-waves = waves;
       exact = exact;
       at-most = (let h : n < 100 = few (grid costs cells corners) Open value waves 100 fell-inside n (omega arith) ends in omega arith);
       settled = λ k l. (let e : (k - n) + n ≡ k = omega arith in rw e at (rests (k - n)));

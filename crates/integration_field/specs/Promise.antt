@@ -6,9 +6,10 @@ use mathlib.Core.Logic.{_⊎_, _↔_}
 use mathlib.Core.List.{List}
 use Prim.Native.Nat.{ℕ, zero, suc, _≤_, _<_}
 use lib.ListN.{getD}
-use Rattle.integration_field.specs.Word.{low, isLos, isImpassable}
+use Rattle.waves.specs.Waves.{Waves}
+use Rattle.integration_field.specs.Word.{low, isOpen, isLos, isImpassable}
 use Rattle.integration_field.specs.Wave.{waveAt}
-use Rattle.integration_field.specs.Walks.{Permitted}
+use Rattle.integration_field.specs.Walks.{grid, Permitted}
 
 module _ (costs cells corners : List ℕ) where
   -- cell x now holds, without flags, the sum of a permitted walk into it that is below its value before
@@ -27,6 +28,13 @@ module _ (costs cells corners : List ℕ) where
     pub walls-stay : (x : ℕ) → isImpassable (getD cells x 0) ≡ true → getD built x 0 ≡ getD cells x 0
     pub sight-stays : (x : ℕ) → isLos (getD cells x 0) ≡ true → getD built x 0 ≡ getD cells x 0
 
+  -- what wave k leaves in cell x, and the cells that take offers
+  abbrev pub valueAt : ℕ → ℕ → ℕ
+  valueAt k x = low (getD (waveAt costs cells corners k .cells) x 0)
+
+  abbrev pub OpenAt : ℕ → Type 0
+  OpenAt x = isOpen (getD cells x 0) ≡ true
+
   -- wave k changes a cell; wave 0 changes none
   abbrev pub Changes : ℕ → Type 0
   Changes zero = ⊥
@@ -34,6 +42,8 @@ module _ (costs cells corners : List ℕ) where
 
   -- the waves, counted: `waves` is the count, `built` the cells after building
   pub record Counted (built : List ℕ) (waves : ℕ) : Type 0 where
+    -- they are waves: each cell that the wave before changed offers what that wave left it, and nothing else changes a cell
+    pub are-waves : Waves (grid costs cells corners) OpenAt valueAt
     -- wave k changes a cell if and only if k is at least 1 and at most the count
     pub exact : (k : ℕ) → Changes k ↔ ((1 ≤ k) × (k ≤ waves))
     -- no 100th wave changes a cell

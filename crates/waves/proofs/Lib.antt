@@ -1,3 +1,4 @@
 pub mod Count
 pub mod Least
 pub mod End
+pub mod Decided
