@@ -1,7 +1,8 @@
 /*
  * Hanjolum: integration fields and flow fields of a sector, and legs over several sectors.
  *
- * Link libhanjolum.a (x86-64; it needs memcpy, memmove and memset, and nothing else).
+ * Link libhanjolum.a: an ELF archive for x86-64 with System V calls (Linux, the BSDs). It needs memcpy and memset, and
+ * nothing else.
  *
  * Memory.  All memory is the caller's and is lent for the time of the call: no pointer is kept, nothing is allocated,
  * there are no globals. Every function may be called from several threads at once, each with a sheet of its own.
@@ -9,8 +10,8 @@
  * A sheet must not overlap any other argument.
  *
  * Slices.  A pointer and behind it its length, in elements. A length other than the one that a function asks for is
- * refused, never read past; that of previous is judged only with has_previous. Where the length is 0 the pointer may be
- * anything, NULL too. Pointers are aligned as in C.
+ * refused, never read past; that of previous is judged only with has_previous, and without it previous may be NULL. Where
+ * a length is 0 its pointer may be anything, NULL too. Pointers are aligned as in C.
  *
  * Fields and answers pass by value: a field is 1,208 bytes, and the compiler copies it to the stack. Padding between the
  * parts of an answer is not set: compare its parts, not its bytes.
@@ -49,9 +50,8 @@
  * In a leg 4 to 8 are judged for one step before the next.
  *
  * Time and stack.  Every call ends, on all input. Each wave is one call on the stack, of 1,280 bytes in the compiled
- * archive; there are at most 101 at a time, so that a leg stays below 150,000 bytes. Deepest stack measured: 87,960
- * bytes, in legs of sixteen steps over floors searched for many waves (59 in the worst sector), on a painted stack
- * (tools/stack/stack.c). Give a thread that calls sector, leg, init or build 256 KB.
+ * archive, and there are at most 101 at a time: no call needs as much as 150,000 bytes (read off the archive, not proved).
+ * Give a thread that calls sector, leg, init or build 256 KB.
  */
 #ifndef HANJOLUM_H
 #define HANJOLUM_H
@@ -60,8 +60,8 @@
 #include <stddef.h>
 #include <stdint.h>
 
-#if SIZE_MAX != UINT64_MAX
-#error "libhanjolum.a is for x86-64: size_t has 64 bits there"
+#if !defined(__x86_64__) || !defined(__ELF__) || SIZE_MAX != UINT64_MAX
+#error "libhanjolum.a is an ELF archive for x86-64 with System V calls"
 #endif
 
 #ifdef __cplusplus
@@ -147,9 +147,9 @@ typedef struct {
 /*
  * Plans one sector: starts the field of a step on 100 cost bytes, builds it, and writes its 100 flow bytes to the sheet,
  * whatever they were before. Answers the built field and its wave count.
- * With has_previous, previous is the 100 cells of the built field of the sector across the window; each cell of a window
- * of two or more then points at the cheapest of the two or three cells that it faces, straight across where that is no
- * dearer. Without, previous is not read, and each window cell points straight across the boundary, as a window of one
+ * With has_previous, previous is the 100 cells of the built field of the sector across the window, of which only the low
+ * 16 bits count; each cell of a window of two or more then points at the cheapest of the two or three cells that it
+ * faces, straight across where that is no dearer. Without, previous is not read, and each window cell points straight across the boundary, as a window of one
  * cell always does.
  * With a window, and no cost of 0, the arrows lead from every reached cell into the window in at most 99 moves, over no
  * wall and between no two walls. With a goal that is not promised: behind a wall two arrows may point at each other.
@@ -224,9 +224,9 @@ HanjolumLine hanjolum_line(size_t source_column, size_t source_row, size_t targe
 HanjolumLineEnd hanjolum_line_end(size_t corner_column, size_t corner_row, size_t goal_column, size_t goal_row);
 
 /*
- * The readers of a flow byte, for any byte. In the sector of a goal a cell beside one that nothing reaches may hold 0xF0
- * plus a direction: it reads as goal, portal goal and in sight, as it does in the reference. Read the direction first:
- * a goal and a cell in sight have none.
+ * The readers of a flow byte, for any byte. In a sheet built from a field given by hand a cell beside one that nothing
+ * reaches may hold 0xF0 plus a direction: it reads as goal, portal goal and in sight, as it does in the reference. No
+ * started sector has such a byte. Read the direction first: a goal and a cell in sight have none.
  */
 
 /* The cell can be walked. */
