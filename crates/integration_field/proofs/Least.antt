@@ -176,28 +176,32 @@ module _ (costs cells corners : List ℕ) where
         let f = and-eq-true-iff (not (isImpassable (getD cells x 0))) (not (isLos (getD cells x 0))) .0 (p .0) in
         record { no-wall = not-true _ (f .0); not-in-sight = not-true _ (f .1); below = p .1 }
 
-    attained : (k x : ℕ) → (getD (at k) x 0 ≡ getD cells x 0) ⊎ Walked costs cells corners x (getD (at k) x 0)
-    attained k x = go (was k x)
-      where
-        by : getD (at k) x 0 ≡ value k x → getD (at k) x 0 < low (getD cells x 0) → (j : ℕ) → Permitted costs cells corners j x (value k x)
-            → Walked costs cells corners x (getD (at k) x 0)
-        by e l j p = record { moves = j; walk = rw e p; lower = l }
+    few-waves : n ≤ 99
+    few-waves = let h : n < 100 = few (grid costs cells corners) Open value waves 100 fell-inside n (omega arith) ends in omega arith
 
-        go : Was k x → (getD (at k) x 0 ≡ getD cells x 0) ⊎ Walked costs cells corners x (getD (at k) x 0)
+    attained : (x : ℕ) → (getD (at n) x 0 ≡ getD cells x 0) ⊎ Walked costs cells corners x (getD (at n) x 0)
+    attained x = go (was n x)
+      where
+        by : getD (at n) x 0 ≡ value n x → getD (at n) x 0 < low (getD cells x 0) → (j : ℕ) → j ≤ n → Permitted costs cells corners j x (value n x)
+            → Walked costs cells corners x (getD (at n) x 0)
+        by e l j h p = record { moves = j; few = omega (arith, few-waves); walk = rw e p; lower = l }
+
+        go : Was n x → (getD (at n) x 0 ≡ getD cells x 0) ⊎ Walked costs cells corners x (getD (at n) x 0)
         go (inl e) = inl e
         go (inr p) =
-            let f = fallen-walk (grid costs cells corners) Open value waves k x (omega (arith, p .0, p .1)) in
-            inr (by (p .0) (p .1) (f .0) (walk-into (grid costs cells corners) (Below (grid costs cells corners) Open) (MayEnter costs cells corners) permitted (f .1)))
+            let f = fallen-walk (grid costs cells corners) Open value waves n x (omega (arith, p .0, p .1)) in
+            inr (by (p .0) (p .1) (f .0) (f .1)
+            (walk-into (grid costs cells corners) (Below (grid costs cells corners) Open) (MayEnter costs cells corners) permitted (f .2)))
 
     -- a walk that comes to less than the cell held before has entered it
     pub last-entered : (j x s : ℕ) → Permitted costs cells corners j x s → s < low (getD cells x 0) → MayEnter costs cells corners x s
     last-entered j x s (start c e) l = absurd (omega arith)
     last-entered j x s (move p b m e) l = m
 
-    stays : (k x : ℕ) → ((s : ℕ) → MayEnter costs cells corners x s → ⊥) → getD (at k) x 0 ≡ getD cells x 0
-    stays k x h = go (attained k x)
+    stays : (x : ℕ) → ((s : ℕ) → MayEnter costs cells corners x s → ⊥) → getD (at n) x 0 ≡ getD cells x 0
+    stays x h = go (attained x)
       where
-        go : (getD (at k) x 0 ≡ getD cells x 0) ⊎ Walked costs cells corners x (getD (at k) x 0) → getD (at k) x 0 ≡ getD cells x 0
+        go : (getD (at n) x 0 ≡ getD cells x 0) ⊎ Walked costs cells corners x (getD (at n) x 0) → getD (at n) x 0 ≡ getD cells x 0
         go (inl e) = e
         go (inr w) = absurd (h _ (last-entered (w .moves) x _ (w .walk) (w .lower)))
 
@@ -205,9 +209,9 @@ module _ (costs cells corners : List ℕ) where
     least-walks = rw built-at (record {
       none-below = λ j x s p. least (grid costs cells corners) Open value waves n ends j x s
           (walk-into (grid costs cells corners) (MayEnter costs cells corners) (Below (grid costs cells corners) Open) entered p);
-      attained = attained n;
-      walls-stay = λ x e. stays n x (λ s m. true≢false (sym e ∙ m .no-wall));
-      sight-stays = λ x e. stays n x (λ s m. true≢false (sym e ∙ m .not-in-sight));
+      attained = attained;
+      walls-stay = λ x e. stays x (λ s m. true≢false (sym e ∙ m .no-wall));
+      sight-stays = λ x e. stays x (λ s m. true≢false (sym e ∙ m .not-in-sight));
     })
 
     -- ---- the count
@@ -245,7 +249,7 @@ module _ (costs cells corners : List ℕ) where
     waves-counted = rw built-at (record {
       are-waves = waves;
       exact = exact;
-      at-most = (let h : n < 100 = few (grid costs cells corners) Open value waves 100 fell-inside n (omega arith) ends in omega arith);
+      at-most = few-waves;
       settled = λ k l. (let e : (k - n) + n ≡ k = omega arith in rw e at (rests (k - n)));
     })
 

@@ -12,9 +12,10 @@ use Rattle.integration_field.specs.Wave.{waveAt}
 use Rattle.integration_field.specs.Walks.{grid, Permitted}
 
 module _ (costs cells corners : List ℕ) where
-  -- cell x now holds, without flags, the sum of a permitted walk into it that is below its value before
+  -- cell x now holds, without flags, the sum of a permitted walk into it, of at most 99 moves, that is below its value before
   pub record Walked (x now : ℕ) : Type 0 where
     pub moves : ℕ
+    pub few : moves ≤ 99
     pub walk : Permitted costs cells corners moves x now
     pub lower : now < low (getD cells x 0)
 

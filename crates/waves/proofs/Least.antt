@@ -1,6 +1,6 @@
 -- Waves find the least walks.
 --     changed-walk    what wave k changes is the sum of a walk of k moves (tight)
---     fallen-walk     what is below its value before is the sum of a walk
+--     fallen-walk     what wave k leaves below its value before is the sum of a walk of at most k moves
 --     walk-above      no walk of at most k moves comes to less than what wave k leaves
 --     walk-into       a walk read under another rule of entering
 -- Assumes nothing.
@@ -30,14 +30,20 @@ module _ (g : Grid) (Open : ℕ → Type 0) (value : ℕ → ℕ → ℕ) (w : W
       let h = w .offered k x c in
       move {s = value (suc k) x} (changed-walk k (h .0) (h .1)) (h .2) (h .3, omega (arith, below-before k x)) (h .4)
 
-  pub fallen-walk : (k x : ℕ) → value k x < g .before x → (j : ℕ) × Walk g (Below g Open) j x (value k x)
+  -- a walk of at most k moves that comes to what wave k leaves in a cell
+  abbrev pub Fallen : ℕ → ℕ → Type 0
+  Fallen k x = (j : ℕ) × (j ≤ k) × Walk g (Below g Open) j x (value k x)
+
+  pub fallen-walk : (k x : ℕ) → value k x < g .before x → Fallen k x
   fallen-walk zero x l = absurd (omega (arith, w .begins x))
   fallen-walk (suc k) x l = go (decLe (value k x) (value (suc k) x)) (λ h. fallen-walk k x h)
     where
-      go : Dec (value k x ≤ value (suc k) x) → (value k x < g .before x → (j : ℕ) × Walk g (Below g Open) j x (value k x))
-          → (j : ℕ) × Walk g (Below g Open) j x (value (suc k) x)
-      go (yes h) ih = let e : value (suc k) x ≡ value k x = omega (arith, w .falls k x) in rw e (ih (omega arith))
-      go (no h) ih = (suc k, changed-walk (suc k) x (lt-of-not-le h))
+      same : value (suc k) x ≡ value k x → Fallen k x → Fallen (suc k) x
+      same e f = (f .0, omega (arith, f .1), rw e (f .2))
+
+      go : Dec (value k x ≤ value (suc k) x) → (value k x < g .before x → Fallen k x) → Fallen (suc k) x
+      go (yes h) ih = same (omega (arith, w .falls k x)) (ih (omega arith))
+      go (no h) ih = (suc k, omega arith, changed-walk (suc k) x (lt-of-not-le h))
 
   -- ---- no walk is below
 
