@@ -1,7 +1,7 @@
 // The records of the flow calls and of the byte readers. The flow calls do not look at a field's list, so none is recorded.
-use crate::recorded::byte_at;
-use crate::recorded::field_of;
-use crate::recorded::part;
+use records::byte_at;
+use records::field_of;
+use records::part;
 
 // A record: 8 bytes of step, cells, has_previous, 100 previous numbers; number, sheet.
 pub fn new_agrees(record: &[u8]) -> bool {

@@ -1,10 +1,10 @@
 // The records of init, build and the sector call.
-use crate::recorded::byte_at;
-use crate::recorded::field_of;
-use crate::recorded::part;
-use crate::recorded::same_field;
-use crate::recorded::size_at;
 use integration_field::BuildAnswer;
+use records::byte_at;
+use records::field_of;
+use records::part;
+use records::same_field;
+use records::size_at;
 use started_field::InitAnswer;
 
 // Number, field.

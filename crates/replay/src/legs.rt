@@ -1,7 +1,7 @@
 // The records of legs.
-use crate::recorded::byte_at;
-use crate::recorded::part;
-use crate::recorded::size_at;
+use records::byte_at;
+use records::part;
+use records::size_at;
 ghost use Prim.Native.Nat.{_≤_};
 ghost use lib.ListN.{length};
 

@@ -1,10 +1,10 @@
 // The records of the line calls.
-use crate::recorded::byte_at;
-use crate::recorded::part;
-use crate::recorded::size_at;
 use bresenham::Line;
 use fields::FieldCell;
 use line_end::LineEnd;
+use records::byte_at;
+use records::part;
+use records::size_at;
 
 // The cell whose column and row stand at these places.
 fn cell_at(bytes: &[u8], column: usize, row: usize) -> FieldCell {

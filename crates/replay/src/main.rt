@@ -4,7 +4,6 @@ mod flow;
 mod integration;
 mod legs;
 mod lines;
-mod recorded;
 mod refusals;
 
 // How many records agree, a sum of the bytes that were read, and whether the next record differs.
@@ -47,7 +46,7 @@ fn compare(section: u8, file: i32, record: &mut [u8]) -> Tally {
         if read != record.len() {
             break;
         }
-        sum = recorded::summed(sum, record);
+        sum = records::summed(sum, record);
         if !agrees(section, record) {
             break;
         }
@@ -77,7 +76,7 @@ fn print_tally(name: &[u8], counted: Tally) {
 fn replay(section: u8, name: &[u8], length: usize) {
     let mut longest = [0u8; 3330];
     let file = os::open_read(name);
-    let counted = compare(section, file, recorded::front(&mut longest, length));
+    let counted = compare(section, file, records::front(&mut longest, length));
     libc::close(file);
     print_tally(name, counted);
 }

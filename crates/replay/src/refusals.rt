@@ -6,13 +6,13 @@ use crate::lines::end_of;
 use crate::lines::line_of;
 use crate::lines::same_end;
 use crate::lines::same_line;
-use crate::recorded::byte_at;
-use crate::recorded::front;
-use crate::recorded::part;
-use crate::recorded::short_at;
-use crate::recorded::size_at;
 use integration_field::BuildAnswer;
 use integration_field::IntegrationField;
+use records::byte_at;
+use records::front;
+use records::part;
+use records::short_at;
+use records::size_at;
 
 // A call's number; 255, which none has, where it is refused and answers anything but the recorded number and zeros.
 fn settled(number: u8, same: bool) -> u8 {

@@ -2,8 +2,8 @@ use native.Mathlib.Omega.{arith}
 use Prim.Native.Nat.{_≤_, _-_}
 use mathlib.Core.Path.{_≡_, refl}
 use lib.ListN.{length, length-set}
-use Rattle.replay.proofs.recorded.field_of.Statement.{statement}
-use Rattle.replay.proofs.recorded.field_of.Tie as tie
+use Rattle.records.proofs.field_of.Statement.{statement}
+use Rattle.records.proofs.field_of.Tie as tie
 
 abbrev Inv-loop : tie.InvT-loop
 Inv-loop bytes field₀ los-corners₀ i₀ field los-corners i = (i ≤ 100) × (length field ≡ 100)

@@ -1,8 +1,8 @@
 use native.Mathlib.Omega.{arith}
 use Prim.Native.Nat.{_≤_, _<_, _-_}
 use lib.ListN.{length}
-use Rattle.replay.proofs.recorded.summed.Statement.{statement}
-use Rattle.replay.proofs.recorded.summed.Tie as tie
+use Rattle.records.proofs.summed.Statement.{statement}
+use Rattle.records.proofs.summed.Tie as tie
 
 abbrev Inv-loop : tie.InvT-loop
 Inv-loop before bytes sum₀ i₀ sum i = (i ≤ length bytes) × (sum < 4294967291)

@@ -3,9 +3,9 @@ use Prim.Native.Nat.{_≤_, _-_}
 use mathlib.Core.Path.{_≡_, sym, _∙_}
 use mathlib.Core.Bool.{true≢false}
 use borrow.Author.Count.{below-none, below-more}
-use Rattle.replay.specs.Same.{SameFirst}
-use Rattle.replay.proofs.recorded.same_field.Statement.{statement}
-use Rattle.replay.proofs.recorded.same_field.Tie as tie
+use Rattle.records.specs.Same.{SameFirst}
+use Rattle.records.proofs.same_field.Statement.{statement}
+use Rattle.records.proofs.same_field.Tie as tie
 
 abbrev Inv-loop : tie.InvT-loop
 Inv-loop bytes count los-corners cells i₀ i = (i ≤ 100) × SameFirst i los-corners cells bytes
