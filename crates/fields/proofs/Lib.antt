@@ -1,4 +1,3 @@
 pub mod Coordinates
 pub mod Steps
 pub mod Beside
-pub mod Neighbouring

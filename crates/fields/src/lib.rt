@@ -1,10 +1,8 @@
 // Cells of a sector, and steps from one to the next.
 use utilities::CompassDir;
 ghost use mathlib.Core.Path.{_≡_};
-ghost use Prim.Native.Nat.{_+_, _<_, _≤_};
-ghost use Rattle.utilities.specs.Compass.{orthogonal, all};
+ghost use Prim.Native.Nat.{_≤_};
 ghost use Rattle.fields.specs.Cell.{inside, cellAt, indexOr, cellIn, coordinateAt, bothIn, stepped};
-ghost use Rattle.fields.specs.Neighbours.{neighbours, listed, pushed};
 
 // ID of a cell within a field.
 #[repr(C)]
@@ -17,13 +15,6 @@ pub struct FieldCell {
 pub enum Stepped {
     Cell(FieldCell),
     Outside,
-}
-
-// The neighbours of a cell: `count` of them, in the first places.
-#[repr(C)]
-pub struct Neighbours {
-    pub cells: [FieldCell; 8],
-    pub count: usize,
 }
 
 // A column or row that lies in 0 to 9, or not.
@@ -58,24 +49,6 @@ fn cell_of(column: Coordinate, row: Coordinate) -> Stepped
         return Stepped::Outside;
     };
     Stepped::Cell(FieldCell { column: c, row: r })
-}
-
-// One neighbour more, where the step stays inside.
-fn with_neighbour(list: Neighbours, cell: FieldCell, dir: CompassDir) -> Neighbours
-    requires { ⌜ list .count < 8 ⌝ }
-    ensures { λ r. ⌜ (r ≡ pushed list (stepped cell dir)) × (r .count ≤ list .count + 1) ⌝ }
-{
-    let step = cell.get_in_compass_direction(dir);
-    let Stepped::Cell(neighbour) = step else {
-        return list;
-    };
-    let mut cells = list.cells;
-    let count = list.count;
-    cells[count] = neighbour;
-    Neighbours {
-        cells,
-        count: count + 1,
-    }
 }
 
 impl FieldCell {
@@ -144,30 +117,5 @@ impl FieldCell {
         let column = summed(self.column, east, west);
         let row = summed(self.row, south, north);
         cell_of(column, row)
-    }
-
-    // The neighbours North, East, South and West, those of them that the sector has.
-    pub fn get_orthogonal_neighbours(self) -> Neighbours
-        ensures { λ r. ⌜ r ≡ listed (neighbours orthogonal self) ⌝ }
-    {
-        let none = Neighbours {
-            cells: [FieldCell { column: 0, row: 0 }; 8],
-            count: 0,
-        };
-        let north = with_neighbour(none, self, CompassDir::North);
-        let east = with_neighbour(north, self, CompassDir::East);
-        let south = with_neighbour(east, self, CompassDir::South);
-        with_neighbour(south, self, CompassDir::West)
-    }
-
-    // All neighbours: North, East, South, West, then NorthEast, SouthEast, SouthWest, NorthWest.
-    pub fn get_all_cell_neighbours(self) -> Neighbours
-        ensures { λ r. ⌜ r ≡ listed (neighbours all self) ⌝ }
-    {
-        let sides = self.get_orthogonal_neighbours();
-        let north_east = with_neighbour(sides, self, CompassDir::NorthEast);
-        let south_east = with_neighbour(north_east, self, CompassDir::SouthEast);
-        let south_west = with_neighbour(south_east, self, CompassDir::SouthWest);
-        with_neighbour(south_west, self, CompassDir::NorthWest)
     }
 }

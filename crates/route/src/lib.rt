@@ -208,13 +208,6 @@ impl RouteStep {
 }
 
 impl PortalWindow {
-    // The side of the sector that the window sits on.
-    pub fn get_boundary(self) -> CompassDir
-        ensures { λ r. ⌜ r ≡ self .boundary ⌝ }
-    {
-        self.boundary
-    }
-
     // The indices of every cell along the window, left to right or top to bottom.
     pub fn get_all_window_cells(self) -> WindowCells
         ensures { λ r. ⌜ r ≡ listed (cellsBetween (self .boundary) (self .start) (self .end)) ⌝ }

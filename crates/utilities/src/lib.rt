@@ -1,9 +1,6 @@
-// Directions, and the size of a sector.
+// Directions.
 ghost use mathlib.Core.Path.{_≡_};
 ghost use Rattle.utilities.specs.Compass.{differences, opposite, numberOf, sideOf};
-
-// The columns, and the rows, of a sector.
-pub const FIELD_RESOLUTION: usize = 10;
 
 // A direction. Row 0 is north; `Zero` is none.
 pub enum CompassDir {
