@@ -21,8 +21,8 @@ ghost use Rattle.arrows.specs.Promise.{BuildArrows};
 ghost use Rattle.flow_field.specs.Flow.{newNumber, newSheet, buildNumber, buildSheet};
 ghost use Rattle.sector.specs.Sector.{sectorAnswer, sectorSheet};
 ghost use Rattle.sector.specs.Promise.{Planned};
-ghost use Rattle.leg.specs.Leg.{stepsOf, legNumber, legSheet};
-ghost use Rattle.leg.specs.Promise.{LegPlanned};
+ghost use Rattle.leg_plan.specs.Leg.{stepsOf, legNumber, legSheet};
+ghost use Rattle.leg_plan.specs.Promise.{LegPlanned};
 
 // The sector call: the field that a step starts, built, and its flow bytes, or number 1, 2, 3, 4 to 8, or 12.
 #[no_mangle]

@@ -16,11 +16,12 @@ use Rattle.route.specs.Step.{sectorOf}
 use Rattle.route.proofs.Accepted.{accepted-step}
 use Rattle.integration_field.specs.declared.BuildAnswer.{BuildAnswer}
 use Rattle.sector.specs.Sector.{sectorNumber, sectorAnswer, sectorSheet}
-use Rattle.leg.specs.Leg.{part, stepsOf, plannedFrom, planned}
-use Rattle.leg.specs.Plan.{stepAt, StepReady, StepPlanned}
-use Rattle.leg.proofs.Steps.{stepsFrom, from-start, from-here}
-use Rattle.leg.proofs.Sheet.{from-none}
-use Rattle.leg.proofs.Planned.{part-hundred}
+use Rattle.leg_plan.specs.Leg.{part, stepsOf, plannedFrom, planned}
+use Rattle.leg_plan.specs.Inner.{stepAt}
+use Rattle.leg.specs.Inner.{StepReady, StepPlanned}
+use Rattle.leg_plan.proofs.Steps.{stepsFrom, from-start, from-here}
+use Rattle.leg_plan.proofs.Sheet.{from-none}
+use Rattle.leg_plan.proofs.Planned.{part-hundred}
 
 fits : (has : Bool) (previous : List ℕ) → (has ≡ true → length previous ≡ 100) → (has && not (eqb (length previous) 100)) ≡ false
 fits true previous h = rw (eq-eqb (length previous) 100 (h refl))

@@ -8,9 +8,10 @@ ghost use lib.ListN.{length};
 ghost use Rattle.utilities.specs.Compass.{sideOf};
 ghost use Rattle.route.specs.Table.{firstNumber};
 ghost use Rattle.sectors.specs.Floor.{across};
-ghost use Rattle.leg.specs.Leg.{stepsOf, names, namesTwice, someGoal, outOfOrder, isSector, apart, eachRows, legNumber, planned, legSheet};
-ghost use Rattle.leg.specs.Plan.{StepPlanned, StepReady, LegReady};
-ghost use Rattle.leg.specs.Promise.{LegPlanned};
+ghost use Rattle.leg_plan.specs.Leg.{stepsOf, names, namesTwice, someGoal, outOfOrder, isSector, apart, eachRows, legNumber, planned, legSheet};
+ghost use Rattle.leg_plan.specs.Inner.{LegReady};
+ghost use Rattle.leg_plan.specs.Promise.{LegPlanned};
+ghost use Rattle.leg.specs.Inner.{StepPlanned, StepReady};
 
 fn wide(byte: u8) -> usize
     ensures { λ r. ⌜ r ≡ byte ⌝ }

@@ -7,9 +7,9 @@ use native.Mathlib.Omega.{arith}
 use denote.Ref.{now}
 use lib.ListN.{length}
 use Rattle.route.specs.Table.{firstNumber}
-use Rattle.leg.specs.Leg.{stepsOf, eachRows}
+use Rattle.leg_plan.specs.Leg.{stepsOf, eachRows}
 use Rattle.route.proofs.Rows.{tests}
-use Rattle.leg.proofs.Steps.{stepsFrom, from-start, from-here, from-done, judged-at}
+use Rattle.leg_plan.proofs.Steps.{stepsFrom, from-start, from-here, from-done, judged-at}
 use Rattle.leg.proofs.each_step.Statement.{statement}
 use Rattle.leg.proofs.each_step.Tie as tie
 

@@ -4,9 +4,9 @@ use mathlib.Core.Path.{_≡_}
 use Prim.Native.Nat.{_-_, _/_, _≤_}
 use native.Mathlib.Omega.{arith}
 use lib.ListN.{length}
-use Rattle.leg.specs.Leg.{stepsOf, names}
+use Rattle.leg_plan.specs.Leg.{stepsOf, names}
 use Rattle.route.proofs.Rows.{tests}
-use Rattle.leg.proofs.Steps.{stepsFrom, from-start, from-here, from-done, sector-at}
+use Rattle.leg_plan.proofs.Steps.{stepsFrom, from-start, from-here, from-done, sector-at}
 use Rattle.leg.proofs.is_named.Statement.{statement}
 use Rattle.leg.proofs.is_named.Tie as tie
 

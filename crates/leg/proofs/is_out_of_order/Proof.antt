@@ -3,10 +3,10 @@
 use mathlib.Core.Path.{sym, ap, _∙_}
 use native.Mathlib.Omega.{arith}
 use denote.Ref.{now}
-use Rattle.leg.specs.Leg.{someGoal}
+use Rattle.leg_plan.specs.Leg.{someGoal}
 use borrow.Author.Needs.{needs}
 use Rattle.route.proofs.Rows.{tests}
-use Rattle.leg.proofs.Steps.{first-step, behind, mark-at}
+use Rattle.leg_plan.proofs.Steps.{first-step, behind, mark-at}
 use Rattle.leg.proofs.is_out_of_order.Statement.{statement}
 use Rattle.leg.proofs.is_out_of_order.Tie as tie
 

@@ -1,12 +1,15 @@
 -- `leg::leg_number` meets its contract: a line of the table at each return.
 -- Assumes nothing.
-use mathlib.Core.Path.{sym, _∙_}
+use mathlib.Core.Path.{_≡_, sym, _∙_}
 use native.Mathlib.Omega.{arith}
+use lib.ListN.{length}
+use denote.Ref.{now}
 use borrow.Author.Tests.{ne-eqb}
 use borrow.Author.Needs.{needs}
 use Rattle.route.proofs.Rows.{tests}
-use Rattle.leg.specs.Leg.{legNumber}
-use Rattle.leg.proofs.Numbers.{each-first, each-none}
+use Rattle.route.specs.Table.{firstNumber}
+use Rattle.leg_plan.specs.Leg.{stepsOf, eachRows, legNumber}
+use Rattle.leg_plan.proofs.Numbers.{each-first, number-9, number-10, number-0}
 use Rattle.leg.proofs.leg_number.Statement.{statement}
 use Rattle.leg.proofs.leg_number.Tie as tie
 
@@ -44,39 +47,44 @@ returns-6 c sheet e =
 is-out-of-order-requires : tie.Need-is-out-of-order-requires
 is-out-of-order-requires c κs = omega arith
 
+-- where the order is judged, no line above 9 holds
+abbrev tested : tie.After-is-out-of-order → tie.Else5
+tested c = c .before .before .before
+
+abbrev start : tie.After-is-out-of-order → tie.Start
+start c = tested c .before .before .before .before .before .before .before
+
+each : (c : tie.After-is-out-of-order) → firstNumber (eachRows (stepsOf (now (start c .args .steps)))) ≡ 0
+each c = sym (c .before .before .each-step .ensures) ∙ c .before .if6 .left
+
+abbrev floor-full : (c : tie.After-is-out-of-order) → length (now (start c .args .floor)) ≡ 6400
+floor-full c = tested c .before .before .before .before .if1 .left
+
+abbrev sheet-full : (c : tie.After-is-out-of-order) → start c .args .sheet-length ≡ 6400
+sheet-full c = tested c .before .before .before .if2 .left
+
 returns-7 : tie.Need-returns-7
-unfolding legNumber
 returns-7 c sheet e =
     let ordered = c .before in
-    let judged = ordered .before .before in
-    let lent = e ∙ judged .before .before .before .before .if2 .left in
-    let each = sym (judged .each-step .ensures) ∙ ordered .before .if6 .left in
-    search (tests, lent, each-none, each, sym (ordered .is-out-of-order .ensures) ∙ c .if7 .taken)
+    sym (number-9 _ _ sheet (floor-full ordered) (e ∙ sheet-full ordered) (tested ordered .before .before .if3 .left) (omega arith) (tested ordered .if5 .left)
+    (each ordered) (sym (ordered .is-out-of-order .ensures) ∙ c .if7 .taken))
 
 is-apart-requires : tie.Need-is-apart-requires
 is-apart-requires c κs = omega arith
 
 returns-8 : tie.Need-returns-8
-unfolding legNumber
 returns-8 c sheet e =
     let faced = c .before in
     let ordered = faced .before .before in
-    let judged = ordered .before .before in
-    let lent = e ∙ judged .before .before .before .before .if2 .left in
-    let each = sym (judged .each-step .ensures) ∙ ordered .before .if6 .left in
-    let order = sym (ordered .is-out-of-order .ensures) ∙ faced .before .if7 .left in
-    search (tests, lent, each-none, each, order, sym (faced .is-apart .ensures) ∙ c .if8 .taken)
+    sym (number-10 _ _ sheet (floor-full ordered) (e ∙ sheet-full ordered) (tested ordered .before .before .if3 .left) (omega arith) (tested ordered .if5 .left)
+    (each ordered) (sym (ordered .is-out-of-order .ensures) ∙ faced .before .if7 .left) (sym (faced .is-apart .ensures) ∙ c .if8 .taken))
 
 returns-9 : tie.Need-returns-9
-unfolding legNumber
 returns-9 c sheet e =
     let faced = c .before in
     let ordered = faced .before .before in
-    let judged = ordered .before .before in
-    let lent = e ∙ judged .before .before .before .before .if2 .left in
-    let each = sym (judged .each-step .ensures) ∙ ordered .before .if6 .left in
-    let order = sym (ordered .is-out-of-order .ensures) ∙ faced .before .if7 .left in
-    search (tests, lent, each-none, each, order, sym (faced .is-apart .ensures) ∙ c .if8 .left)
+    sym (number-0 _ _ sheet (floor-full ordered) (e ∙ sheet-full ordered) (tested ordered .before .before .if3 .left) (omega arith) (tested ordered .if5 .left)
+    (each ordered) (sym (ordered .is-out-of-order .ensures) ∙ faced .before .if7 .left) (sym (faced .is-apart .ensures) ∙ c .if8 .left))
 
 pub leg-number-spec : {M : Type 1} → statement M
 leg-number-spec =

@@ -2,8 +2,8 @@
 -- Assumes nothing.
 use mathlib.Core.Path.{refl, sym, _∙_}
 use denote.Ref.{now}
-use Rattle.leg.proofs.Numbers.{accepted}
-use Rattle.leg.proofs.Planned.{refuses, plans}
+use Rattle.leg_plan.proofs.Numbers.{accepted}
+use Rattle.leg_plan.proofs.Planned.{refuses, plans}
 use borrow.Author.Needs.{needs}
 use Rattle.leg.proofs.plan_leg.Statement.{statement}
 use Rattle.leg.proofs.plan_leg.Tie as tie

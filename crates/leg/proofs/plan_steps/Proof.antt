@@ -9,8 +9,8 @@ use lib.ListN.{length}
 use lib.Dec.{ltb}
 use borrow.Author.Needs.{needs}
 use Rattle.route.specs.Step.{stepNumber}
-use Rattle.leg.specs.Leg.{stepsOf, plannedFrom, planned}
-use Rattle.leg.proofs.Steps.{stepsFrom, from-done, lent-step}
+use Rattle.leg_plan.specs.Leg.{stepsOf, plannedFrom, planned}
+use Rattle.leg_plan.proofs.Steps.{stepsFrom, from-done, lent-step}
 use Rattle.leg.proofs.Step.{from-first, from-more}
 use Rattle.leg.proofs.plan_steps.Statement.{statement}
 use Rattle.leg.proofs.plan_steps.Tie as tie

@@ -10,7 +10,7 @@ use Rattle.integration_field.specs.Build.{waveCount}
 use Rattle.started_field.specs.Started.{started}
 use Rattle.sector.specs.Sector.{sectorField, sectorBytes}
 use Rattle.sector.specs.Promise.{Planned}
-use Rattle.leg.specs.Leg.{part, names}
+use Rattle.leg_plan.specs.Leg.{part, names}
 
 -- the step at a place of the list
 abbrev pub stepOf : List (List ℕ) → ℕ → List ℕ

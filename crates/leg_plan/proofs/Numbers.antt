@@ -1,21 +1,22 @@
 -- The number of a leg, down the table.
 --     each-first, each-none    numbers 4 to 8: a step that is refused decides, else what comes below
+--     number-9 .. number-0     where no step is refused: 9 decides before 10, and 10 before none
 --     accepted                 what is known of a leg that is not refused
 -- Assumes nothing.
 use mathlib.Core.Path.{_≡_, refl, sym, ap, _∙_}
 use mathlib.Core.Bool.{Bool, true, false, true≢false, cond, not, _||_}
 use mathlib.Core.List.{List, [], _∷_, _++_}
-use Prim.Native.Nat.{ℕ, zero, suc, _%_, _<_}
+use Prim.Native.Nat.{ℕ, zero, suc, _%_, _<_, _≤_}
 use native.Mathlib.Omega.{arith}
 use lib.Dec.{eqb, ltb}
 use lib.ListN.{length, getD}
-use borrow.Author.Tests.{eqb-true, eqb-false}
+use borrow.Author.Tests.{eqb-true, eqb-false, eq-eqb, ne-eqb, le-ltb}
 use Rattle.route.specs.Table.{Row, row, firstNumber}
 use Rattle.route.specs.Step.{isWindow, eachStep}
 use Rattle.route.proofs.Accepted.{each-step}
-use Rattle.leg.specs.Leg.{stepsOf, namesTwice, someGoal, outOfOrder, apart, eachRows, legNumber}
-use Rattle.leg.specs.Plan.{stepAt, LegReady}
-use Rattle.leg.proofs.Steps.{neither, steps-count, step-of, step-long}
+use Rattle.leg_plan.specs.Leg.{stepsOf, namesTwice, someGoal, outOfOrder, apart, eachRows, legNumber}
+use Rattle.leg_plan.specs.Inner.{stepAt, LegReady}
+use Rattle.leg_plan.proofs.Steps.{neither, steps-count, step-of, step-long}
 
 -- ---- numbers 4 to 8, and what comes below them
 
@@ -46,6 +47,33 @@ pub each-good : (ss : List (List ℕ)) → firstNumber (eachRows ss) ≡ 0 → (
 each-good [] e k h = absurd (omega arith)
 each-good (s ∷ ss) e zero h = each-head s ss e .0
 each-good (s ∷ ss) e (suc k) h = each-good ss (each-head s ss e .1) k (omega arith)
+
+-- ---- numbers 9 and 10
+
+module _ (floor steps sheet : List ℕ) (floor-full : length floor ≡ 6400) (sheet-full : length sheet ≡ 6400)
+    (some : length steps ≡ 0 → ⊥) (few : length steps ≤ 128) (whole : length steps % 8 ≡ 0)
+    (each : firstNumber (eachRows (stepsOf steps)) ≡ 0) where
+  nine-then-ten : legNumber floor steps sheet ≡ firstNumber (row 9 (outOfOrder (stepsOf steps)) ∷ row 10 (apart (stepsOf steps)) ∷ [])
+  unfolding legNumber
+  nine-then-ten =
+      rw (
+        eq-eqb (length floor) 6400 floor-full,
+        eq-eqb (length sheet) 6400 sheet-full,
+        ne-eqb (length steps) 0 some,
+        le-ltb 128 (length steps) few,
+        eq-eqb (length steps % 8) 0 whole,
+      )
+      (each-none (stepsOf steps) _ each)
+
+  pub number-9 : outOfOrder (stepsOf steps) ≡ true → legNumber floor steps sheet ≡ 9
+  number-9 h = nine-then-ten ∙ rw h
+
+  module _ (ordered : outOfOrder (stepsOf steps) ≡ false) where
+    pub number-10 : apart (stepsOf steps) ≡ true → legNumber floor steps sheet ≡ 10
+    number-10 h = nine-then-ten ∙ rw (ordered, h)
+
+    pub number-0 : apart (stepsOf steps) ≡ false → legNumber floor steps sheet ≡ 0
+    number-0 h = nine-then-ten ∙ rw (ordered, h)
 
 -- ---- a leg that is not refused
 

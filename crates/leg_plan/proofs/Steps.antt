@@ -14,8 +14,8 @@ use lib.ListN.{length, getD, take, drop, length-take, length-drop}
 use lib.Seq.{drop-drop, take-all, getD-take, getD-drop}
 use Rattle.route.specs.Step.{sectorOf, markOf, boundaryByte, eachStep, stepNumber}
 use Rattle.route.proofs.Accepted.{each-step}
-use Rattle.leg.specs.Leg.{stepsIn, stepsOf}
-use Rattle.leg.specs.Plan.{stepAt}
+use Rattle.leg_plan.specs.Leg.{stepsIn, stepsOf}
+use Rattle.leg_plan.specs.Inner.{stepAt}
 
 pub neither : (a b : Bool) → (a || b) ≡ false → (a ≡ false) × (b ≡ false)
 neither true b e = absurd (true≢false e)

@@ -16,9 +16,9 @@ use borrow.Author.Tests.{ltb-true, ltb-false, eqb-false}
 use Rattle.route.specs.Step.{sectorOf}
 use Rattle.sector.specs.Sector.{sectorField, sectorBytes}
 use Rattle.sector.proofs.Planned.{bytes-hundred, none-read}
-use Rattle.leg.specs.Leg.{part, names, namesTwice, withPart, plannedFrom}
-use Rattle.leg.proofs.Steps.{neither}
-use Rattle.leg.specs.Promise.{stepOf, sectorAt, costsAt, builtAt, hasBefore, builtBefore}
+use Rattle.leg_plan.specs.Leg.{part, names, namesTwice, withPart, plannedFrom}
+use Rattle.leg_plan.proofs.Steps.{neither}
+use Rattle.leg_plan.specs.Promise.{stepOf, sectorAt, costsAt, builtAt, hasBefore, builtBefore}
 
 -- the k elements from m on, cut the other way round
 part-of-front : (l : List ℕ) (m k : ℕ) → m ≤ length l → take k (drop m l) ≡ drop m (take (m + k) l)

@@ -15,12 +15,12 @@ use Rattle.integration_field.specs.Build.{waveCount}
 use Rattle.started_field.specs.Started.{started}
 use Rattle.sector.specs.Promise as sector
 use Rattle.sector.proofs.Planned.{sector-planned}
-use Rattle.leg.specs.Leg.{part, stepsOf, legNumber, planned, legSheet}
-use Rattle.leg.specs.Plan.{LegReady}
-use Rattle.leg.specs.Promise.{stepOf, sectorAt, hasBefore, costsAt, builtAt, builtBefore, LegPlanned}
-use Rattle.leg.proofs.Steps.{steps-count, step-of}
-use Rattle.leg.proofs.Numbers.{accepted}
-use Rattle.leg.proofs.Sheet.{Fits, full-after, kept, written}
+use Rattle.leg_plan.specs.Leg.{part, stepsOf, legNumber, planned, legSheet}
+use Rattle.leg_plan.specs.Inner.{LegReady}
+use Rattle.leg_plan.specs.Promise.{stepOf, sectorAt, hasBefore, costsAt, builtAt, builtBefore, LegPlanned}
+use Rattle.leg_plan.proofs.Steps.{steps-count, step-of}
+use Rattle.leg_plan.proofs.Numbers.{accepted}
+use Rattle.leg_plan.proofs.Sheet.{Fits, full-after, kept, written}
 
 pub part-hundred : (l : List ℕ) (sector : ℕ) → length l ≡ 6400 → sector < 64 → length (part l sector) ≡ 100
 part-hundred l sector e h = simp (length-take, length-drop) (omega arith)

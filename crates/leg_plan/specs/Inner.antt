@@ -1,0 +1,20 @@
+-- What is known where a leg is planned: for the leg's own functions and their proofs, no part of what is promised.
+-- Assumes nothing.
+use mathlib.Core.Path.{_≡_}
+use mathlib.Core.Bool.{false}
+use mathlib.Core.List.{List}
+use Prim.Native.Nat.{ℕ, _*_, _/_, _<_}
+use lib.ListN.{length, take, drop}
+use Rattle.route.specs.Step.{stepNumber}
+use Rattle.leg_plan.specs.Leg.{stepsOf, namesTwice}
+
+-- the step at place k of a list of bytes
+abbrev pub stepAt : List ℕ → ℕ → List ℕ
+stepAt steps k = take 8 (drop (k * 8) steps)
+
+-- a leg that is not refused
+pub record LegReady (floor steps sheet : List ℕ) : Type 0 where
+  pub floor-full : length floor ≡ 6400
+  pub sheet-full : length sheet ≡ 6400
+  pub accepted : (k : ℕ) → k < length steps / 8 → stepNumber (stepAt steps k) ≡ 0
+  pub named-once : namesTwice (stepsOf steps) ≡ false

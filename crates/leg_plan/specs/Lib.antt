@@ -1,0 +1,3 @@
+pub mod Leg
+pub mod Inner
+pub mod Promise
