@@ -1,5 +1,7 @@
 -- Laws of cells and steps that later layers cite.
+--     inside-true, true-inside      what the test of a cell says
 --     index-told                    what `as_1d_index` answers of a cell of the sector
+--     index-known                   and of the cell at an index
 --     cell-of-index, index-of-cell  a cell of the sector and its index
 --     stepped-cell                  where a step arrives: at the two sums, inside
 --     step-told                     where a step from an index arrives, by what its calls answer
@@ -9,7 +11,8 @@ use mathlib.Core.Path.{_≡_, refl, sym, subst, ap, _∙_}
 use mathlib.Core.Bool.{Bool, true, false, _&&_, and-eq-true-iff}
 use Prim.Native.Nat.{ℕ, _+_, _-_, _<_, _≤_, _/_, _%_}
 use native.Mathlib.Omega.{arith}
-use borrow.Author.Tests.{lt-ltb}
+use borrow.Author.Tests.{lt-ltb, ltb-true}
+use lib.Dec.{ltb}
 use Rattle.utilities.specs.declared.CompassDir.{CompassDir}
 use Rattle.utilities.specs.declared.Differences.{Differences}
 use Rattle.utilities.specs.Compass.{differences, points, sumWithin, opposite}
@@ -17,8 +20,16 @@ use Rattle.utilities.proofs.Compass.{opposite-differences, opposite-points, wit
 use Rattle.fields.specs.declared.FieldCell.{FieldCell}
 use Rattle.fields.specs.declared.Stepped.{Stepped}
 use Rattle.fields.specs.declared.Stepped.the-variants.{Cell}
-use Rattle.fields.specs.Cell.{cell, Inside, indexOf, cellAt, indexOr, cellIf, stepped}
+use Rattle.fields.specs.Cell.{cell, Inside, inside, indexOf, cellAt, indexOr, cellIf, stepped}
 use Rattle.fields.proofs.Coordinates.{sum-in}
+
+pub inside-true : (c : FieldCell) → inside c ≡ true → Inside c
+inside-true c e =
+    let p = and-eq-true-iff (ltb (c .column) 10) (ltb (c .row) 10) .0 e in
+    record { column-in = ltb-true (c .column) 10 (p .0); row-in = ltb-true (c .row) 10 (p .1) }
+
+pub true-inside : (c : FieldCell) → Inside c → inside c ≡ true
+true-inside c h = rw (lt-ltb (c .column) 10 (h .column-in), lt-ltb (c .row) 10 (h .row-in))
 
 pub cell-inside : (i : ℕ) → i < 100 → Inside (cellAt i)
 cell-inside i h = record { column-in = omega arith; row-in = omega arith }
@@ -34,6 +45,9 @@ index-told {c} {i} h e =
 
 pub index-of-cell : (i : ℕ) → indexOf (cellAt i) ≡ i
 index-of-cell i = omega arith
+
+pub index-known : (i : ℕ) → i < 100 → indexOr 100 (cellAt i) ≡ i
+index-known i h = index-told (cell-inside i h) refl .0 ∙ index-of-cell i
 
 pub cell-of-index : (c : FieldCell) → Inside c → cellAt (indexOf c) ≡ c
 cell-of-index c h =

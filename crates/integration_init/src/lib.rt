@@ -136,8 +136,8 @@ fn extend_los_corner(
     ensures { λ r. ⌜ Applied (extended (cornerLine goal) «wavefront_cost» corner) (now (cells .entry)) (now (corners .entry)) count (now (cells .exit)) (now (corners .exit)) r ⌝ }
 {
     let from = FieldCell::from_index(corner);
-    let end = line_end::corner_line_end(from, FieldCell::from_index(goal));
-    let line = bresenham::get_cells_between_points(from, end);
+    let end = line_end::check_los_corner_propagation(from, FieldCell::from_index(goal));
+    let line = bresenham::get_cells_between_points(from, end.cell);
     mark_line(cells, corners, count, corner, line, wavefront_cost)
 }
 

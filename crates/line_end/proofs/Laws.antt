@@ -1,4 +1,5 @@
 -- Where a corner's line ends, as later layers cite it. None of this leans on f32: the columns are tried away from the goal.
+--     end-answered    the call never refuses a corner and a goal of the sector: it answers the end
 --     end-inside      the end lies in the sector
 --     end-away        the end lies at or beyond the corner, away from the goal
 --     misses-goal     no cell between a corner other than the goal and its line's end is the goal
@@ -12,9 +13,14 @@ use lib.IntN.{ℤ, pos, negsuc}
 use borrow.Author.Tests.{ltb-true, ltb-false, eqb-true, eqb-false}
 use Rattle.fields.specs.declared.FieldCell.{FieldCell}
 use Rattle.fields.specs.Cell.{Inside}
+use Rattle.fields.proofs.Steps.{true-inside}
 use Rattle.line_end.specs.Away.{Away, Between}
-use Rattle.line_end.specs.LineEnd.{rowOf, edge, lineRow, slantedEnd, endBy, lineEnd}
+use Rattle.line_end.specs.LineEnd.{rowOf, edge, lineRow, slantedEnd, endBy, lineEnd, answer, lineEndAnswer}
 use Rattle.line_end.proofs.First.{slanted-first}
+
+pub end-answered : (corner goal : FieldCell) → Inside corner → Inside goal → lineEndAnswer corner goal ≡ answer 0 (lineEnd corner goal)
+unfolding lineEndAnswer
+end-answered corner goal h k = rw (true-inside corner h, true-inside goal k)
 
 -- ---- the end lies in the sector
 row-in : (z : ℤ) → rowOf z .row < 10

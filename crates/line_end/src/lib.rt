@@ -105,7 +105,7 @@ fn slanted_end(gradient: f32, intercept: f32, column: usize, rightward: bool) ->
 }
 
 // The cell that the line from `corner`, away from `goal`, ends in.
-pub fn corner_line_end(corner: FieldCell, goal: FieldCell) -> FieldCell
+fn corner_line_end(corner: FieldCell, goal: FieldCell) -> FieldCell
     requires { ⌜ Inside corner × Inside goal ⌝ }
     ensures { λ r. ⌜ r ≡ lineEnd corner goal ⌝ }
 {

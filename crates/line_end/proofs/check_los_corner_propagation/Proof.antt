@@ -1,24 +1,11 @@
 -- `line_end::check_los_corner_propagation` meets its contract: the two tests are those of the definition.
 -- Assumes nothing.
-use mathlib.Core.Path.{_≡_, refl, sym, _∙_}
-use mathlib.Core.Bool.{Bool, true, false, _&&_, false≢true}
-use lib.Dec.{ltb}
+use mathlib.Core.Path.{sym, _∙_}
 use borrow.Author.Needs.{needs}
-use borrow.Author.Tests.{ltb-true}
-use Rattle.fields.specs.declared.FieldCell.{FieldCell}
-use Rattle.fields.specs.Cell.{Inside, inside}
+use Rattle.fields.proofs.Steps.{inside-true}
 use Rattle.line_end.specs.LineEnd.{lineEndAnswer}
 use Rattle.line_end.proofs.check_los_corner_propagation.Statement.{statement}
 use Rattle.line_end.proofs.check_los_corner_propagation.Tie as tie
-
-both : (a b : Bool) → (a && b) ≡ true → (a ≡ true) × (b ≡ true)
-both true b e = (refl, e)
-both false b e = absurd (false≢true e)
-
-inside-true : (x : FieldCell) → inside x ≡ true → Inside x
-inside-true x e =
-    let p = both (ltb (x .column) 10) (ltb (x .row) 10) e in
-    record { column-in = ltb-true (x .column) 10 (p .0); row-in = ltb-true (x .row) 10 (p .1) }
 
 is-inside-requires : tie.Need-is-inside-requires
 is-inside-requires c κs = search needs
