@@ -1,27 +1,26 @@
--- What the line calls answer, by the tests that they make.
+-- What the line calls answer, by the tests that they make, and that their answers hold Bresenham's line and walks.
 -- Assumes nothing.
 use mathlib.Core.Path.{_≡_, refl, _∙_}
 use mathlib.Core.Bool.{Bool, true, false, _&&_}
-use mathlib.Core.List.{reverse}
-use Prim.Native.Nat.{ℕ, _-_, _<_, _≤_}
+use mathlib.Core.List.{List, [], reverse}
+use Prim.Native.Nat.{ℕ, _+_, _-_, _<_, _≤_}
 use native.Mathlib.Omega.{arith}
-use lib.Dec.{leb, ltb}
+use lib.Dec.{ltb}
+use lib.ListN.{take}
 use lib.Seq.{take-append-seam}
 use borrow.Author.Tests.{ltb-true, lt-ltb, le-ltb, le-leb, lt-leb}
 use Rattle.fields.specs.declared.FieldCell.{FieldCell}
 use Rattle.fields.specs.Cell.{Inside, inside}
 use Rattle.bresenham.specs.declared.Line.{Line}
-use Rattle.bresenham.specs.Line.{apart, placed, walkCells, shallow, steep, line, answered, refused, lineCall, walkCall}
-use Rattle.bresenham.specs.Nearest.{HoldsNearestLine}
+use Rattle.bresenham.specs.Table.{table}
+use Rattle.bresenham.specs.Line.{apart, placed, walkCells, shallow, steep, line, answered, refused, called, lineCall}
+use Rattle.bresenham.specs.Nearest.{NearestLine, HoldsNearestLine, Walked, HoldsNearestWalk, columnOf, rowOf}
+use Rattle.bresenham.proofs.Walks.{shallow-walked, steep-walked}
 use Rattle.bresenham.proofs.Theorem.{nearest-line}
 
 and-true : (a b : Bool) → (a && b) ≡ true → (a ≡ true) × (b ≡ true)
 and-true true b e = (refl, e)
 and-true false b e = let z : _≡_ {A = ℕ} 0 1 = cc in absurd (omega arith)
-
-and-false : (b : Bool) → (b && false) ≡ false
-and-false true = refl
-and-false false = refl
 
 cell-in : (c : FieldCell) → inside c ≡ true → Inside c
 cell-in c e =
@@ -38,52 +37,38 @@ module _ (s t : FieldCell) where
   pub in-both : Inside s → Inside t → (inside s && inside t) ≡ true
   in-both i j = rw (in-cell s i, in-cell t j)
 
-  pub line-outside : (inside s && inside t) ≡ false → lineCall s t ≡ refused 13
-  unfolding lineCall
-  line-outside e = rw e
+  module _ (l : List FieldCell) where
+    pub outside : (inside s && inside t) ≡ false → called s t l ≡ refused 13
+    outside e = rw e
 
-  line-accepted : Inside s → Inside t → lineCall s t ≡ answered (line s t)
-  unfolding lineCall
-  line-accepted i j = rw (in-both i j)
+    pub accepted : (inside s && inside t) ≡ true → called s t l ≡ answered l
+    accepted e = rw e
+
+    -- what holds of the cells holds of an accepted answer
+    held : (r : Line) (P : List FieldCell → Type 0) → r ≡ called s t l → P l → Inside s → Inside t → P (take (r .count) (r .cells))
+    held r P e p i j = let f : r ≡ answered l = e ∙ accepted (in-both i j) in rw (f, take-append-seam l) p
 
   -- the answer holds Bresenham's line
   pub promised : (r : Line) → r ≡ lineCall s t → (r ≡ lineCall s t) × HoldsNearestLine s t r
-  promised r e = (
-    e,
-    λ i j.
-        let f : r ≡ answered (line s t) = e ∙ line-accepted i j in
-        rw (f, take-append-seam (line s t)) (nearest-line s t),
-  )
+  unfolding lineCall
+  promised r e = (e, held (line s t) r (NearestLine s t) e (nearest-line s t))
 
--- a walk alone
+  -- and that of a walk alone the nearest walk, where the pair is one of its kind
+  pub shallow-held : (r : Line) → r ≡ called s t (shallow s t) → HoldsNearestWalk columnOf rowOf s t r
+  shallow-held r e i j h n = held (shallow s t) r (Walked columnOf rowOf s t s t) e (shallow-walked s t h n) i j
+
+  pub steep-held : (r : Line) → r ≡ called s t (steep s t) → HoldsNearestWalk rowOf columnOf s t r
+  steep-held r e i j h n = held (steep s t) r (Walked rowOf columnOf s t s t) e (steep-walked s t h n) i j
+
+-- the coordinates of a walk alone
 pub placed-in : (steep : Bool) (a b : ℕ) → Inside (placed steep a b) → (a < 10) × (b < 10)
 placed-in true a b h = (h .row-in, h .column-in)
 placed-in false a b h = (h .column-in, h .row-in)
 
-module _ (steep : Bool) (a₀ b₀ a₁ b₁ : ℕ) where
-  pub walk-outside : (inside (placed steep a₀ b₀) && inside (placed steep a₁ b₁)) ≡ false → walkCall steep a₀ b₀ a₁ b₁ ≡ refused 13
-  unfolding walkCall
-  walk-outside e = rw e
-
-  module _ (e : (inside (placed steep a₀ b₀) && inside (placed steep a₁ b₁)) ≡ true) where
-    pub walk-turned : a₁ < a₀ → walkCall steep a₀ b₀ a₁ b₁ ≡ refused 0
-    unfolding walkCall
-    walk-turned h = rw (e, lt-leb a₀ a₁ h)
-
-    pub walk-wide : a₁ - a₀ < apart b₀ b₁ → walkCall steep a₀ b₀ a₁ b₁ ≡ refused 0
-    unfolding walkCall
-    walk-wide h = rw (e, lt-leb (apart b₀ b₁) (a₁ - a₀) h, and-false (leb a₀ a₁))
-
-    pub walk-taken : a₀ ≤ a₁ → apart b₀ b₁ ≤ a₁ - a₀ → walkCall steep a₀ b₀ a₁ b₁ ≡ answered (walkCells steep a₀ b₀ a₁ b₁)
-    unfolding walkCall
-    walk-taken h k = rw (e, le-leb a₀ a₁ h, le-leb (apart b₀ b₁) (a₁ - a₀) k)
-
--- a shorter span fits the longer one, from either end
-pub fits-forth : (x a b : ℕ) → x ≤ apart a b → a ≤ b → x ≤ b - a
-fits-forth x a b h k = omega arith
-
-pub fits-back : (p q a b : ℕ) → apart p q ≤ apart a b → b < a → apart q p ≤ a - b
-fits-back p q a b h k = omega arith
+-- a walk whose target's major coordinate is lower has no cells
+pub none-back : (steep : Bool) (a₀ b₀ a₁ b₁ : ℕ) → a₁ < a₀ → walkCells steep a₀ b₀ a₁ b₁ ≡ []
+unfolding table
+none-back steep a₀ b₀ a₁ b₁ h = let e : a₁ + 1 - a₀ ≡ 0 = omega arith in rw e
 
 -- the shallow lines, forth and back
 module _ (s t : FieldCell) (e : (inside s && inside t) ≡ true) (n : apart (s .row) (t .row) < apart (s .column) (t .column)) where

@@ -3,11 +3,12 @@
 use mathlib.Core.Path.{_≡_, refl, sym, ap, _∙_}
 use mathlib.Core.Bool.{Bool, true, false}
 use Prim.Native.Nat.{ℕ, zero, suc, _+_, _-_, _*_, _/_, _<_, _≤_, min}
-use native.Mathlib.Nat.{div-zero, div-eq-of-lt-le, div-mul-le-self, lt-mul-div-succ, mul-comm, mul-left-comm, mul-assoc, mul-add, add-mul, one-mul, mul-one, zero-mul, mul-zero, mul-le-mul-right, lt-of-mul-lt-mul-left, le-of-lt}
+use native.Mathlib.Nat.{div-zero, div-eq-of-lt-le, div-mul-le-self, lt-mul-div-succ, lt-of-mul-lt-mul-left, le-of-lt}
+use native.Mathlib.Nat.{mul-comm, mul-left-comm, mul-assoc, mul-add, add-mul, one-mul, mul-one, zero-mul, mul-zero, mul-le-mul-left, mul-le-mul-right}
 use native.Mathlib.Omega.{arith}
 use lib.Dec.{leb}
 use borrow.Author.Tests.{leb-true, leb-false}
-use Rattle.bresenham.specs.Line.{apart, toward, nearest, minorAt}
+use Rattle.bresenham.specs.Line.{apart, toward, nearest, offsetAt, minorAt}
 use Rattle.bresenham.specs.Nearest.{Between}
 
 -- q is x / (2 * m), from the two bounds
@@ -91,48 +92,105 @@ nearest-grows d (suc m) k n =
     let j = lt-of-mul-lt-mul-left (suc m) v in
     record { stays = omega arith; grown = omega arith }
 
--- what holds at step k of the walk: the offset, and the Rust's difference plus twice the span
+-- the offset of a walk that is no wider than long is the nearest number, and that of a wider one is the step
+narrow-few : (d m k : ℕ) → d ≤ m → nearest d m k ≤ k
+narrow-few d zero k n = rw (flat d zero k refl) (omega arith)
+narrow-few d (suc m) k n =
+    let y = nearest d (suc m) k in
+    let b = bounds d (suc m) k (omega arith) in
+    let p : k * d ≤ k * suc m = mul-le-mul-left k n in
+    let q : suc m * (k + 1) ≡ suc m * k + suc m * 1 = mul-add (suc m) k 1 in
+    let e : k * suc m ≡ suc m * k = mul-comm k (suc m) in
+    let x : suc m * y < suc m * (k + 1) = omega arith in
+    let z = lt-of-mul-lt-mul-left (suc m) x in
+    omega arith
+
+wide-many : (d m k : ℕ) → m < d → k ≤ m → k ≤ nearest d m k
+wide-many d zero k n h = omega arith
+wide-many d (suc m) k n h =
+    let y = nearest d (suc m) k in
+    let b = bounds d (suc m) k (omega arith) in
+    let p : k * suc m ≤ k * d = mul-le-mul-left k (le-of-lt n) in
+    let q : suc m * (y + 1) ≡ suc m * y + suc m * 1 = mul-add (suc m) y 1 in
+    let e : k * suc m ≡ suc m * k = mul-comm k (suc m) in
+    let x : suc m * k < suc m * (y + 1) = omega arith in
+    let z = lt-of-mul-lt-mul-left (suc m) x in
+    omega arith
+
+pub narrow-offset : (d m k : ℕ) → d ≤ m → offsetAt d m k ≡ nearest d m k
+narrow-offset d m k n = let h = narrow-few d m k n in omega arith
+
+-- What holds at step k of the walk, of the offset and of the Rust's difference plus twice the span.
+-- A walk wider than long has gained one at each step; of any other the difference tells which number is the nearest.
 pub record State (d m k offset difference : ℕ) : Type 0 where
-  pub near : offset ≡ nearest d m k
+  pub few : offset ≤ k
   pub balance : difference + 2 * (m * offset) ≡ 2 * (k * d) + 2 * d + m
   pub low : 2 * d + min 1 m ≤ difference
-  pub high : difference ≤ 2 * d + 2 * m
+  pub high : d ≤ m → difference ≤ 2 * d + 2 * m
+  pub wide : m < d → offset ≡ k
 
-module _ (d m : ℕ) (narrow : d ≤ m) where
+module _ (d m : ℕ) where
   pub start : State d m 0 0 (2 * d + m)
   start =
       let z : 0 * d ≡ 0 = zero-mul d in
       let y : m * 0 ≡ 0 = mul-zero m in
-      record { near = sym (nearest-start d m); balance = omega arith; low = omega arith; high = omega arith }
+      record { few = omega arith; balance = omega arith; low = omega arith; high = λ n. omega arith; wide = λ n. refl }
 
-  pub up : {k o e : ℕ} → State d m k o e → 2 * m < e → State d m (k + 1) (o + 1) (e + 2 * d - 2 * m)
-  unfolding nearest
-  up {k} {o} {e} s h =
-      let a : m * (o + 1) ≡ m * o + m = mul-add m o 1 ∙ ap (λ (z : ℕ). m * o + z) (mul-one m) in
-      let b : (k + 1) * d ≡ k * d + d = next d k in
-      let f = s .balance in
-      let l = s .low in
-      let g = s .high in
-      record {
-        near = quotient m (o + 1) (2 * ((k + 1) * d) + m - 1) (omega arith) (omega arith) (omega arith);
-        balance = omega arith;
-        low = omega arith;
-        high = omega arith;
-      }
+  module _ {k o e : ℕ} (s : State d m k o e) where
+    narrow-at : d ≤ m → k ≤ m → o ≡ nearest d m k
+    unfolding nearest
+    narrow-at n h =
+        let f = s .balance in
+        let l = s .low in
+        let g = s .high n in
+        let i = s .few in
+        quotient₀ m o (2 * (k * d) + m - 1) (λ p. (omega arith, omega arith)) (λ z. omega arith)
 
-  pub level : {k o e : ℕ} → State d m k o e → e ≤ 2 * m → State d m (k + 1) o (e + 2 * d)
-  unfolding nearest
-  level {k} {o} {e} s h =
-      let b : (k + 1) * d ≡ k * d + d = next d k in
-      let f = s .balance in
-      let l = s .low in
-      let g = s .high in
-      record {
-        near = quotient₀ m o (2 * ((k + 1) * d) + m - 1) (λ p. (omega arith, omega arith)) (λ z. s .near ∙ flat d m k z);
-        balance = omega arith;
-        low = omega arith;
-        high = omega arith;
-      }
+    pub at-step : k ≤ m → o ≡ offsetAt d m k
+    at-step h = go (leb d m) refl
+      where
+        go : (t : Bool) → leb d m ≡ t → o ≡ offsetAt d m k
+        go true e = let n = leb-true d m e in narrow-at n h ∙ sym (narrow-offset d m k n)
+        go false e =
+            let n = leb-false d m e in
+            let w = s .wide n in
+            let g = wide-many d m k n h in
+            omega arith
+
+    pub within : k ≤ m → o ≤ d
+    within h =
+        let a = at-step h in
+        let n = nearest-le d m k h in
+        omega arith
+
+    pub up : 2 * m < e → State d m (k + 1) (o + 1) (e + 2 * d - 2 * m)
+    up h =
+        let a : m * (o + 1) ≡ m * o + m = mul-add m o 1 ∙ ap (λ (z : ℕ). m * o + z) (mul-one m) in
+        let b : (k + 1) * d ≡ k * d + d = next d k in
+        let f = s .balance in
+        let l = s .low in
+        let i = s .few in
+        record {
+          few = omega arith;
+          balance = omega arith;
+          low = omega arith;
+          high = λ n. let g = s .high n in omega arith;
+          wide = λ n. let w = s .wide n in omega arith;
+        }
+
+    pub level : e ≤ 2 * m → State d m (k + 1) o (e + 2 * d)
+    level h =
+        let b : (k + 1) * d ≡ k * d + d = next d k in
+        let f = s .balance in
+        let l = s .low in
+        let i = s .few in
+        record {
+          few = omega arith;
+          balance = omega arith;
+          low = omega arith;
+          high = λ n. omega arith;
+          wide = λ n. absurd (omega arith);
+        }
 
 -- a coordinate on the way from a to b
 toward-up : (a b o : ℕ) → a ≤ b → toward a b o ≡ a + min o (b - a)
@@ -179,19 +237,23 @@ toward-next a b y z u v = go (leb a b) refl
         let p = le-of-lt (leb-false a b e) in
         rw (toward-down a b y p, toward-down a b z p) (near-less a (min y (a - b)) (min z (a - b)) (omega arith) (omega arith) (omega arith))
 
+toward-between : (a b o : ℕ) → Between a b (toward a b o)
+unfolding toward
+toward-between a b o = record { from = omega arith; to = omega arith }
+
 -- the shorter coordinate: never outside the two ends, from the one to the other, and by one at most at each step
 pub minor-between : (a b m k : ℕ) → Between a b (minorAt a b m k)
-unfolding toward
-minor-between a b m k = record { from = omega arith; to = omega arith }
-
-pub minor-offset : (a b m k : ℕ) → k ≤ m → apart a (minorAt a b m k) ≡ nearest (apart a b) m k
-minor-offset a b m k h = toward-offset a b (nearest (apart a b) m k) (nearest-le (apart a b) m k h)
+minor-between a b m k = toward-between a b (offsetAt (apart a b) m k)
 
 pub minor-start : (a b m : ℕ) → minorAt a b m 0 ≡ a
 unfolding toward
 minor-start a b m = let e = nearest-start (apart a b) m in omega arith
 
 module _ (a b m : ℕ) (narrow : apart a b ≤ m) where
+  pub minor-offset : (k : ℕ) → k ≤ m → apart a (minorAt a b m k) ≡ nearest (apart a b) m k
+  minor-offset k h =
+      rw (narrow-offset (apart a b) m k narrow) (toward-offset a b (nearest (apart a b) m k) (nearest-le (apart a b) m k h))
+
   pub minor-end : minorAt a b m m ≡ b
   unfolding toward
   minor-end = let e = nearest-end (apart a b) m narrow in omega arith
@@ -199,4 +261,5 @@ module _ (a b m : ℕ) (narrow : apart a b ≤ m) where
   pub minor-next : (k : ℕ) → apart (minorAt a b m k) (minorAt a b m (k + 1)) ≤ 1
   minor-next k =
       let g = nearest-grows (apart a b) m k narrow in
-      toward-next a b (nearest (apart a b) m k) (nearest (apart a b) m (k + 1)) (g .stays) (g .grown)
+      rw (narrow-offset (apart a b) m k narrow, narrow-offset (apart a b) m (k + 1) narrow)
+      (toward-next a b (nearest (apart a b) m k) (nearest (apart a b) m (k + 1)) (g .stays) (g .grown))

@@ -19,8 +19,8 @@ use borrow.Author.Tests.{leb-true, leb-false, ltb-true, ltb-false}
 use Rattle.fields.specs.declared.FieldCell.{FieldCell}
 use Rattle.fields.specs.Cell.{cell, Inside}
 use Rattle.bresenham.specs.Line.{apart, shallow, steep, line}
-use Rattle.bresenham.specs.Nearest.{Between, NearestWalk, columnOf, rowOf, NearestLine, Spanned}
-use Rattle.bresenham.proofs.Walks.{Walked, walked-back, shallow-walked, steep-walked}
+use Rattle.bresenham.specs.Nearest.{Between, NearestWalk, Walked, columnOf, rowOf, NearestLine, Spanned}
+use Rattle.bresenham.proofs.Walks.{walked-back, shallow-walked, steep-walked}
 
 -- one of two, by a test and what it told
 by-test : {A : Type 0} (P : A → Type 0) (b : Bool) (x y : A) → (b ≡ true → P x) → (b ≡ false → P y) → P (cond b x y)
@@ -49,22 +49,26 @@ nearest-line s t =
     (λ f.
     let h = leb-true (s .column) (t .column) f in
     let w = shallow-walked s t h (omega arith) in
-    of-walk columnOf rowOf s t s t _ w (omega arith) (λ p q. w .each) (λ p q. absurd (omega arith)) (λ p q. absurd (omega arith)) (λ p q. absurd (omega arith)))
+    of-walk columnOf rowOf s t s t _ w (omega arith)
+    (λ p q. w .each) (λ p q. absurd (omega arith)) (λ p q. absurd (omega arith)) (λ p q. absurd (omega arith)))
     (λ f.
     let h = leb-false (s .column) (t .column) f in
     let w = walked-back columnOf rowOf t s t s (shallow t s) (shallow-walked t s (le-of-lt h) (omega arith)) in
-    of-walk columnOf rowOf t s s t _ w (omega arith) (λ p q. absurd (omega arith)) (λ p q. w .each) (λ p q. absurd (omega arith)) (λ p q. absurd (omega arith))))
+    of-walk columnOf rowOf t s s t _ w (omega arith)
+    (λ p q. absurd (omega arith)) (λ p q. w .each) (λ p q. absurd (omega arith)) (λ p q. absurd (omega arith))))
     (λ e.
     let n = ltb-false (apart (s .row) (t .row)) (apart (s .column) (t .column)) e in
     by-test (NearestLine s t) (leb (s .row) (t .row)) _ _
     (λ f.
     let h = leb-true (s .row) (t .row) f in
     let w = steep-walked s t h (omega arith) in
-    of-walk rowOf columnOf s t s t _ w (omega arith) (λ p q. absurd (omega arith)) (λ p q. absurd (omega arith)) (λ p q. w .each) (λ p q. absurd (omega arith)))
+    of-walk rowOf columnOf s t s t _ w (omega arith)
+    (λ p q. absurd (omega arith)) (λ p q. absurd (omega arith)) (λ p q. w .each) (λ p q. absurd (omega arith)))
     (λ f.
     let h = leb-false (s .row) (t .row) f in
     let w = walked-back rowOf columnOf t s t s (steep t s) (steep-walked t s (le-of-lt h) (omega arith)) in
-    of-walk rowOf columnOf t s s t _ w (omega arith) (λ p q. absurd (omega arith)) (λ p q. absurd (omega arith)) (λ p q. absurd (omega arith)) (λ p q. w .each)))
+    of-walk rowOf columnOf t s s t _ w (omega arith)
+    (λ p q. absurd (omega arith)) (λ p q. absurd (omega arith)) (λ p q. absurd (omega arith)) (λ p q. w .each)))
 
 pub line-first : (s t : FieldCell) → getD (line s t) 0 (cell 0 0) ≡ s
 line-first s t = nearest-line s t .first

@@ -11,7 +11,7 @@ use Rattle.fields.specs.declared.FieldCell.{FieldCell}
 use Rattle.fields.specs.Cell.{cell}
 use Rattle.bresenham.specs.Table.{table}
 use Rattle.bresenham.specs.Line.{apart, nearest, minorAt, walkAt, shallow, steep}
-use Rattle.bresenham.specs.Nearest.{Between, Neighbours, NearestCell, NearestWalk, columnOf, rowOf}
+use Rattle.bresenham.specs.Nearest.{Between, Neighbours, NearestCell, Walked, columnOf, rowOf}
 use Rattle.bresenham.proofs.Lists.{length-table, getD-table, getD-reverse}
 use Rattle.bresenham.proofs.Offset.{bounds, minor-between, minor-offset, minor-start, minor-end, minor-next}
 
@@ -38,14 +38,6 @@ half-nearer d (suc m) k h e =
 between-up : (x m k : ℕ) → k ≤ m → Between x (x + m) (x + k)
 between-up x m k h = record { from = omega arith; to = omega arith }
 
--- what is known of the cells of a walk from a to b that are listed from s to t
-pub record Walked (major minor : FieldCell → ℕ) (a b s t : FieldCell) (l : List FieldCell) : Type 0 where
-  pub many : length l ≡ apart (major a) (major b) + 1
-  pub first : getD l 0 (cell 0 0) ≡ s
-  pub last : getD l (length l - 1) (cell 0 0) ≡ t
-  pub moves : (k : ℕ) → k + 1 < length l → Neighbours (getD l k (cell 0 0)) (getD l (k + 1) (cell 0 0))
-  pub each : NearestWalk major minor a b l
-
 -- a walk of m steps whose step k is f k: the same for columns and rows, and for rows and columns
 module _
     (major minor : FieldCell → ℕ)
@@ -62,7 +54,7 @@ module _
       let g = along k in
       let p : apart (major a) (major (f k)) ≡ k = omega arith in
       let q : apart (major a) (major b) ≡ m = omega arith in
-      let r : apart (minor a) (minor (f k)) ≡ nearest d m k = ap (apart (minor a)) (aside k) ∙ minor-offset (minor a) (minor b) m k h in
+      let r : apart (minor a) (minor (f k)) ≡ nearest d m k = ap (apart (minor a)) (aside k) ∙ minor-offset (minor a) (minor b) m narrow k h in
       record {
         along = rw (ahead, g) (between-up (major a) m k h);
         aside = subst (Between (minor a) (minor b)) (sym (aside k)) (minor-between (minor a) (minor b) m k);
@@ -97,7 +89,8 @@ neighbours-back : (c d : FieldCell) → Neighbours c d → Neighbours d c
 neighbours-back c d h = omega arith
 
 -- the same cells from the last
-pub walked-back : (major minor : FieldCell → ℕ) (a b s t : FieldCell) (l : List FieldCell) → Walked major minor a b s t l → Walked major minor a b t s (reverse l)
+pub walked-back : (major minor : FieldCell → ℕ) (a b s t : FieldCell) (l : List FieldCell) → Walked major minor a b s t l
+    → Walked major minor a b t s (reverse l)
 walked-back major minor a b s t l w =
     let n = length l in
     let p : length (reverse l) ≡ n = length-reverse l in
@@ -116,12 +109,21 @@ walked-back major minor a b s t l w =
       each = λ k h. rw (at k (omega arith)) (w .each (n - 1 - k) (omega arith));
     }
 
--- the two walks
+-- the two walks, wherever the pair is one of their kind
+pub cells-many : (a b : ℕ) → a ≤ b → b + 1 - a ≡ b - a + 1
+cells-many a b h = omega arith
+
 module _ (s t : FieldCell) where
   pub shallow-walked : s .column ≤ t .column → apart (s .row) (t .row) ≤ t .column - s .column → Walked columnOf rowOf s t s t (shallow s t)
   unfolding shallow
-  shallow-walked h n = walked columnOf rowOf (λ c d p q. ap₂ cell p q) (λ c d p q. omega arith) s t (t .column - s .column) (walkAt false (s .column) (s .row) (t .column) (t .row)) (omega arith) n (λ k. refl) (λ k. refl)
+  shallow-walked h n =
+      let f = walkAt false (s .column) (s .row) (t .column) (t .row) in
+      rw (cells-many (s .column) (t .column) h)
+      (walked columnOf rowOf (λ c d p q. ap₂ cell p q) (λ c d p q. omega arith) s t (t .column - s .column) f (omega arith) n (λ k. refl) (λ k. refl))
 
   pub steep-walked : s .row ≤ t .row → apart (s .column) (t .column) ≤ t .row - s .row → Walked rowOf columnOf s t s t (steep s t)
   unfolding steep
-  steep-walked h n = walked rowOf columnOf (λ c d p q. ap₂ cell q p) (λ c d p q. omega arith) s t (t .row - s .row) (walkAt true (s .row) (s .column) (t .row) (t .column)) (omega arith) n (λ k. refl) (λ k. refl)
+  steep-walked h n =
+      let f = walkAt true (s .row) (s .column) (t .row) (t .column) in
+      rw (cells-many (s .row) (t .row) h)
+      (walked rowOf columnOf (λ c d p q. ap₂ cell q p) (λ c d p q. omega arith) s t (t .row - s .row) f (omega arith) n (λ k. refl) (λ k. refl))

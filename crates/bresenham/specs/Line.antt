@@ -1,7 +1,7 @@
 -- The cells of a line (01, "Line"), and what the line calls answer.
 -- Assumes nothing.
 use mathlib.Core.Bool.{Bool, true, false, cond, _&&_}
-use mathlib.Core.List.{List, [], reverse}
+use mathlib.Core.List.{List, reverse}
 use Prim.Native.Nat.{ℕ, _+_, _-_, _*_, _/_, min}
 use lib.Dec.{leb, ltb}
 use lib.ListN.{length, replicate}
@@ -24,21 +24,27 @@ toward a b o = a + min o (b - a) - min o (a - b)
 unfoldable pub nearest : ℕ → ℕ → ℕ → ℕ
 nearest d m k = (2 * (k * d) + m - 1) / (2 * m)
 
--- the shorter coordinate at step k of a walk of m steps that takes it from a to b
+-- how far a walk of m steps has gone aside at step k: it gains one at most at each step, which changes nothing where d is at most m
+abbrev pub offsetAt : ℕ → ℕ → ℕ → ℕ
+offsetAt d m k = min k (nearest d m k)
+
+-- the minor coordinate at step k of a walk of m steps that takes it from a toward b
 abbrev pub minorAt : ℕ → ℕ → ℕ → ℕ → ℕ
-minorAt a b m k = toward a b (nearest (apart a b) m k)
+minorAt a b m k = toward a b (offsetAt (apart a b) m k)
 
 -- a cell by its major and minor coordinate: of a steep walk the rows are the major one
 abbrev pub placed : Bool → ℕ → ℕ → FieldCell
 placed true major minor = cell minor major
 placed false major minor = cell major minor
 
--- Step k of a walk, and its cells: its major coordinate gains one at each step, from a₀ to a₁, and its minor one goes from b₀ to b₁.
+-- Step k of a walk, and its cells: its major coordinate gains one at each step, from a₀ to a₁, and its minor one goes from b₀ toward b₁.
+-- This is the Rust's walk of any pair: no cells where a₁ is below a₀, a diagonal where the minor span is above the major one.
+-- 01, "Line", speaks of the other pairs, on which it is Bresenham's (specs/Nearest.antt).
 abbrev pub walkAt : Bool → ℕ → ℕ → ℕ → ℕ → ℕ → FieldCell
 walkAt steep a₀ b₀ a₁ b₁ k = placed steep (a₀ + k) (minorAt b₀ b₁ (a₁ - a₀) k)
 
 abbrev pub walkCells : Bool → ℕ → ℕ → ℕ → ℕ → List FieldCell
-walkCells steep a₀ b₀ a₁ b₁ = table (a₁ - a₀ + 1) (walkAt steep a₀ b₀ a₁ b₁)
+walkCells steep a₀ b₀ a₁ b₁ = table (a₁ + 1 - a₀) (walkAt steep a₀ b₀ a₁ b₁)
 
 -- the walk from s to t through the columns, and the one through the rows
 unfoldable pub shallow : FieldCell → FieldCell → List FieldCell
@@ -72,13 +78,9 @@ called s t l = cond (inside s && inside t) (answered l) (refused 13)
 unfoldable pub lineCall : FieldCell → FieldCell → Line
 lineCall s t = called s t (line s t)
 
--- the two walks alone: no cells where the coordinates are those of no such walk
-unfoldable pub walkCall : Bool → ℕ → ℕ → ℕ → ℕ → Line
-walkCall steep a₀ b₀ a₁ b₁ =
-    called (placed steep a₀ b₀) (placed steep a₁ b₁) (cond (leb a₀ a₁ && leb (apart b₀ b₁) (a₁ - a₀)) (walkCells steep a₀ b₀ a₁ b₁) [])
-
+-- the two walks alone
 abbrev pub shallowCall : FieldCell → FieldCell → Line
-shallowCall s t = walkCall false (s .column) (s .row) (t .column) (t .row)
+shallowCall s t = called s t (shallow s t)
 
 abbrev pub steepCall : FieldCell → FieldCell → Line
-steepCall s t = walkCall true (s .row) (s .column) (t .row) (t .column)
+steepCall s t = called s t (steep s t)

@@ -49,6 +49,15 @@ columnOf c = c .column
 abbrev pub rowOf : FieldCell → ℕ
 rowOf c = c .row
 
+-- l is the whole walk from a to b, listed from s to t (a and b, or b and a): it starts at s, ends at t, moves to a neighbour at each step,
+-- has a cell for each place of the major coordinate, and its cells are the nearest ones.
+pub record Walked (major minor : FieldCell → ℕ) (a b s t : FieldCell) (l : List FieldCell) : Type 0 where
+  pub many : length l ≡ apart (major a) (major b) + 1
+  pub first : getD l 0 (cell 0 0) ≡ s
+  pub last : getD l (length l - 1) (cell 0 0) ≡ t
+  pub moves : (k : ℕ) → k + 1 < length l → Neighbours (getD l k (cell 0 0)) (getD l (k + 1) (cell 0 0))
+  pub each : NearestWalk major minor a b l
+
 -- l is the line from s to t: it starts at s, ends at t, moves to a neighbour at each step and has as many cells as the longer span wants.
 -- Its cells are the nearest ones along the longer span, walked from the end where that coordinate is lower. Equal spans are steep.
 pub record NearestLine (s t : FieldCell) (l : List FieldCell) : Type 0 where
@@ -64,3 +73,9 @@ pub record NearestLine (s t : FieldCell) (l : List FieldCell) : Type 0 where
 -- what a line call promises of its answer, wherever it is not refused
 abbrev pub HoldsNearestLine : FieldCell → FieldCell → Line → Type 0
 HoldsNearestLine s t r = Inside s → Inside t → NearestLine s t (take (r .count) (r .cells))
+
+-- What a walk alone promises of its answer, wherever it is not refused and the pair is a walk of its kind:
+-- the target's major coordinate is not lower, and the minor span is not above the major one.
+abbrev pub HoldsNearestWalk : (FieldCell → ℕ) → (FieldCell → ℕ) → FieldCell → FieldCell → Line → Type 0
+HoldsNearestWalk major minor s t r =
+    Inside s → Inside t → major s ≤ major t → apart (minor s) (minor t) ≤ major t - major s → Walked major minor s t s t (take (r .count) (r .cells))

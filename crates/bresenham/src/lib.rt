@@ -2,11 +2,11 @@
 use fields::FieldCell;
 ghost use mathlib.Core.Path.{_≡_};
 ghost use mathlib.Core.Bool.{_&&_};
-ghost use Prim.Native.Nat.{_-_, _≤_, _<_};
+ghost use Prim.Native.Nat.{_≤_, _<_};
 ghost use Rattle.fields.specs.Cell.{cell, inside};
-ghost use Rattle.bresenham.specs.Line.{apart, toward, placed, walkCells, answered, refused, lineCall, walkCall, shallowCall, steepCall};
+ghost use Rattle.bresenham.specs.Line.{apart, toward, placed, walkCells, answered, refused, called, lineCall, shallowCall, steepCall};
 ghost use Rattle.bresenham.specs.Inner.{placeOf, listed};
-ghost use Rattle.bresenham.specs.Nearest.{HoldsNearestLine};
+ghost use Rattle.bresenham.specs.Nearest.{columnOf, rowOf, HoldsNearestLine, HoldsNearestWalk};
 
 // The cells of a line, and how many they are; the places beyond hold 0. A refused call's number says why.
 #[repr(C)]
@@ -87,7 +87,7 @@ fn walk(
     major_1: usize,
     minor_1: usize,
 ) -> Line
-    requires { ⌜ (major_0 ≤ major_1) × (major_1 < 10) × (minor_0 < 10) × (minor_1 < 10) × (apart minor_0 minor_1 ≤ major_1 - major_0) ⌝ }
+    requires { ⌜ (major_0 ≤ major_1) × (major_1 < 10) × (minor_0 < 10) × (minor_1 < 10) ⌝ }
     ensures { λ r. ⌜ r ≡ answered (listed back (walkCells steep major_0 minor_0 major_1 minor_1)) ⌝ }
 {
     let span = major_1 - major_0;
@@ -112,9 +112,9 @@ fn walk(
     line
 }
 
-// A walk by itself, or no cells where these are the coordinates of none.
+// A walk by itself, of any pair of cells; no cells where the target's major coordinate is lower.
 fn walk_alone(steep: bool, major_0: usize, minor_0: usize, major_1: usize, minor_1: usize) -> Line
-    ensures { λ r. ⌜ r ≡ walkCall steep major_0 minor_0 major_1 minor_1 ⌝ }
+    ensures { λ r. ⌜ r ≡ called (placed steep major_0 minor_0) (placed steep major_1 minor_1) (walkCells steep major_0 minor_0 major_1 minor_1) ⌝ }
 {
     let source = placed_cell(steep, major_0, minor_0);
     let target = placed_cell(steep, major_1, minor_1);
@@ -124,22 +124,23 @@ fn walk_alone(steep: bool, major_0: usize, minor_0: usize, major_1: usize, minor
     if major_1 < major_0 {
         return empty(0);
     }
-    if major_1 - major_0 < distance(minor_0, minor_1) {
-        return empty(0);
-    }
     walk(steep, false, major_0, minor_0, major_1, minor_1)
 }
 
-// The line steps through the columns, of which it has as many as rows, or more.
+// Steps through the columns, at most one row aside at each; no cells where the target's column is lower.
+// With as many columns as rows, or more, it is Bresenham's line and ends at the target.
 pub fn walk_bresenham_shallow(col_0: usize, row_0: usize, col_1: usize, row_1: usize) -> Line
-    ensures { λ r. ⌜ r ≡ shallowCall (cell col_0 row_0) (cell col_1 row_1) ⌝ }
+    ensures answer { λ r. ⌜ r ≡ shallowCall (cell col_0 row_0) (cell col_1 row_1) ⌝ }
+    ensures nearest { λ r. ⌜ HoldsNearestWalk columnOf rowOf (cell col_0 row_0) (cell col_1 row_1) r ⌝ }
 {
     walk_alone(false, col_0, row_0, col_1, row_1)
 }
 
-// The line steps through the rows, of which it has as many as columns, or more.
+// Steps through the rows, at most one column aside at each; no cells where the target's row is lower.
+// With as many rows as columns, or more, it is Bresenham's line and ends at the target.
 pub fn walk_bresenham_steep(col_0: usize, row_0: usize, col_1: usize, row_1: usize) -> Line
-    ensures { λ r. ⌜ r ≡ steepCall (cell col_0 row_0) (cell col_1 row_1) ⌝ }
+    ensures answer { λ r. ⌜ r ≡ steepCall (cell col_0 row_0) (cell col_1 row_1) ⌝ }
+    ensures nearest { λ r. ⌜ HoldsNearestWalk rowOf columnOf (cell col_0 row_0) (cell col_1 row_1) r ⌝ }
 {
     walk_alone(true, row_0, col_0, row_1, col_1)
 }

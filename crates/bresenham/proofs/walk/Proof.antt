@@ -1,23 +1,53 @@
 -- The invariant of `walk`: the cells of the first k steps are written, and the offset and the difference are those of step k.
+-- The difference grows by less than 20 at each of at most ten steps, so that no sum wraps.
 -- Assumes nothing.
-use Prim.Native.Nat.{ℕ, _+_, _-_, _<_, _≤_}
-use Rattle.bresenham.proofs.Places.{uncounted, written, none-written, one-more, counted}
 use mathlib.Core.Path.{_≡_, sym, ap, _∙_}
-use native.Mathlib.Omega.{arith}
 use mathlib.Core.Logic.{inl, inr}
+use Prim.Native.Nat.{ℕ, _+_, _-_, _*_, _≤_}
+use native.Mathlib.Omega.{arith}
 use borrow.Author.Needs.{needs}
-use Rattle.bresenham.specs.Line.{apart, toward, nearest, placed, walkAt}
-use Rattle.bresenham.proofs.Offset.{State, start, up, level, nearest-le}
+use Rattle.fields.specs.declared.FieldCell.{FieldCell}
+use Rattle.bresenham.specs.Line.{toward, offsetAt, placed, walkAt}
+use Rattle.bresenham.proofs.Offset.{State, start, at-step, within, up, level}
+use Rattle.bresenham.proofs.Walks.{cells-many}
+use Rattle.bresenham.proofs.Places.{uncounted, written, none-written, one-more, counted}
 use Rattle.bresenham.proofs.walk.Statement.{statement}
 use Rattle.bresenham.proofs.walk.Tie as tie
 
 abbrev Inv-loop : tie.InvT-loop
 Inv-loop steep back major-0 minor-0 major-1 minor-1 span rise line₀ difference₀ offset₀ k₀ line difference offset k =
-    (k ≤ span + 1) × (offset ≤ k) × (line ≡ uncounted (written back span k (walkAt steep major-0 minor-0 major-1 minor-1))) × State rise span k offset difference
+    (k ≤ span + 1) × (difference ≤ 30 + 20 * k) × (line ≡ uncounted (written back span k (walkAt steep major-0 minor-0 major-1 minor-1)))
+    × State rise span k offset difference
 
 abbrev μ-loop : tie.MeasureT-loop
 μ-loop steep back major-0 minor-0 major-1 minor-1 span rise line₀ difference₀ offset₀ k₀ line difference offset k =
     span + 1 - k
+
+-- where the loop stands; where it goes on; what the walk is there
+abbrev At : Type 0
+At = tie.At-loop Inv-loop μ-loop
+
+abbrev Round : Type 0
+Round = tie.In-loop Inv-loop μ-loop
+
+abbrev begun : At → tie.Start Inv-loop μ-loop
+begun l = l .before .before .before
+
+abbrev span : At → ℕ
+span l = begun l .args .major-1 - begun l .args .major-0
+
+abbrev rise : At → ℕ
+rise l = l .before .before .distance .result
+
+abbrev step : At → ℕ → FieldCell
+step l = let a = begun l .args in walkAt (a .steep) (a .major-0) (a .minor-0) (a .major-1) (a .minor-1)
+
+-- the offset is the definition's, and stays within the rise
+near : (r : Round) → r .before .loop .offset ≡ offsetAt (rise (r .before)) (span (r .before)) (r .before .loop .k)
+near r = at-step (rise (r .before)) (span (r .before)) (r .before .loop .inv .3) (omega arith)
+
+low : (r : Round) → r .before .loop .offset ≤ rise (r .before)
+low r = within (rise (r .before)) (span (r .before)) (r .before .loop .inv .3) (omega arith)
 
 sub-span : tie.Need-sub-span Inv-loop μ-loop
 sub-span c = omega arith
@@ -37,14 +67,10 @@ add-difference c = omega arith
 loop-holds : tie.Need-loop-holds Inv-loop μ-loop
 loop-holds c =
     let a = c .before .before .args in
+    let m = a .major-1 - a .major-0 in
     let f = walkAt (a .steep) (a .major-0) (a .minor-0) (a .major-1) (a .minor-1) in
-    (omega arith, omega arith, c .empty .ensures ∙ ap uncounted (sym (none-written (a .major-1 - a .major-0) f (omega arith) (a .back))), start (c .before .distance .result) (a .major-1 - a .major-0) (rw (c .before .distance .ensures) (omega arith)))
-
--- the offset stays within the rise
-low : (c : tie.In-loop Inv-loop μ-loop) → c .before .loop .offset ≤ c .before .before .before .distance .result
-low c =
-    let h : c .before .loop .k ≤ c .before .before .before .before .args .major-1 - c .before .before .before .before .args .major-0 = omega arith in
-    rw (c .before .loop .inv .3 .near) (nearest-le (c .before .before .before .distance .result) (c .before .before .before .before .args .major-1 - c .before .before .before .before .args .major-0) (c .before .loop .k) h)
+    let blank = c .empty .ensures ∙ ap uncounted (sym (none-written m f (omega arith) (a .back))) in
+    (omega arith, omega arith, blank, start (c .before .distance .result) m)
 
 moved-requires : tie.Need-moved-requires Inv-loop μ-loop
 moved-requires c κs = (omega arith, omega arith, rw (← c .before .before .before .distance .ensures) (low c))
@@ -96,20 +122,20 @@ loop-less c = omega arith
 
 loop-again : tie.Need-loop-again Inv-loop μ-loop
 loop-again c =
-    let a = c .before .before .before .before .before .before .before .before .args in
-    let span = a .major-1 - a .major-0 in
-    let rise = c .before .before .before .before .before .before .before .distance .result in
-    let k = c .before .before .before .before .before .loop .k in
-    let s = c .before .before .before .before .before .loop .inv .3 in
-    let f = walkAt (a .steep) (a .major-0) (a .minor-0) (a .major-1) (a .minor-1) in
-    let narrow : rise ≤ span = rw (c .before .before .before .before .before .before .before .distance .ensures) (omega arith) in
-    let near : c .before .before .before .before .before .loop .offset ≡ nearest (apart (a .minor-0) (a .minor-1)) span k = s .near ∙ ap (λ (d : ℕ). nearest d span k) (c .before .before .before .before .before .before .before .distance .ensures) in
-    let made : c .before .placed-cell .result ≡ f k =
-    c .before .placed-cell .ensures ∙ ap (placed (a .steep) (a .major-0 + k)) (c .before .before .before .moved .ensures ∙ ap (toward (a .minor-0) (a .minor-1)) near) in
-    let put = one-more span f (omega arith) (a .back) k (c .before .before .before .before .before .loop .line) (c .before .before .before .before .before .loop .inv .2) (c .before .before .place-of .result) (c .before .placed-cell .result) (omega arith) (c .before .before .place-of .ensures .0) made in
+    let spot = c .before .before in
+    let r = spot .before .before in
+    let l = r .before in
+    let a = begun l .args in
+    let k = l .loop .k in
+    let s = l .loop .inv .3 in
+    let aside = near r ∙ ap (λ (d : ℕ). offsetAt d (span l) k) (l .before .before .distance .ensures) in
+    let minor = spot .before .moved .ensures ∙ ap (toward (a .minor-0) (a .minor-1)) aside in
+    let made = c .before .placed-cell .ensures ∙ ap (placed (a .steep) (a .major-0 + k)) minor in
+    let more = one-more (span l) (step l) (omega arith) (a .back) k (l .loop .line) (l .loop .inv .2) in
+    let put = more (spot .place-of .result) (c .before .placed-cell .result) (omega arith) (spot .place-of .ensures .0) made in
     elim (c .if1 .came) [
-      | inl w ↦ (omega arith, omega (arith, w .2), put, rw (w .1, w .2) (up rise span narrow s (w .0 .taken)))
-      | inr w ↦ (omega arith, omega (arith, w .2), put, rw (w .1, w .2) (level rise span narrow s (w .0 .left)))
+      | inl w ↦ (omega arith, omega (arith, w .1), put, rw (w .1, w .2) (up (rise l) (span l) s (w .0 .taken)))
+      | inr w ↦ (omega arith, omega (arith, w .1), put, rw (w .1, w .2) (level (rise l) (span l) s (w .0 .left)))
     ]
 
 add-line : tie.Need-add-line Inv-loop μ-loop
@@ -117,10 +143,10 @@ add-line c = omega arith
 
 returns : tie.Need-returns Inv-loop μ-loop
 returns c =
-    let a = c .before .before .before .before .args in
-    let f = walkAt (a .steep) (a .major-0) (a .minor-0) (a .major-1) (a .minor-1) in
-    let room : a .major-1 - a .major-0 < 10 = omega arith in
-    counted (a .major-1 - a .major-0) f room (a .back) (c .before .loop .k) (c .before .loop .line) (c .before .loop .inv .2) (omega arith)
+    let l = c .before in
+    let a = begun l .args in
+    rw (cells-many (a .major-0) (a .major-1) (omega arith))
+    (counted (span l) (step l) (omega arith) (a .back) (l .loop .k) (l .loop .line) (l .loop .inv .2) (omega arith))
 
 pub walk-spec : {M : Type 1} → statement M
 walk-spec =

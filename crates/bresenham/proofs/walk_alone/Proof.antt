@@ -1,18 +1,39 @@
--- `bresenham::walk_alone` meets its contract, by the tests that it makes.
+-- `bresenham::walk_alone`, by the tests that it makes.
 -- Assumes nothing.
-use mathlib.Core.Path.{_≡_, sym, _∙_}
+use mathlib.Core.Path.{_≡_, sym, ap, _∙_}
 use mathlib.Core.Bool.{true, _&&_}
+use mathlib.Core.List.{List}
 use borrow.Author.Needs.{needs}
 use borrow.Author.Tests.{not-true, not-false}
+use Rattle.fields.specs.declared.FieldCell.{FieldCell}
 use Rattle.fields.specs.Cell.{inside}
-use Rattle.bresenham.specs.Line.{placed}
-use Rattle.bresenham.proofs.Calls.{both-in, placed-in, walk-outside, walk-turned, walk-wide, walk-taken}
+use Rattle.bresenham.specs.Line.{placed, walkCells, answered}
+use Rattle.bresenham.proofs.Calls.{both-in, outside, accepted, placed-in, none-back}
 use Rattle.bresenham.proofs.walk_alone.Statement.{statement}
 use Rattle.bresenham.proofs.walk_alone.Tie as tie
 
--- past the first test both cells lie in the sector
-within : (c : tie.Else1) → let a = c .before .before .before .before .args in (inside (placed (a .steep) (a .major-0) (a .minor-0)) && inside (placed (a .steep) (a .major-1) (a .minor-1))) ≡ true
-within c = rw (← c .before .before .before .placed-cell .ensures, ← c .before .before .placed-cell2 .ensures) (sym (c .before .both-inside .ensures) ∙ not-false _ (c .if1 .left))
+-- where the two cells were tested; what they are, and the walk between them
+abbrev Tested : Type 0
+Tested = tie.After-both-inside
+
+abbrev begun : Tested → tie.Start
+begun m = m .before .before .before
+
+abbrev source : Tested → FieldCell
+source m = let a = begun m .args in placed (a .steep) (a .major-0) (a .minor-0)
+
+abbrev target : Tested → FieldCell
+target m = let a = begun m .args in placed (a .steep) (a .major-1) (a .minor-1)
+
+abbrev cells : Tested → List FieldCell
+cells m = let a = begun m .args in walkCells (a .steep) (a .major-0) (a .minor-0) (a .major-1) (a .minor-1)
+
+-- the test is that of these cells
+tested : (m : Tested) → m .both-inside .result ≡ (inside (source m) && inside (target m))
+tested m = rw (← m .before .before .placed-cell .ensures, ← m .before .placed-cell2 .ensures) (m .both-inside .ensures)
+
+within : (c : tie.Else1) → (inside (source (c .before)) && inside (target (c .before))) ≡ true
+within c = sym (tested (c .before)) ∙ not-false _ (c .if1 .left)
 
 placed-cell-requires : tie.Need-placed-cell-requires
 placed-cell-requires c κs = search needs
@@ -28,41 +49,34 @@ empty-requires c κs = search needs
 
 returns : tie.Need-returns
 returns c =
-    let a = c .before .before .before .before .before .args in
-    let e = sym (c .before .before .both-inside .ensures) ∙ not-true _ (c .before .if1 .taken) in
-    c .empty .ensures ∙ sym (walk-outside (a .steep) (a .major-0) (a .minor-0) (a .major-1) (a .minor-1) (rw (← c .before .before .before .before .placed-cell .ensures, ← c .before .before .before .placed-cell2 .ensures) e))
+    let m = c .before .before in
+    c .empty .ensures ∙ sym (outside (source m) (target m) (cells m) (sym (tested m) ∙ not-true _ (c .before .if1 .taken)))
 
 empty-requires-2 : tie.Need-empty-requires-2
 empty-requires-2 c κs = search needs
 
 returns-2 : tie.Need-returns-2
 returns-2 c =
-    let a = c .before .before .before .before .before .before .args in
-    c .empty2 .ensures ∙ sym (walk-turned (a .steep) (a .major-0) (a .minor-0) (a .major-1) (a .minor-1) (within (c .before .before)) (c .before .if2 .taken))
-
-distance-requires : tie.Need-distance-requires
-distance-requires c κs = search needs
-
-empty-requires-3 : tie.Need-empty-requires-3
-empty-requires-3 c κs = search needs
-
-returns-3 : tie.Need-returns-3
-returns-3 c =
-    let a = c .before .before .before .before .before .before .before .before .args in
-    c .empty3 .ensures ∙ sym (walk-wide (a .steep) (a .major-0) (a .minor-0) (a .major-1) (a .minor-1) (within (c .before .before .before .before)) (rw (← c .before .before .distance .ensures) (c .before .if3 .taken)))
+    let i = c .before .before in
+    let m = i .before in
+    let a = begun m .args in
+    let none = none-back (a .steep) (a .major-0) (a .minor-0) (a .major-1) (a .minor-1) (c .before .if2 .taken) in
+    c .empty2 .ensures ∙ ap answered (sym none) ∙ sym (accepted (source m) (target m) (cells m) (within i))
 
 walk-requires : tie.Need-walk-requires
 walk-requires c κs =
-    let a = c .before .before .before .before .before .before .before .args in
-    let i = both-in _ _ (within (c .before .before .before)) in
+    let m = c .before .before in
+    let a = begun m .args in
+    let i = both-in (source m) (target m) (within (c .before)) in
     let p = placed-in (a .steep) (a .major-0) (a .minor-0) (i .0) in
     let q = placed-in (a .steep) (a .major-1) (a .minor-1) (i .1) in
-    (c .before .before .if2 .left, q .0, p .1, q .1, rw (← c .before .distance .ensures) (c .if3 .left))
+    (c .if2 .left, q .0, p .1, q .1)
 
-returns-4 : tie.Need-returns-4
-returns-4 c =
-    let a = c .before .before .before .before .before .before .before .before .args in
-    c .walk .ensures ∙ sym (walk-taken (a .steep) (a .major-0) (a .minor-0) (a .major-1) (a .minor-1) (within (c .before .before .before .before)) (c .before .before .before .if2 .left) (rw (← c .before .before .distance .ensures) (c .before .if3 .left)))
+returns-3 : tie.Need-returns-3
+returns-3 c =
+    let i = c .before .before in
+    let m = i .before in
+    c .walk .ensures ∙ sym (accepted (source m) (target m) (cells m) (within i))
 
 pub walk-alone-spec : {M : Type 1} → statement M
 walk-alone-spec =
@@ -75,8 +89,5 @@ walk-alone-spec =
     returns
     empty-requires-2
     returns-2
-    distance-requires
-    empty-requires-3
-    returns-3
     walk-requires
-    returns-4)
+    returns-3)

@@ -1,0 +1,21 @@
+-- `walk_bresenham_shallow`: the walk alone is the definition's, and so the nearest one where the pair is of its kind.
+-- Assumes nothing.
+use borrow.Author.Needs.{needs}
+use Rattle.fields.specs.Cell.{cell}
+use Rattle.bresenham.specs.Line.{shallow}
+use Rattle.bresenham.proofs.Calls.{shallow-held}
+use Rattle.bresenham.proofs.walk_bresenham_shallow.Statement.{statement}
+use Rattle.bresenham.proofs.walk_bresenham_shallow.Tie as tie
+
+walk-alone-requires : tie.Need-walk-alone-requires
+walk-alone-requires c κs = search needs
+
+returns : tie.Need-returns
+unfolding shallow
+returns c =
+    let a = c .before .args in
+    let e = c .walk-alone .ensures in
+    (e, shallow-held (cell (a .col-0) (a .row-0)) (cell (a .col-1) (a .row-1)) (c .walk-alone .result) e)
+
+pub walk-bresenham-shallow-spec : {M : Type 1} → statement M
+walk-bresenham-shallow-spec = tie.close (tie.spec walk-alone-requires returns)
