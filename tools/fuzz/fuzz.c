@@ -116,6 +116,14 @@ static void refused(uint8_t number, HanjolumIntegrationField f, size_t waves)
         fail("a refusal is not zero");
 }
 
+static void line(HanjolumLine l)
+{
+    if (l.number != 0 && !(zeros(l.cells, sizeof l.cells) && l.count == 0))
+        fail("a refused line has cells");
+    if (l.count > 10)
+        fail("a line has more than ten cells");
+}
+
 static uint8_t before[SPACE];
 
 static void kept(uint8_t number, const Fenced *sheet)
@@ -155,9 +163,9 @@ static void round_of_calls(Fenced *costs, Fenced *route, Fenced *previous, Fence
     kept(hanjolum_flow_new(route->at, route->length, field(), has, numbers, count, sheet->at, sheet->length), sheet);
     memcpy(before, sheet->at, sheet->length);
     kept(hanjolum_flow_build(field(), sheet->at, sheet->length), sheet);
-    HanjolumLine l = hanjolum_line(below(12), below(12), below(12), (size_t)draw() << below(40));
-    if (l.number != 0 && l.count != 0)
-        fail("a refused line has cells");
+    line(hanjolum_line(below(12), below(12), below(12), (size_t)draw() << below(40)));
+    line(hanjolum_walk_bresenham_shallow(below(12), below(12), (size_t)draw() << below(40), below(12)));
+    line(hanjolum_walk_bresenham_steep(below(12), (size_t)draw() << below(40), below(12), below(12)));
     hanjolum_line_end(below(12), below(12), (size_t)draw() << below(40), below(12));
 }
 

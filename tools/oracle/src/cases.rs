@@ -86,6 +86,8 @@ impl Case {
         let [first, second] = self.cells;
         match self.ask {
             Ask::One(Call::Line) => Outcome::of_line(side.line(first, second)),
+            Ask::One(Call::WalkShallow) => Outcome::of_line(side.walk(false, first, second)),
+            Ask::One(Call::WalkSteep) => Outcome::of_line(side.walk(true, first, second)),
             Ask::One(Call::LineEnd) => {
                 let end = side.line_end(first, second);
                 let mut line = Line { count: 1, ..Line::default() };
@@ -113,7 +115,7 @@ impl Case {
     /// The input as statements that make it.
     pub fn pasted(&self) -> String {
         let mut text = format!("// {:?}\n", self.ask);
-        if matches!(self.ask, Ask::One(Call::Line | Call::LineEnd)) {
+        if matches!(self.ask, Ask::One(Call::Line | Call::WalkShallow | Call::WalkSteep | Call::LineEnd)) {
             let _ = writeln!(text, "let cells = {:?};", self.cells.map(|cell| (cell.column, cell.row)));
         }
         if self.ask == Ask::One(Call::Readers) {

@@ -26,6 +26,8 @@ fn missing<T>(name: &str) -> T {
 #[allow(dead_code)]
 unsafe extern "C" {
     fn hanjolum_line(source_column: usize, source_row: usize, target_column: usize, target_row: usize) -> Line;
+    fn hanjolum_walk_bresenham_shallow(col_0: usize, row_0: usize, col_1: usize, row_1: usize) -> Line;
+    fn hanjolum_walk_bresenham_steep(col_0: usize, row_0: usize, col_1: usize, row_1: usize) -> Line;
     fn hanjolum_line_end(corner_column: usize, corner_row: usize, goal_column: usize, goal_row: usize) -> LineEnd;
     fn hanjolum_is_pathable(byte: u8) -> bool;
     fn hanjolum_is_goal(byte: u8) -> bool;
@@ -72,6 +74,8 @@ impl Subject for Library {
     fn offers(&self, call: Call) -> bool {
         match call {
             Call::Line => cfg!(export = "hanjolum_line"),
+            Call::WalkShallow => cfg!(export = "hanjolum_walk_bresenham_shallow"),
+            Call::WalkSteep => cfg!(export = "hanjolum_walk_bresenham_steep"),
             Call::LineEnd => cfg!(export = "hanjolum_line_end"),
             Call::Readers => cfg!(all(
                 export = "hanjolum_is_pathable",
@@ -92,6 +96,17 @@ impl Subject for Library {
 
     fn line(&self, source: FieldCell, target: FieldCell) -> Line {
         exported!("hanjolum_line", hanjolum_line(source.column, source.row, target.column, target.row))
+    }
+
+    fn walk(&self, steep: bool, source: FieldCell, target: FieldCell) -> Line {
+        let (col_0, row_0, col_1, row_1) = (source.column, source.row, target.column, target.row);
+        if steep {
+            return exported!(
+                "hanjolum_walk_bresenham_steep",
+                hanjolum_walk_bresenham_steep(col_0, row_0, col_1, row_1)
+            );
+        }
+        exported!("hanjolum_walk_bresenham_shallow", hanjolum_walk_bresenham_shallow(col_0, row_0, col_1, row_1))
     }
 
     fn line_end(&self, corner: FieldCell, goal: FieldCell) -> LineEnd {

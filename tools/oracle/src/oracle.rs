@@ -2,6 +2,7 @@
 //! come from the counted copy, whose fields are asserted equal to the published one's.
 
 use reference::flowfields as rust;
+use reference::flowfields::fields::bresenham::{walk_bresenham_shallow, walk_bresenham_steep};
 use reference::flowfields::fields::{Field, flow_field};
 use reference::flowfields::utilities::CompassDir;
 
@@ -23,6 +24,21 @@ fn cell(at: FieldCell) -> rust::fields::FieldCell {
 
 fn answered(at: &rust::fields::FieldCell) -> FieldCell {
     FieldCell { column: at.get_column(), row: at.get_row() }
+}
+
+/// The answer of these cells, where the table takes the two ends.
+fn line_of(ends: [FieldCell; 2], walked: impl FnOnce() -> Vec<rust::fields::FieldCell>) -> Line {
+    let coordinates = [ends[0].column, ends[0].row, ends[1].column, ends[1].row];
+    let number = refusals::number(&Given { coordinates: &coordinates, ..Given::default() });
+    if number != 0 {
+        return refused::line(number);
+    }
+    let walked = walked();
+    let mut line = Line { count: walked.len(), ..Line::default() };
+    for (place, at) in line.cells.iter_mut().zip(&walked) {
+        *place = answered(at);
+    }
+    line
 }
 
 /// The Rust's step of eight bytes that have passed the table.
@@ -111,17 +127,15 @@ impl Subject for Oracle {
     }
 
     fn line(&self, source: FieldCell, target: FieldCell) -> Line {
-        let coordinates = [source.column, source.row, target.column, target.row];
-        let number = refusals::number(&Given { coordinates: &coordinates, ..Given::default() });
-        if number != 0 {
-            return refused::line(number);
-        }
-        let walked = cell(source).get_cells_between_points(&cell(target));
-        let mut line = Line { count: walked.len(), ..Line::default() };
-        for (place, at) in line.cells.iter_mut().zip(&walked) {
-            *place = answered(at);
-        }
-        line
+        line_of([source, target], || cell(source).get_cells_between_points(&cell(target)))
+    }
+
+    fn walk(&self, steep: bool, source: FieldCell, target: FieldCell) -> Line {
+        let walk = if steep { walk_bresenham_steep } else { walk_bresenham_shallow };
+        let number = |coordinate: usize| coordinate as i32;
+        line_of([source, target], || {
+            walk(number(source.column), number(source.row), number(target.column), number(target.row))
+        })
     }
 
     fn line_end(&self, corner: FieldCell, goal: FieldCell) -> LineEnd {

@@ -101,6 +101,8 @@ pub struct Readings {
 #[derive(Clone, Copy, PartialEq, Eq, Debug)]
 pub enum Call {
     Line,
+    WalkShallow,
+    WalkSteep,
     LineEnd,
     Readers,
     Init,
@@ -116,6 +118,8 @@ pub trait Subject {
     /// Whether the side has the call yet.
     fn offers(&self, call: Call) -> bool;
     fn line(&self, source: FieldCell, target: FieldCell) -> Line;
+    /// A walk by itself, through the rows where it is steep, else through the columns.
+    fn walk(&self, steep: bool, source: FieldCell, target: FieldCell) -> Line;
     fn line_end(&self, corner: FieldCell, goal: FieldCell) -> LineEnd;
     fn readings(&self, byte: u8) -> Readings;
     fn init(&self, costs: &[u8], step: &[u8]) -> InitAnswer;

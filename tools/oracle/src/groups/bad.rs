@@ -22,6 +22,14 @@ pub fn lines(rng: Rng, inputs: usize) -> Cases {
     Box::new(drawn(rng, inputs / 10, |rng| bad_pair(rng, Call::Line)))
 }
 
+pub fn shallow_walks(rng: Rng, inputs: usize) -> Cases {
+    Box::new(drawn(rng, inputs / 10, |rng| bad_pair(rng, Call::WalkShallow)))
+}
+
+pub fn steep_walks(rng: Rng, inputs: usize) -> Cases {
+    Box::new(drawn(rng, inputs / 10, |rng| bad_pair(rng, Call::WalkSteep)))
+}
+
 pub fn line_ends(rng: Rng, inputs: usize) -> Cases {
     Box::new(drawn(rng, inputs / 10, |rng| bad_pair(rng, Call::LineEnd)))
 }

@@ -25,6 +25,14 @@ pub fn lines(_rng: Rng, _inputs: usize) -> Cases {
     pairs(Call::Line)
 }
 
+pub fn shallow_walks(_rng: Rng, _inputs: usize) -> Cases {
+    pairs(Call::WalkShallow)
+}
+
+pub fn steep_walks(_rng: Rng, _inputs: usize) -> Cases {
+    pairs(Call::WalkSteep)
+}
+
 pub fn line_ends(_rng: Rng, _inputs: usize) -> Cases {
     pairs(Call::LineEnd)
 }

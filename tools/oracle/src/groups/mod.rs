@@ -27,6 +27,8 @@ pub struct Group {
 /// All groups, in the order in which they run.
 pub const GROUPS: &[Group] = &[
     Group { name: "line", needs: &[Call::Line], cases: good::lines, reaches: &[0] },
+    Group { name: "walk shallow", needs: &[Call::WalkShallow], cases: good::shallow_walks, reaches: &[0] },
+    Group { name: "walk steep", needs: &[Call::WalkSteep], cases: good::steep_walks, reaches: &[0] },
     Group { name: "line end", needs: &[Call::LineEnd], cases: good::line_ends, reaches: &[0] },
     Group { name: "readers", needs: &[Call::Readers], cases: good::readers, reaches: &[0] },
     Group { name: "init", needs: &[Call::Init], cases: good::inits, reaches: &[0] },
@@ -44,6 +46,8 @@ pub const GROUPS: &[Group] = &[
     Group { name: "sector, two walls", needs: &[Call::Sector], cases: good::two_walls, reaches: &[0] },
     Group { name: "leg", needs: &[Call::Leg], cases: good::legs, reaches: &[0] },
     Group { name: "line refusals", needs: &[Call::Line], cases: bad::lines, reaches: &[0, 13] },
+    Group { name: "walk shallow refusals", needs: &[Call::WalkShallow], cases: bad::shallow_walks, reaches: &[0, 13] },
+    Group { name: "walk steep refusals", needs: &[Call::WalkSteep], cases: bad::steep_walks, reaches: &[0, 13] },
     Group { name: "line end refusals", needs: &[Call::LineEnd], cases: bad::line_ends, reaches: &[0, 13] },
     Group { name: "init refusals", needs: &[Call::Init], cases: bad::inits, reaches: &[0, 1, 3, 4, 5, 6, 7, 8] },
     Group { name: "build refusals", needs: &[Call::Build], cases: bad::builds, reaches: &[0, 1, 11] },

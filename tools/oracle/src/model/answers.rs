@@ -53,6 +53,21 @@ impl Model {
         }
     }
 
+    /// The answer of these cells, where the two ends are not turned away.
+    fn line_of(&self, ends: [FieldCell; 2], walked: impl FnOnce() -> Vec<(i32, i32)>) -> Line {
+        let coordinates = [ends[0].column, ends[0].row, ends[1].column, ends[1].row];
+        let given = Given { coordinates: &coordinates, ..Given::default() };
+        if let Some(number) = self.turned_away(&given, &mut []) {
+            return refused::line(number);
+        }
+        let walked = walked();
+        let mut line = Line { count: walked.len(), ..Line::default() };
+        for (cell, at) in line.cells.iter_mut().zip(walked) {
+            *cell = answered(at);
+        }
+        line
+    }
+
     /// Every step of an accepted leg, in its order.
     fn plan(&self, floor: &[u8], steps: &[u8], sheet: &mut [u8]) {
         let mut before: Option<IntegrationField> = None;
@@ -80,17 +95,11 @@ impl Subject for Model {
     }
 
     fn line(&self, source: FieldCell, target: FieldCell) -> Line {
-        let coordinates = [source.column, source.row, target.column, target.row];
-        let given = Given { coordinates: &coordinates, ..Given::default() };
-        if let Some(number) = self.turned_away(&given, &mut []) {
-            return refused::line(number);
-        }
-        let walked = self.line_cells(place(source), place(target));
-        let mut line = Line { count: walked.len(), ..Line::default() };
-        for (cell, at) in line.cells.iter_mut().zip(walked) {
-            *cell = answered(at);
-        }
-        line
+        self.line_of([source, target], || self.line_cells(place(source), place(target)))
+    }
+
+    fn walk(&self, steep: bool, source: FieldCell, target: FieldCell) -> Line {
+        self.line_of([source, target], || self.walk_cells(steep, place(source), place(target)))
     }
 
     fn line_end(&self, corner: FieldCell, goal: FieldCell) -> LineEnd {

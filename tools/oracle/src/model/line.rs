@@ -21,14 +21,25 @@ impl Model {
         cells.into_iter().map(turned).collect()
     }
 
+    /// A walk by itself, of any pair: no cells toward a lower major coordinate.
+    pub(super) fn walk_cells(&self, steep: bool, source: Place, target: Place) -> Vec<Place> {
+        let turned = |(column, row): Place| if steep { (row, column) } else { (column, row) };
+        let (from, to) = (turned(source), turned(target));
+        let wide = (to.1 - from.1).abs() > to.0 - from.0;
+        if (to.0 < from.0 && !self.slips(Slip::LowerWalked)) || (wide && self.slips(Slip::WideWalkEmpty)) {
+            return Vec::new();
+        }
+        self.walked(from, to).into_iter().map(turned).collect()
+    }
+
     /// From a first cell, step by step of the major coordinate: at step k the minor coordinate is the
-    /// nearest whole number, an exact half nearer the first cell.
+    /// nearest whole number, an exact half nearer the first cell, and at most one aside at each step.
     fn walked(&self, first: Place, last: Place) -> Vec<Place> {
         let steps = (last.0 - first.0).abs();
         let span = (last.1 - first.1).abs();
         let (toward, aside) = ((last.0 - first.0).signum(), (last.1 - first.1).signum());
         let half_up = if self.slips(Slip::HalfOtherWay) { steps } else { steps - 1 };
-        let offset = |k: i32| if steps == 0 { 0 } else { (2 * k * span + half_up) / (2 * steps) };
+        let offset = |k: i32| if steps == 0 { 0 } else { ((2 * k * span + half_up) / (2 * steps)).min(k) };
         (0..=steps).map(|k| (first.0 + toward * k, first.1 + aside * offset(k))).collect()
     }
 

@@ -19,6 +19,8 @@ macro_rules! slips {
 slips! {
     HalfOtherWay: "line: an exact half goes away from the walk's first cell",
     WalkedFromCorner: "line: lines walked always from the corner",
+    WideWalkEmpty: "walk: no cells where the minor span is above the major one",
+    LowerWalked: "walk: a lower target is walked to",
     ExactFloor: "line end: floor done exactly instead of in f32",
     FusedMultiplyAdd: "line end: multiply and add rounded once",
     DoubleFloat: "line end: f64 instead of f32",
