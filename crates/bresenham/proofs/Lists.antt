@@ -41,7 +41,8 @@ module _ {A : Type 0} where
       go : (t : Bool) → ltb k (length l) ≡ t → getD (reverse l ++ (x ∷ [])) k d ≡ getD (x ∷ l) (suc (length l) - 1 - k) d
       go true e =
           let p = ltb-true k (length l) e in
-          List·getD-append (reverse l) (x ∷ []) d k (omega (arith, length-reverse l)) ∙ i p ∙ sym (at-suc x l d (suc (length l) - 1 - k) (length l - 1 - k) (omega arith))
+          List·getD-append (reverse l) (x ∷ []) d k (omega (arith, length-reverse l)) ∙ i p
+          ∙ sym (at-suc x l d (suc (length l) - 1 - k) (length l - 1 - k) (omega arith))
       go false e =
           let p = ltb-false k (length l) e in
           let q : k ≡ length (reverse l) + 0 = omega (arith, length-reverse l) in
@@ -66,4 +67,5 @@ module _ {A : Type 0} where
   pub table-set : (n k : ℕ) (f : ℕ → A) (z : A) → k < n → set (behind n (table k f) z) k (f k) ≡ behind n (table (suc k) f) z
   table-set n k f z h =
       let e : length (table k f) ≡ k = length-table k f in
-      ap (λ (i : ℕ). set (behind n (table k f) z) i (f k)) (sym e) ∙ behind-set n (table k f) (f k) z (omega arith) ∙ ap (λ (l : List A). behind n l z) (sym (table-suc k f))
+      ap (λ (i : ℕ). set (behind n (table k f) z) i (f k)) (sym e) ∙ behind-set n (table k f) (f k) z (omega arith)
+      ∙ ap (λ (l : List A). behind n l z) (sym (table-suc k f))

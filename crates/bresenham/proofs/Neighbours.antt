@@ -37,40 +37,64 @@ neighbours-stepped c n i h =
         → Close (c .column) (n .column) (c .row) (n .row) → (d : CompassDir) × (stepped c d ≡ Cell n)
     go true e true d p q r s k =
         let x = ltb-true (n .column) (c .column) p in
-        let y = ltb-true (n .row) (c .row) r in
-        (NorthWest, steps-to c NorthWest n (record { pointing = refl; column-from = omega arith; row-from = omega arith; column-at = omega arith; row-at = omega arith; within = i }))
+        let y = ltb-true (n .row) (c .row) r in (
+          NorthWest,
+          steps-to c NorthWest n
+              (record { pointing = refl; column-from = omega arith; row-from = omega arith; column-at = omega arith; row-at = omega arith; within = i }),
+        )
     go true e false true p q r s k =
         let x = ltb-true (n .column) (c .column) p in
-        let y = ltb-true (c .row) (n .row) s in
-        (SouthWest, steps-to c SouthWest n (record { pointing = refl; column-from = omega arith; row-from = omega arith; column-at = omega arith; row-at = omega arith; within = i }))
+        let y = ltb-true (c .row) (n .row) s in (
+          SouthWest,
+          steps-to c SouthWest n
+              (record { pointing = refl; column-from = omega arith; row-from = omega arith; column-at = omega arith; row-at = omega arith; within = i }),
+        )
     go true e false false p q r s k =
         let x = ltb-true (n .column) (c .column) p in
         let y = ltb-false (n .row) (c .row) r in
-        let y′ = ltb-false (c .row) (n .row) s in
-        (West, steps-to c West n (record { pointing = refl; column-from = omega arith; row-from = omega arith; column-at = omega arith; row-at = omega arith; within = i }))
+        let y′ = ltb-false (c .row) (n .row) s in (
+          West,
+          steps-to c West n
+              (record { pointing = refl; column-from = omega arith; row-from = omega arith; column-at = omega arith; row-at = omega arith; within = i }),
+        )
     go false true true d p q r s k =
         let x = ltb-true (c .column) (n .column) q in
-        let y = ltb-true (n .row) (c .row) r in
-        (NorthEast, steps-to c NorthEast n (record { pointing = refl; column-from = omega arith; row-from = omega arith; column-at = omega arith; row-at = omega arith; within = i }))
+        let y = ltb-true (n .row) (c .row) r in (
+          NorthEast,
+          steps-to c NorthEast n
+              (record { pointing = refl; column-from = omega arith; row-from = omega arith; column-at = omega arith; row-at = omega arith; within = i }),
+        )
     go false true false true p q r s k =
         let x = ltb-true (c .column) (n .column) q in
-        let y = ltb-true (c .row) (n .row) s in
-        (SouthEast, steps-to c SouthEast n (record { pointing = refl; column-from = omega arith; row-from = omega arith; column-at = omega arith; row-at = omega arith; within = i }))
+        let y = ltb-true (c .row) (n .row) s in (
+          SouthEast,
+          steps-to c SouthEast n
+              (record { pointing = refl; column-from = omega arith; row-from = omega arith; column-at = omega arith; row-at = omega arith; within = i }),
+        )
     go false true false false p q r s k =
         let x = ltb-true (c .column) (n .column) q in
         let y = ltb-false (n .row) (c .row) r in
-        let y′ = ltb-false (c .row) (n .row) s in
-        (East, steps-to c East n (record { pointing = refl; column-from = omega arith; row-from = omega arith; column-at = omega arith; row-at = omega arith; within = i }))
+        let y′ = ltb-false (c .row) (n .row) s in (
+          East,
+          steps-to c East n
+              (record { pointing = refl; column-from = omega arith; row-from = omega arith; column-at = omega arith; row-at = omega arith; within = i }),
+        )
     go false false true d p q r s k =
         let x = ltb-false (n .column) (c .column) p in
         let x′ = ltb-false (c .column) (n .column) q in
-        let y = ltb-true (n .row) (c .row) r in
-        (North, steps-to c North n (record { pointing = refl; column-from = omega arith; row-from = omega arith; column-at = omega arith; row-at = omega arith; within = i }))
+        let y = ltb-true (n .row) (c .row) r in (
+          North,
+          steps-to c North n
+              (record { pointing = refl; column-from = omega arith; row-from = omega arith; column-at = omega arith; row-at = omega arith; within = i }),
+        )
     go false false false true p q r s k =
         let x = ltb-false (n .column) (c .column) p in
         let x′ = ltb-false (c .column) (n .column) q in
-        let y = ltb-true (c .row) (n .row) s in
-        (South, steps-to c South n (record { pointing = refl; column-from = omega arith; row-from = omega arith; column-at = omega arith; row-at = omega arith; within = i }))
+        let y = ltb-true (c .row) (n .row) s in (
+          South,
+          steps-to c South n
+              (record { pointing = refl; column-from = omega arith; row-from = omega arith; column-at = omega arith; row-at = omega arith; within = i }),
+        )
     go false false false false p q r s k =
         let x = ltb-false (n .column) (c .column) p in
         let x′ = ltb-false (c .column) (n .column) q in

@@ -1,4 +1,4 @@
--- The offset of the shorter coordinate: what `nearest` gives, and that Bresenham's difference finds it.
+-- The offset of the minor coordinate: what `nearest` and `offsetAt` give, and that Bresenham's difference finds it, of any pair.
 -- Assumes nothing.
 use mathlib.Core.Path.{_≡_, refl, sym, ap, _∙_}
 use mathlib.Core.Bool.{Bool, true, false}
@@ -56,17 +56,21 @@ pub nearest-end : (d m : ℕ) → d ≤ m → nearest d m m ≡ d
 unfolding nearest
 nearest-end d m h = sym (quotient₀ m d (2 * (m * d) + m - 1) (λ p. (omega arith, omega arith)) (λ e. omega arith))
 
+-- two numbers compared by their products
+at-most : (m x y : ℕ) → suc m * x < suc m * y + suc m → x ≤ y
+at-most m x y h =
+    let q : suc m * (y + 1) ≡ suc m * y + suc m * 1 = mul-add (suc m) y 1 in
+    let l : suc m * x < suc m * (y + 1) = omega arith in
+    let z = lt-of-mul-lt-mul-left (suc m) l in
+    omega arith
+
 -- up to the last step an offset is at most the whole span
 pub nearest-le : (d m k : ℕ) → k ≤ m → nearest d m k ≤ d
 nearest-le d zero k h = rw (flat d zero k refl) (omega arith)
 nearest-le d (suc m) k h =
-    let y = nearest d (suc m) k in
     let b = bounds d (suc m) k (omega arith) in
     let p : k * d ≤ suc m * d = mul-le-mul-right d h in
-    let q : suc m * (d + 1) ≡ suc m * d + suc m * 1 = mul-add (suc m) d 1 in
-    let x : suc m * y < suc m * (d + 1) = omega arith in
-    let z = lt-of-mul-lt-mul-left (suc m) x in
-    omega arith
+    at-most m (nearest d (suc m) k) d (omega arith)
 
 next : (d k : ℕ) → (k + 1) * d ≡ k * d + d
 next d k = add-mul k 1 d ∙ ap (λ (z : ℕ). k * d + z) (one-mul d)
@@ -84,38 +88,25 @@ nearest-grows d (suc m) k n =
     let b = bounds d (suc m) k (omega arith) in
     let c = bounds d (suc m) (k + 1) (omega arith) in
     let e = next d k in
-    let p : suc m * (z + 1) ≡ suc m * z + suc m * 1 = mul-add (suc m) z 1 in
-    let q : suc m * (y + 2) ≡ suc m * y + suc m * 2 = mul-add (suc m) y 2 in
-    let u : suc m * y < suc m * (z + 1) = omega arith in
-    let v : suc m * z < suc m * (y + 2) = omega arith in
-    let i = lt-of-mul-lt-mul-left (suc m) u in
-    let j = lt-of-mul-lt-mul-left (suc m) v in
-    record { stays = omega arith; grown = omega arith }
+    let q : suc m * (y + 1) ≡ suc m * y + suc m * 1 = mul-add (suc m) y 1 in
+    record { stays = at-most m y z (omega arith); grown = at-most m z (y + 1) (omega arith) }
 
 -- the offset of a walk that is no wider than long is the nearest number, and that of a wider one is the step
 narrow-few : (d m k : ℕ) → d ≤ m → nearest d m k ≤ k
 narrow-few d zero k n = rw (flat d zero k refl) (omega arith)
 narrow-few d (suc m) k n =
-    let y = nearest d (suc m) k in
     let b = bounds d (suc m) k (omega arith) in
     let p : k * d ≤ k * suc m = mul-le-mul-left k n in
-    let q : suc m * (k + 1) ≡ suc m * k + suc m * 1 = mul-add (suc m) k 1 in
     let e : k * suc m ≡ suc m * k = mul-comm k (suc m) in
-    let x : suc m * y < suc m * (k + 1) = omega arith in
-    let z = lt-of-mul-lt-mul-left (suc m) x in
-    omega arith
+    at-most m (nearest d (suc m) k) k (omega arith)
 
 wide-many : (d m k : ℕ) → m < d → k ≤ m → k ≤ nearest d m k
 wide-many d zero k n h = omega arith
 wide-many d (suc m) k n h =
-    let y = nearest d (suc m) k in
     let b = bounds d (suc m) k (omega arith) in
     let p : k * suc m ≤ k * d = mul-le-mul-left k (le-of-lt n) in
-    let q : suc m * (y + 1) ≡ suc m * y + suc m * 1 = mul-add (suc m) y 1 in
     let e : k * suc m ≡ suc m * k = mul-comm k (suc m) in
-    let x : suc m * k < suc m * (y + 1) = omega arith in
-    let z = lt-of-mul-lt-mul-left (suc m) x in
-    omega arith
+    at-most m k (nearest d (suc m) k) (omega arith)
 
 pub narrow-offset : (d m k : ℕ) → d ≤ m → offsetAt d m k ≡ nearest d m k
 narrow-offset d m k n = let h = narrow-few d m k n in omega arith

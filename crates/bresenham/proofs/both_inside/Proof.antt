@@ -1,3 +1,5 @@
+-- `bresenham::both_inside`: the test of two cells.
+-- Assumes nothing.
 use mathlib.Core.Path.{sym, _∙_}
 use borrow.Author.Needs.{needs}
 use Rattle.bresenham.proofs.both_inside.Statement.{statement}

@@ -1,3 +1,5 @@
+-- `bresenham::moved`: a coordinate moved by an offset, up or down.
+-- Assumes nothing.
 use Rattle.bresenham.specs.Line.{toward}
 use borrow.Author.Needs.{needs}
 use Rattle.bresenham.proofs.moved.Statement.{statement}

@@ -1,3 +1,5 @@
+-- `bresenham::place_of`: the place of a step, from the first or from the last.
+-- Assumes nothing.
 use native.Mathlib.Omega.{arith}
 use borrow.Author.Needs.{needs}
 use Rattle.bresenham.proofs.place_of.Statement.{statement}

@@ -1,3 +1,5 @@
+-- `bresenham::placed_cell`: the cell of a major and a minor coordinate.
+-- Assumes nothing.
 use Rattle.bresenham.proofs.placed_cell.Statement.{statement}
 use Rattle.bresenham.proofs.placed_cell.Tie as tie
 
