@@ -218,6 +218,20 @@ uint8_t hanjolum_flow_build(
 HanjolumLine hanjolum_line(size_t source_column, size_t source_row, size_t target_column, size_t target_row);
 
 /*
+ * The reference's two walks, of which a line is made: from cell 0 one column on at each step, at most one row aside. No
+ * cells, with number 0, where column 1 is below column 0. With as many columns as rows, or more, it ends in cell 1;
+ * otherwise it goes one aside at each step and ends in column 1, short of cell 1.
+ * Number 13.
+ */
+HanjolumLine hanjolum_walk_bresenham_shallow(size_t col_0, size_t row_0, size_t col_1, size_t row_1);
+
+/*
+ * The same with columns and rows changed over: one row on at each step, at most one column aside.
+ * Number 13.
+ */
+HanjolumLine hanjolum_walk_bresenham_steep(size_t col_0, size_t row_0, size_t col_1, size_t row_1);
+
+/*
  * The cell at the edge of the sector in which the line of a corner, away from the goal, ends.
  * Number 13.
  */

@@ -8,8 +8,8 @@ use started_field::InitAnswer;
 ghost use mathlib.Core.Path.{_≡_};
 ghost use Rattle.utilities.specs.Compass.{numberOf};
 ghost use Rattle.fields.specs.Cell.{cell};
-ghost use Rattle.bresenham.specs.Line.{lineCall};
-ghost use Rattle.bresenham.specs.Nearest.{HoldsNearestLine};
+ghost use Rattle.bresenham.specs.Line.{lineCall, shallowCall, steepCall};
+ghost use Rattle.bresenham.specs.Nearest.{columnOf, rowOf, HoldsNearestLine, HoldsNearestWalk};
 ghost use Rattle.line_end.specs.LineEnd.{lineEndAnswer};
 ghost use Rattle.integration_field.specs.Listed.{listOf};
 ghost use Rattle.integration_field.specs.Answer.{buildAnswer};
@@ -116,6 +116,34 @@ pub extern "C" fn hanjolum_line(
         row: target_row,
     };
     bresenham::get_cells_between_points(source, target)
+}
+
+// The walk from one cell to another through the columns: its cells and their count, or number 13.
+#[no_mangle]
+pub extern "C" fn hanjolum_walk_bresenham_shallow(
+    col_0: usize,
+    row_0: usize,
+    col_1: usize,
+    row_1: usize,
+) -> Line
+    ensures answer { λ r. ⌜ r ≡ shallowCall (cell col_0 row_0) (cell col_1 row_1) ⌝ }
+    ensures nearest { λ r. ⌜ HoldsNearestWalk columnOf rowOf (cell col_0 row_0) (cell col_1 row_1) r ⌝ }
+{
+    bresenham::walk_bresenham_shallow(col_0, row_0, col_1, row_1)
+}
+
+// The walk from one cell to another through the rows: its cells and their count, or number 13.
+#[no_mangle]
+pub extern "C" fn hanjolum_walk_bresenham_steep(
+    col_0: usize,
+    row_0: usize,
+    col_1: usize,
+    row_1: usize,
+) -> Line
+    ensures answer { λ r. ⌜ r ≡ steepCall (cell col_0 row_0) (cell col_1 row_1) ⌝ }
+    ensures nearest { λ r. ⌜ HoldsNearestWalk rowOf columnOf (cell col_0 row_0) (cell col_1 row_1) r ⌝ }
+{
+    bresenham::walk_bresenham_steep(col_0, row_0, col_1, row_1)
 }
 
 // Where the line of a corner ends, away from the goal, or number 13.
