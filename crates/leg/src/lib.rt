@@ -135,14 +135,7 @@ fn leg_number(floor: &[u8], steps: &[u8], sheet_length: usize) -> u8
     if sheet_length != 6400 {
         return 2;
     }
-    let length = steps.len();
-    if length == 0 {
-        return 3;
-    }
-    if 128 < length {
-        return 3;
-    }
-    if length % 8 != 0 {
+    if route::is_no_step_list(steps) {
         return 3;
     }
     let number = each_step(steps);

@@ -6,13 +6,13 @@
 use mathlib.Core.Path.{_≡_, refl, sym, ap, _∙_}
 use mathlib.Core.Bool.{Bool, true, false, true≢false, cond, not, _||_}
 use mathlib.Core.List.{List, [], _∷_, _++_}
-use Prim.Native.Nat.{ℕ, zero, suc, _%_, _<_, _≤_}
+use Prim.Native.Nat.{ℕ, zero, suc, _<_}
 use native.Mathlib.Omega.{arith}
-use lib.Dec.{eqb, ltb}
+use lib.Dec.{eqb}
 use lib.ListN.{length, getD}
-use borrow.Author.Tests.{eqb-true, eqb-false, eq-eqb, ne-eqb, le-ltb}
+use borrow.Author.Tests.{eqb-true, eqb-false, eq-eqb}
 use Rattle.route.specs.Table.{Row, row, firstNumber}
-use Rattle.route.specs.Step.{isWindow, eachStep}
+use Rattle.route.specs.Step.{isWindow, eachStep, noStepList}
 use Rattle.route.proofs.Accepted.{each-step}
 use Rattle.leg_plan.specs.Leg.{stepsOf, namesTwice, someGoal, outOfOrder, apart, eachRows, legNumber}
 use Rattle.leg_plan.specs.Inner.{stepAt, LegReady}
@@ -51,19 +51,10 @@ each-good (s ∷ ss) e (suc k) h = each-good ss (each-head s ss e .1) k (omega a
 -- ---- numbers 9 and 10
 
 module _ (floor steps sheet : List ℕ) (floor-full : length floor ≡ 6400) (sheet-full : length sheet ≡ 6400)
-    (some : length steps ≡ 0 → ⊥) (few : length steps ≤ 128) (whole : length steps % 8 ≡ 0)
-    (each : firstNumber (eachRows (stepsOf steps)) ≡ 0) where
+    (list : noStepList steps ≡ false) (each : firstNumber (eachRows (stepsOf steps)) ≡ 0) where
   nine-then-ten : legNumber floor steps sheet ≡ firstNumber (row 9 (outOfOrder (stepsOf steps)) ∷ row 10 (apart (stepsOf steps)) ∷ [])
   unfolding legNumber
-  nine-then-ten =
-      rw (
-        eq-eqb (length floor) 6400 floor-full,
-        eq-eqb (length sheet) 6400 sheet-full,
-        ne-eqb (length steps) 0 some,
-        le-ltb 128 (length steps) few,
-        eq-eqb (length steps % 8) 0 whole,
-      )
-      (each-none (stepsOf steps) _ each)
+  nine-then-ten = rw (eq-eqb (length floor) 6400 floor-full, eq-eqb (length sheet) 6400 sheet-full, list) (each-none (stepsOf steps) _ each)
 
   pub number-9 : outOfOrder (stepsOf steps) ≡ true → legNumber floor steps sheet ≡ 9
   number-9 h = nine-then-ten ∙ rw h
@@ -91,7 +82,7 @@ each-zero ss rest e = go (eqb (firstNumber (eachRows ss)) 0) refl
 pub accepted : (floor steps sheet : List ℕ) → legNumber floor steps sheet ≡ 0 → LegReady floor steps sheet
 unfolding legNumber
 accepted floor steps sheet =
-    go (eqb (length floor) 6400) (eqb (length sheet) 6400) (eqb (length steps) 0 || ltb 128 (length steps) || not (eqb (length steps % 8) 0)) refl refl
+    go (eqb (length floor) 6400) (eqb (length sheet) 6400) (noStepList steps) refl refl
   where
     rest : List Row
     rest = row 9 (outOfOrder (stepsOf steps)) ∷ row 10 (apart (stepsOf steps)) ∷ []

@@ -2,11 +2,11 @@
 -- Assumes nothing.
 use mathlib.Core.Bool.{Bool, true, false, cond, not, _||_}
 use mathlib.Core.List.{List, [], _∷_, _++_}
-use Prim.Native.Nat.{ℕ, zero, suc, _+_, _*_, _/_, _%_}
-use lib.Dec.{eqb, ltb}
+use Prim.Native.Nat.{ℕ, zero, suc, _+_, _*_, _/_}
+use lib.Dec.{eqb}
 use lib.ListN.{length, take, drop}
 use Rattle.route.specs.Table.{Row, row, firstNumber}
-use Rattle.route.specs.Step.{sectorOf, isWindow, boundaryOf, eachStep}
+use Rattle.route.specs.Step.{sectorOf, isWindow, boundaryOf, eachStep, noStepList}
 use Rattle.sectors.specs.declared.Across.{Across}
 use Rattle.sectors.specs.declared.Across.the-variants.{Sector, OffFloor}
 use Rattle.sectors.specs.Floor.{across}
@@ -73,7 +73,7 @@ legNumber floor steps sheet =
     firstNumber (
     row 1 (not (eqb (length floor) 6400))
     ∷ row 2 (not (eqb (length sheet) 6400))
-    ∷ row 3 (eqb (length steps) 0 || ltb 128 (length steps) || not (eqb (length steps % 8) 0))
+    ∷ row 3 (noStepList steps)
     ∷ (eachRows (stepsOf steps) ++ (row 9 (outOfOrder (stepsOf steps)) ∷ row 10 (apart (stepsOf steps)) ∷ []))
     )
 

@@ -1,19 +1,20 @@
--- What is known of a step that is not refused.
+-- What is known of a step, and of a list of steps, that is not refused.
 --     each-step         of 8 bytes, 3 does not come: numbers 4 to 8 alone decide
 --     accepted-step     its 8 bytes, its sector and its mark
 --     accepted-goal     without a window: its goal is a cell
 --     accepted-window   with a window: both cells are cells of the named edge, in order
+--     accepted-list     a list: 1 to 16 whole steps
 -- Assumes nothing.
 use mathlib.Core.Path.{_≡_, refl}
 use mathlib.Core.Bool.{Bool, true, false, not, cond, _&&_, _||_}
 use mathlib.Core.List.{List}
-use Prim.Native.Nat.{ℕ, suc, _<_, _≤_}
+use Prim.Native.Nat.{ℕ, suc, _<_, _≤_, _%_}
 use native.Mathlib.Omega.{arith}
 use lib.Dec.{ltb, eqb}
 use lib.ListN.{length, getD}
 use borrow.Author.Tests.{ltb-false, eqb-true, eqb-false, eq-eqb, not-false}
 use Rattle.route.specs.Window.{onEdge}
-use Rattle.route.specs.Step.{sectorOf, goalOf, markOf, firstOf, lastOf, boundaryByte, boundaryOf, isGoal, isWindow, eachStep, stepNumber}
+use Rattle.route.specs.Step.{sectorOf, goalOf, markOf, firstOf, lastOf, boundaryByte, boundaryOf, isGoal, isWindow, eachStep, stepNumber, noStepList}
 
 pub each-step : (s : List ℕ) → length s ≡ 8 → stepNumber s ≡ eachStep s
 unfolding stepNumber eachStep
@@ -105,3 +106,17 @@ accepted-window s e w =
       last-on = o .1;
       in-order = ltb-false (lastOf s) (firstOf s) q₈;
     }
+
+pub record StepList (steps : List ℕ) : Type 0 where
+  pub some : 8 ≤ length steps
+  pub few : length steps ≤ 128
+  pub whole : length steps % 8 ≡ 0
+
+pub accepted-list : (steps : List ℕ) → noStepList steps ≡ false → StepList steps
+unfolding noStepList
+accepted-list steps e =
+    let p = neither (eqb (length steps) 0 || ltb 128 (length steps)) _ e in
+    let q = neither (eqb (length steps) 0) (ltb 128 (length steps)) (p .0) in
+    let z = eqb-false (length steps) 0 (q .0) in
+    let w = eqb-true (length steps % 8) 0 (not-false (eqb (length steps % 8) 0) (p .1)) in
+    record { some = omega arith; few = ltb-false 128 (length steps) (q .1); whole = w }

@@ -2,7 +2,7 @@
 -- Assumes nothing.
 use mathlib.Core.Bool.{Bool, not, _&&_, _||_}
 use mathlib.Core.List.{List, [], _∷_}
-use Prim.Native.Nat.{ℕ}
+use Prim.Native.Nat.{ℕ, _%_}
 use lib.Dec.{ltb, eqb}
 use lib.ListN.{length, getD}
 use Rattle.utilities.specs.declared.CompassDir.{CompassDir}
@@ -71,3 +71,7 @@ eachStep s = firstNumber (stepRows s)
 -- 3 to 8 for a step that is refused, else 0
 unfoldable pub stepNumber : List ℕ → ℕ
 stepNumber s = firstNumber (row 3 (not (eqb (length s) 8)) ∷ stepRows s)
+
+-- 3 for a list of steps (01, the table's line 3, "leg"): 0 bytes, over 128, or no multiple of 8
+unfoldable pub noStepList : List ℕ → Bool
+noStepList steps = eqb (length steps) 0 || ltb 128 (length steps) || not (eqb (length steps % 8) 0)

@@ -5,7 +5,7 @@ ghost use mathlib.Core.List.{[], _∷_};
 ghost use Prim.Native.Nat.{_+_, _*_, _%_, _<_};
 ghost use lib.ListN.{length, getD};
 ghost use Rattle.route.specs.Window.{onEdge, edge, stride, between, cellsBetween, listed, facing};
-ghost use Rattle.route.specs.Step.{routeStep, eachStep, stepNumber};
+ghost use Rattle.route.specs.Step.{routeStep, eachStep, stepNumber, noStepList};
 
 // The start and end index of a portal, and the side of the sector that it sits on.
 pub struct PortalWindow {
@@ -120,6 +120,20 @@ pub fn step_number(step: &[u8]) -> u8
         step[6],
         step[7],
     )
+}
+
+// Number 3's condition for a list of steps: none, more than 16, or bytes that make no whole step.
+pub fn is_no_step_list(steps: &[u8]) -> bool
+    ensures { λ r. ⌜ r ≡ noStepList (now (steps .entry)) ⌝ }
+{
+    let length = steps.len();
+    if length == 0 {
+        return true;
+    }
+    if 128 < length {
+        return true;
+    }
+    length % 8 != 0
 }
 
 // The byte at a place of a step, 0 where it has none.
