@@ -1,10 +1,14 @@
--- `printer::put_no` meets its contract: the bytes of a refusal, of one digit or two, stored one by one.
+-- `printer::put_no` meets its contract: `no`, a space, the number's digits and a line feed, stored one behind the other.
 -- Assumes nothing.
+use denote.Ref.{now}
+use mathlib.Core.Path.{_∙_}
+use mathlib.Core.List.{[], _∷_}
 use native.Mathlib.Omega.{arith}
-use mathlib.Core.Path.{refl}
-use borrow.Author.Tests.{lt-ltb, le-ltb}
-use Rattle.printer.specs.Text.{noText, decimal}
+use lib.ListN.{length-append, set}
 use borrow.Author.Needs.{needs}
+use Rattle.text.specs.Rows.{decimal}
+use Rattle.text.proofs.Laws.{sets-append}
+use Rattle.printer.specs.Text.{noText}
 use Rattle.printer.proofs.put_no.Statement.{statement}
 use Rattle.printer.proofs.put_no.Tie as tie
 
@@ -17,37 +21,28 @@ element-write-out-2 c = search needs
 element-write-out-3 : tie.Need-element-write-out-3
 element-write-out-3 c = search needs
 
-add-out : tie.Need-add-out
-add-out c = search needs
+put-decimal-requires : tie.Need-put-decimal-requires
+put-decimal-requires c κs = search needs
+
+add-end : tie.Need-add-end
+add-end c = search needs
 
 element-write-out-4 : tie.Need-element-write-out-4
 element-write-out-4 c = search needs
 
-element-write-out-5 : tie.Need-element-write-out-5
-element-write-out-5 c = search needs
+add-result : tie.Need-add-result
+add-result c = search needs
 
 returns : tie.Need-returns
-unfolding noText decimal
-returns c = rw (lt-ltb _ _ (c .if1 .taken)) (omega arith, refl, refl)
-
-add-out-2 : tie.Need-add-out-2
-add-out-2 c = search needs
-
-element-write-out-6 : tie.Need-element-write-out-6
-element-write-out-6 c = search needs
-
-add-out-3 : tie.Need-add-out-3
-add-out-3 c = search needs
-
-element-write-out-7 : tie.Need-element-write-out-7
-element-write-out-7 c = search needs
-
-element-write-out-8 : tie.Need-element-write-out-8
-element-write-out-8 c = search needs
-
-returns-2 : tie.Need-returns-2
-unfolding noText decimal
-returns-2 c = rw (le-ltb _ _ (c .if1 .left)) (omega arith, refl, refl)
+unfolding noText
+returns c =
+    let d = c .put-decimal in
+    let a = c .before .before .args in
+    let begun = set (set (set (now (a .out)) 0 110) 1 111) 2 32 in (
+      omega arith,
+      omega (arith, length-append (decimal (a .number)) (10 ∷ [])),
+      rw (d .ensures .1, d .ensures .0 .1) (sets-append begun (decimal (a .number)) (10 ∷ []) 3),
+    )
 
 pub put-no-spec : {M : Type 1} → statement M
 put-no-spec =
@@ -56,13 +51,8 @@ put-no-spec =
     element-write-out
     element-write-out-2
     element-write-out-3
-    add-out
+    put-decimal-requires
+    add-end
     element-write-out-4
-    element-write-out-5
-    returns
-    add-out-2
-    element-write-out-6
-    add-out-3
-    element-write-out-7
-    element-write-out-8
-    returns-2)
+    add-result
+    returns)

@@ -3,7 +3,7 @@
 use native.Mathlib.Omega.{arith}
 use denote.Ref.{now}
 use mathlib.Core.Path.{sym}
-use Rattle.printer.proofs.Laws.{rows-length}
+use Rattle.text.proofs.Laws.{rows-length}
 use borrow.Author.Tests.{eq-eqb, ne-eqb}
 use Rattle.printer.specs.Text.{rendered}
 use borrow.Author.Needs.{needs}
@@ -19,14 +19,14 @@ returns c =
     let e = ne-eqb _ _ (c .before .before .if1 .taken) in
     ((c .put-no .ensures .0, rw e (c .put-no .ensures .1)), rw e (c .put-no .ensures .2))
 
-put-sheet-requires : tie.Need-put-sheet-requires
-put-sheet-requires c κs = search needs
+put-rows-requires : tie.Need-put-rows-requires
+put-rows-requires c κs = search needs
 
 returns-2 : tie.Need-returns-2
 unfolding rendered
 returns-2 c =
     let e = eq-eqb _ _ (c .before .before .if1 .left) in
-    ((omega arith, rw e (sym (rows-length (now (c .before .before .before .args .sheet)) 10))), rw e (c .put-sheet .ensures))
+    ((omega arith, rw e (sym (rows-length (now (c .before .before .before .args .sheet)) 10))), rw e (c .put-rows .ensures))
 
 pub render-spec : {M : Type 1} → statement M
-render-spec = tie.close (tie.spec put-no-requires returns put-sheet-requires returns-2)
+render-spec = tie.close (tie.spec put-no-requires returns put-rows-requires returns-2)

@@ -1,10 +1,10 @@
--- `printer::hex_digit` meets its contract: a digit below ten, or a letter.
+-- `text::hex_digit` meets its contract: a digit below ten, or a letter.
 -- Assumes nothing.
 use borrow.Author.Tests.{lt-ltb, le-ltb}
-use Rattle.printer.specs.Text.{hexDigit}
+use Rattle.text.specs.Rows.{hexDigit}
 use borrow.Author.Needs.{needs}
-use Rattle.printer.proofs.hex_digit.Statement.{statement}
-use Rattle.printer.proofs.hex_digit.Tie as tie
+use Rattle.text.proofs.hex_digit.Statement.{statement}
+use Rattle.text.proofs.hex_digit.Tie as tie
 
 add-result : tie.Need-add-result
 add-result c = search needs
