@@ -5,6 +5,20 @@ use crate::subject::*;
 
 pub struct Library;
 
+impl Library {
+    /// Says what is missing where the archive is not there or lacks one of the calls.
+    pub fn found(calls: &[Call]) -> Result<(), String> {
+        let archive = env!("ORACLE_ARCHIVE");
+        if !cfg!(library) {
+            return Err(format!("there is no library {archive}: run `rt staticlib hanjolum` first"));
+        }
+        match calls.iter().find(|call| !Library.offers(**call)) {
+            Some(call) => Err(format!("the library {archive} does not export the call {call:?}")),
+            None => Ok(()),
+        }
+    }
+}
+
 /// `call` where the archive has the export of that name.
 macro_rules! exported {
     ($name:tt, $call:expr) => {{

@@ -1,9 +1,12 @@
 //! Speed: our sector call against the Rust's `init`, `build`, `new`, `build` on the same inputs, from
-//! the same driver, in one run; and our leg against its sector calls. Ratios of medians.
+//! the same driver, in one run; and our leg against its sector calls. A few inputs are timed at once, and of
+//! many rounds the least time counts: another program that runs adds to a time and never takes from it.
 
 use std::hint::black_box;
+use std::process::ExitCode;
 use std::time::Instant;
 
+use oracle::command;
 use oracle::floors::{self, Rng, Step};
 use oracle::library::Library;
 use oracle::oracle::{Oracle, cost_field, route_step};
@@ -16,6 +19,8 @@ use reference::flowfields::route::RouteStep;
 
 /// Inputs of a group.
 const INPUTS: usize = 256;
+/// Inputs that are timed at once.
+const AT_ONCE: usize = 16;
 /// Floors that a leg is planned over.
 const LEGS: usize = 16;
 /// How often each side runs through them.
@@ -58,6 +63,8 @@ fn by_rust(input: &Input) -> u8 {
     field.build(&input.rust_costs);
     let mut flow = FlowField::new(&input.rust_step, &field, input.rust_previous.as_ref());
     flow.build(&field);
+    // Both answers are looked at whole, so that no work can be left out.
+    black_box(&field);
     black_box(flow.get())[99]
 }
 
@@ -68,35 +75,45 @@ fn by_us(input: &Input, sheet: &mut [u8; CELLS]) -> u8 {
     black_box(&*sheet)[99]
 }
 
-/// Nanoseconds a call, over all inputs once.
-fn timed<T>(inputs: &[T], mut call: impl FnMut(&T) -> u8) -> f64 {
-    let start = Instant::now();
-    for input in inputs {
-        black_box(call(black_box(input)));
+/// What one side took: round by round, nanoseconds for each few inputs.
+#[derive(Default)]
+struct Times(Vec<Vec<f64>>);
+
+impl Times {
+    /// Times one round over all inputs, so many at once.
+    fn round<T>(&mut self, inputs: &[T], at_once: usize, mut call: impl FnMut(&T) -> u8) {
+        let few = inputs.chunks(at_once).map(|few| {
+            let start = Instant::now();
+            for input in few {
+                black_box(call(black_box(input)));
+            }
+            start.elapsed().as_nanos() as f64
+        });
+        self.0.push(few.collect());
     }
-    start.elapsed().as_nanos() as f64 / inputs.len() as f64
+
+    /// Nanoseconds a call: the least times of all few, together.
+    fn each(&self, inputs: usize) -> f64 {
+        let least = |k: usize| self.0.iter().map(|round| round[k]).fold(f64::INFINITY, f64::min);
+        (0..self.0[0].len()).map(least).sum::<f64>() / inputs as f64
+    }
 }
 
-fn median(mut times: Vec<f64>) -> f64 {
-    times.sort_by(f64::total_cmp);
-    times[times.len() / 2]
-}
-
-/// The medians of the Rust, of ours on the sheet as it was left, and of ours on a cleared sheet.
-fn measure(inputs: &[Input], ours: bool) -> [f64; 3] {
-    let mut times: [Vec<f64>; 3] = Default::default();
+/// What the Rust takes, ours on the sheet as it was left, and ours on a cleared sheet.
+fn measure(inputs: &[Input]) -> [f64; 3] {
+    let mut times: [Times; 3] = Default::default();
     let mut sheet = [0x55; CELLS];
+    let alike = inputs.iter().all(|input| by_rust(input) == by_us(input, &mut sheet));
+    assert!(alike, "both write the same last byte");
     for _ in 0..ROUNDS {
-        times[0].push(timed(inputs, by_rust));
-        if ours {
-            times[1].push(timed(inputs, |input| by_us(input, &mut sheet)));
-            times[2].push(timed(inputs, |input| {
-                sheet.fill(0);
-                by_us(input, &mut sheet)
-            }));
-        }
+        times[0].round(inputs, AT_ONCE, by_rust);
+        times[1].round(inputs, AT_ONCE, |input| by_us(input, &mut sheet));
+        times[2].round(inputs, AT_ONCE, |input| {
+            sheet.fill(0);
+            by_us(input, &mut sheet)
+        });
     }
-    times.map(|list| if list.is_empty() { f64::NAN } else { median(list) })
+    times.map(|side| side.each(inputs.len()))
 }
 
 /// A floor and a leg of sixteen steps over it.
@@ -126,38 +143,23 @@ fn by_sectors(leg: &Leg, sheet: &mut [u8]) -> u8 {
     built.map_or(0, |answer| answer.number)
 }
 
-/// The medians of the leg and of its sector calls, on sheets that must come out equal.
+/// What the leg takes, and its sector calls, on sheets that must come out equal.
 fn measure_legs(legs: &[Leg]) -> [f64; 2] {
-    let mut times: [Vec<f64>; 2] = Default::default();
+    let mut times: [Times; 2] = Default::default();
     let (mut one, mut other) = (vec![0x55; 64 * CELLS], vec![0x55; 64 * CELLS]);
     for _ in 0..ROUNDS {
-        times[0].push(timed(legs, |leg| as_a_leg(leg, &mut one)));
-        times[1].push(timed(legs, |leg| by_sectors(leg, &mut other)));
+        times[0].round(legs, 1, |leg| as_a_leg(leg, &mut one));
+        times[1].round(legs, 1, |leg| by_sectors(leg, &mut other));
         assert_eq!(one, other, "a leg and its sector calls write the same sheet");
     }
-    times.map(median)
+    times.map(|side| side.each(legs.len()))
 }
 
-fn legs() {
-    println!("nanoseconds a leg of 16 steps, medians of {ROUNDS} rounds over {LEGS} floors");
-    println!("{:<14} {:>9} {:>9}  {:>11}", "", "sectors", "leg", "leg/sectors");
-    for (name, open) in [("random floor", false), ("open floor", true)] {
-        let mut rng = Rng::new(7);
-        let floors: Vec<Leg> = (0..LEGS).map(|_| leg(&mut rng, open)).collect();
-        let [as_leg, sectors] = measure_legs(&floors);
-        println!("{name:<14} {sectors:>9.0} {as_leg:>9.0}  {:>11.2}", as_leg / sectors);
-    }
-}
-
-fn main() {
-    let ours = Library.offers(Call::Sector);
-    println!("nanoseconds a sector, medians of {ROUNDS} rounds over {INPUTS} inputs, both built for release");
+fn sectors() {
+    println!("nanoseconds a sector: {INPUTS} inputs, {AT_ONCE} timed at once, the least of {ROUNDS} rounds");
     println!("Rust: init, build, new, build, from its own types made before; its flow field is new each time");
     println!("ours: the sector call, from bytes, refusals and answer by value included; `left` the sheet as the");
     println!("call before left it, `cleared` the sheet filled with 0 before each call, within the time");
-    if !ours {
-        println!("the library has no sector call yet: the Rust alone");
-    }
     println!("{:<14} {:>9} {:>9} {:>9}  {:>9} {:>12}", "", "Rust", "left", "cleared", "left/Rust", "cleared/Rust");
     let groups = [
         ("random goal", false, false),
@@ -168,15 +170,37 @@ fn main() {
     for (name, open, window) in groups {
         let mut rng = Rng::new(7);
         let inputs: Vec<Input> = (0..INPUTS).map(|_| input(&mut rng, open, window)).collect();
-        let [rust, left, cleared] = measure(&inputs, ours);
-        if ours {
-            let (by_left, by_cleared) = (left / rust, cleared / rust);
-            println!("{name:<14} {rust:>9.0} {left:>9.0} {cleared:>9.0}  {by_left:>9.2} {by_cleared:>12.2}");
-        } else {
-            println!("{name:<14} {rust:>9.0}");
-        }
+        let [rust, left, cleared] = measure(&inputs);
+        let (by_left, by_cleared) = (left / rust, cleared / rust);
+        println!("{name:<14} {rust:>9.0} {left:>9.0} {cleared:>9.0}  {by_left:>9.2} {by_cleared:>12.2}");
     }
-    if Library.offers(Call::Leg) {
-        legs();
+}
+
+fn legs() {
+    println!("nanoseconds a leg of 16 steps: {LEGS} floors, the least of {ROUNDS} rounds for each");
+    println!("{:<14} {:>9} {:>9}  {:>11}", "", "sectors", "leg", "leg/sectors");
+    for (name, open) in [("random floor", false), ("open floor", true)] {
+        let mut rng = Rng::new(7);
+        let floors: Vec<Leg> = (0..LEGS).map(|_| leg(&mut rng, open)).collect();
+        let [as_leg, sectors] = measure_legs(&floors);
+        println!("{name:<14} {sectors:>9.0} {as_leg:>9.0}  {:>11.2}", as_leg / sectors);
     }
+}
+
+fn bench(words: Vec<String>) -> Result<(), String> {
+    if let Some(word) = words.first() {
+        return Err(format!("`{word}`: bench takes no words"));
+    }
+    if !cfg!(panic = "abort") {
+        return Err("not built with the profile `fastest`: use tools/oracle/run bench".to_string());
+    }
+    Library::found(&[Call::Sector, Call::Leg])?;
+    println!("the Rust and this driver are built with {}", env!("ORACLE_PROFILE"));
+    sectors();
+    legs();
+    Ok(())
+}
+
+fn main() -> ExitCode {
+    command::run("bench", "usage: bench", bench)
 }

@@ -4,42 +4,74 @@
 use std::process::ExitCode;
 use std::time::Instant;
 
+use oracle::command;
 use oracle::groups::{Clean, Difference, GROUPS, Group};
 use oracle::library::Library;
 use oracle::model::{Model, Slip};
 use oracle::subject::Subject;
 
+/// What is held to the oracle.
+#[derive(PartialEq)]
+enum Side {
+    Library,
+    Model,
+    Slips,
+}
+
 struct Arguments {
-    model: bool,
-    slips: bool,
+    side: Side,
     seed: u64,
-    inputs: usize,
+    /// None asks for the usual number.
+    inputs: Option<usize>,
     group: Option<String>,
     /// Print the smallest input of each slip.
     smallest: bool,
 }
 
-const USAGE: &str = "compare [--model | --slips [--smallest]] [--inputs N] [--seed N] [--group NAME]";
+const USAGE: &str = "usage: compare [--model | --slips [--smallest]] [--inputs N] [--seed N] [--group NAME]";
 
-fn arguments() -> Arguments {
-    let mut found = Arguments { model: false, slips: false, seed: 1, inputs: 0, group: None, smallest: false };
-    let mut words = std::env::args().skip(1);
+/// The whole number behind an option, underscores left out.
+fn number(option: &str, word: Option<&String>) -> Result<u64, String> {
+    let parsed = word.and_then(|word| word.replace('_', "").parse().ok());
+    parsed.ok_or_else(|| format!("{option} takes a whole number; {USAGE}"))
+}
+
+fn parsed(words: &[String]) -> Result<Arguments, String> {
+    let mut found = Arguments { side: Side::Library, seed: 1, inputs: None, group: None, smallest: false };
+    let mut words = words.iter();
     while let Some(word) = words.next() {
-        let mut number = || words.next().and_then(|n| n.replace('_', "").parse().ok()).expect(USAGE);
         match word.as_str() {
-            "--model" => found.model = true,
-            "--slips" => found.slips = true,
-            "--inputs" => found.inputs = number() as usize,
-            "--seed" => found.seed = number(),
+            "--model" if found.side == Side::Library => found.side = Side::Model,
+            "--slips" if found.side == Side::Library => found.side = Side::Slips,
+            "--inputs" => found.inputs = Some(number(word, words.next())? as usize),
+            "--seed" => found.seed = number(word, words.next())?,
             "--smallest" => found.smallest = true,
-            "--group" => found.group = words.next(),
-            _ => panic!("{USAGE}"),
+            "--group" => found.group = Some(words.next().ok_or("--group takes a name")?.clone()),
+            _ => return Err(format!("`{word}` is not understood; {USAGE}")),
         }
     }
-    if found.inputs == 0 {
-        found.inputs = if found.slips { 20_000 } else { 100_000 };
+    Ok(found)
+}
+
+/// The words, where they ask for something that can be done.
+fn arguments(words: &[String]) -> Result<Arguments, String> {
+    let found = parsed(words)?;
+    let names: Vec<&str> = GROUPS.iter().map(|group| group.name).collect();
+    if found.inputs == Some(0) {
+        return Err("--inputs 0 compares nothing".to_string());
     }
-    found
+    if found.smallest && found.side != Side::Slips {
+        return Err(format!("--smallest goes with --slips; {USAGE}"));
+    }
+    match &found.group {
+        Some(_) if found.side == Side::Slips => {
+            Err("--slips tries every group, so --group does not go with it".to_string())
+        }
+        Some(name) if !names.contains(&name.as_str()) => {
+            Err(format!("no group `{name}`; there are: {}", names.join("; ")))
+        }
+        _ => Ok(found),
+    }
 }
 
 fn report_clean(group: &Group, clean: &Clean, start: Instant) {
@@ -57,28 +89,40 @@ fn report_difference(group: &Group, difference: &Difference) {
     }
 }
 
-/// Runs every group that the side has the calls for.
-fn compare(side: &dyn Subject, chosen: &Arguments) -> bool {
-    let mut inputs = 0;
-    for group in GROUPS.iter().filter(|group| chosen.group.as_ref().is_none_or(|name| name == group.name)) {
-        if !group.needs.iter().all(|call| side.offers(*call)) {
-            println!("{:<20} not there yet: {:?}", group.name, group.needs);
-            continue;
+/// Runs one group, and says how many inputs it compared.
+fn run(group: &Group, side: &dyn Subject, chosen: &Arguments) -> Result<usize, String> {
+    let start = Instant::now();
+    let clean = group.run(side, chosen.seed, chosen.inputs.unwrap_or(100_000)).map_err(|difference| {
+        report_difference(group, &difference);
+        format!("`{}` differs at input {}", group.name, difference.input)
+    })?;
+    report_clean(group, &clean, start);
+    match group.reaches.iter().find(|number| clean.numbers[usize::from(**number)] == 0) {
+        Some(number) => {
+            let inputs = clean.inputs;
+            Err(format!("`{}` did not reach number {number} in {inputs} inputs: ask for more by --inputs", group.name))
         }
-        let start = Instant::now();
-        match group.run(side, chosen.seed, chosen.inputs) {
-            Ok(clean) => {
-                inputs += clean.inputs;
-                report_clean(group, &clean, start);
-            }
-            Err(difference) => {
-                report_difference(group, &difference);
-                return false;
-            }
+        None => Ok(clean.inputs),
+    }
+}
+
+/// Runs every group that was chosen. A group whose calls the side does not have compares nothing, which is a failure.
+fn compare(side: &dyn Subject, chosen: &Arguments) -> Result<(), String> {
+    let mut inputs = 0;
+    let mut left = Vec::new();
+    for group in GROUPS.iter().filter(|group| chosen.group.as_ref().is_none_or(|name| name == group.name)) {
+        if group.needs.iter().all(|call| side.offers(*call)) {
+            inputs += run(group, side, chosen)?;
+        } else {
+            println!("{:<20} not there: {:?}", group.name, group.needs);
+            left.push(group.name);
         }
     }
     println!("{inputs} inputs, no difference (seed {})", chosen.seed);
-    true
+    if !left.is_empty() {
+        return Err(format!("not compared, since the library does not export their calls: {}", left.join("; ")));
+    }
+    if inputs == 0 { Err("nothing was compared".to_string()) } else { Ok(()) }
 }
 
 /// Whether a group is where a slip is likely found, by the first word of what the slip does.
@@ -93,10 +137,11 @@ fn find(slip: Slip, text: &str, chosen: &Arguments) -> Option<(&'static Group, B
     let side = Model { slip };
     let (first, then): (Vec<&Group>, Vec<&Group>) = GROUPS.iter().partition(|group| likely(group, text));
     let mut groups = first.into_iter().chain(then);
-    groups.find_map(|group| Some((group, group.run(&side, chosen.seed, chosen.inputs).err()?)))
+    let inputs = chosen.inputs.unwrap_or(20_000);
+    groups.find_map(|group| Some((group, group.run(&side, chosen.seed, inputs).err()?)))
 }
 
-fn try_slips(chosen: &Arguments) -> bool {
+fn try_slips(chosen: &Arguments) -> Result<(), String> {
     let mut missed = 0;
     for (slip, text) in Slip::ALL {
         let Some((group, difference)) = find(*slip, text, chosen) else {
@@ -110,16 +155,22 @@ fn try_slips(chosen: &Arguments) -> bool {
         }
     }
     println!("{} slips, {missed} not found (seed {})", Slip::ALL.len(), chosen.seed);
-    missed == 0
+    if missed == 0 { Ok(()) } else { Err(format!("{missed} slips were not found")) }
+}
+
+fn program(words: Vec<String>) -> Result<(), String> {
+    let chosen = arguments(&words)?;
+    if chosen.side == Side::Library {
+        Library::found(&[])?;
+    }
+    println!("the Rust's nine files: {:#018x}", reference::FINGERPRINT);
+    match chosen.side {
+        Side::Library => compare(&Library, &chosen),
+        Side::Model => compare(&Model::PLAIN, &chosen),
+        Side::Slips => try_slips(&chosen),
+    }
 }
 
 fn main() -> ExitCode {
-    let chosen = arguments();
-    println!("the Rust's nine files: {:#018x}", reference::FINGERPRINT);
-    let good = match (chosen.slips, chosen.model) {
-        (true, _) => try_slips(&chosen),
-        (false, true) => compare(&Model::PLAIN, &chosen),
-        (false, false) => compare(&Library, &chosen),
-    };
-    if good { ExitCode::SUCCESS } else { ExitCode::FAILURE }
+    command::run("compare", USAGE, program)
 }

@@ -5,6 +5,7 @@ use std::fs;
 use std::path::{Path, PathBuf};
 use std::process::ExitCode;
 
+use oracle::command;
 use oracle::records::{Section, sections};
 
 /// The layouts, from the head of the module that makes the records.
@@ -46,27 +47,48 @@ fn default_folder() -> PathBuf {
     Path::new(env!("CARGO_MANIFEST_DIR")).join("../../crates/replay/data")
 }
 
-fn main() -> ExitCode {
-    let mut words: Vec<String> = std::env::args().skip(1).collect();
-    let check = words.first().is_some_and(|word| word == "--check");
-    if check {
-        words.remove(0);
+const USAGE: &str = "usage: record [--check] [FOLDER]";
+
+/// Whether to check, and the folder.
+fn arguments(words: Vec<String>) -> Result<(bool, PathBuf), String> {
+    let (options, folders): (Vec<String>, Vec<String>) = words.into_iter().partition(|word| word.starts_with('-'));
+    if let Some(word) = options.iter().find(|word| *word != "--check").or(folders.get(1)) {
+        return Err(format!("`{word}` is not understood; {USAGE}"));
     }
-    let folder = words.first().map_or_else(default_folder, PathBuf::from);
-    let mut alike = true;
-    if !check {
-        fs::create_dir_all(&folder).expect("the folder can be made");
-    }
+    Ok((!options.is_empty(), folders.first().map_or_else(default_folder, PathBuf::from)))
+}
+
+/// Holds the files of a folder to what would be written.
+fn check(folder: &Path) -> Result<(), String> {
+    let mut otherwise = Vec::new();
     for (name, bytes) in files() {
-        let path = folder.join(&name);
-        if check {
-            let same = fs::read(&path).is_ok_and(|there| there == bytes);
-            println!("{name}: {}", if same { "as recorded" } else { "OTHERWISE" });
-            alike &= same;
-        } else {
-            fs::write(&path, &bytes).expect("the file can be written");
-            println!("{name}: {} bytes", bytes.len());
+        let same = fs::read(folder.join(&name)).is_ok_and(|there| there == bytes);
+        println!("{name}: {}", if same { "as recorded" } else { "OTHERWISE" });
+        if !same {
+            otherwise.push(name);
         }
     }
-    if alike { ExitCode::SUCCESS } else { ExitCode::FAILURE }
+    if otherwise.is_empty() {
+        return Ok(());
+    }
+    Err(format!("not what would be recorded, in {}: {}", folder.display(), otherwise.join(", ")))
+}
+
+fn write(folder: &Path) -> Result<(), String> {
+    fs::create_dir_all(folder).map_err(|e| format!("{}: {e}", folder.display()))?;
+    for (name, bytes) in files() {
+        let path = folder.join(&name);
+        fs::write(&path, &bytes).map_err(|e| format!("{}: {e}", path.display()))?;
+        println!("{name}: {} bytes", bytes.len());
+    }
+    Ok(())
+}
+
+fn record(words: Vec<String>) -> Result<(), String> {
+    let (only_check, folder) = arguments(words)?;
+    if only_check { check(&folder) } else { write(&folder) }
+}
+
+fn main() -> ExitCode {
+    command::run("record", USAGE, record)
 }
