@@ -1,7 +1,8 @@
 /*
  * Random calls through the C interface, with every lent buffer fenced by pages that no access is allowed to.
  * Lengths go from 0 past every limit, bytes are any or nearly good. A refused call must leave its sheet as it was and
- * answer zeros. Usage: fuzz [SECONDS] [SEED]
+ * answer zeros. A fault, and a run in which no call was accepted or none refused, is one line on standard error and
+ * exit status 1.
  */
 #define _DEFAULT_SOURCE
 #include <stdio.h>
@@ -24,9 +25,11 @@ static uint32_t draw(void)
 
 static uint32_t below(uint32_t n) { return draw() % n; }
 
+static const char USAGE[] = "usage: fuzz [SECONDS] [SEED], whole numbers, SECONDS from 1; without them 10 and 1";
+
 static void fail(const char *what)
 {
-    printf("%s\n", what);
+    fprintf(stderr, "fuzz: %s\n", what);
     exit(1);
 }
 
@@ -110,6 +113,14 @@ static int zeros(const void *part, size_t length)
     return 1;
 }
 
+/* How many calls answered 0, and how many a number. */
+static unsigned long accepted, turned_away;
+
+static void counted(uint8_t number)
+{
+    *(number == 0 ? &accepted : &turned_away) += 1;
+}
+
 static void refused(uint8_t number, HanjolumIntegrationField f, size_t waves)
 {
     if (number != 0 && !(zeros(f.field, sizeof f.field) && zeros(f.los_corners, sizeof f.los_corners) && f.count == 0 && waves == 0))
@@ -128,6 +139,7 @@ static uint8_t before[SPACE];
 
 static void kept(uint8_t number, const Fenced *sheet)
 {
+    counted(number);
     if (number != 0 && memcmp(before, sheet->at, sheet->length) != 0)
         fail("a refusal wrote");
 }
@@ -156,8 +168,10 @@ static void round_of_calls(Fenced *costs, Fenced *route, Fenced *previous, Fence
     kept(a.number, sheet);
     refused(a.number, a.field, a.waves);
     HanjolumInitAnswer i = hanjolum_init(costs->at, costs->length, route->at, route->length);
+    counted(i.number);
     refused(i.number, i.field, 0);
     HanjolumBuildAnswer b = hanjolum_build(costs->at, costs->length, field());
+    counted(b.number);
     refused(b.number, b.field, b.waves);
     memcpy(before, sheet->at, sheet->length);
     kept(hanjolum_flow_new(route->at, route->length, field(), has, numbers, count, sheet->at, sheet->length), sheet);
@@ -169,14 +183,49 @@ static void round_of_calls(Fenced *costs, Fenced *route, Fenced *previous, Fence
     hanjolum_line_end(below(12), below(12), (size_t)draw() << below(40), below(12));
 }
 
+/* A whole number of at most 18 digits, so that no seed makes the state 0, which would stay 0. */
+static unsigned long long number_of(const char *word)
+{
+    size_t digits = strspn(word, "0123456789");
+    if (digits == 0 || digits > 18 || word[digits] != '\0')
+        fail(USAGE);
+    return strtoull(word, NULL, 10);
+}
+
+static void written(void)
+{
+    if (fflush(stdout) != 0)
+        fail("standard output cannot be written");
+}
+
+static void help(void)
+{
+    puts(USAGE);
+    written();
+    exit(0);
+}
+
+static void report(unsigned long rounds)
+{
+    if (accepted == 0 || turned_away == 0)
+        fail("no call was accepted, or none was refused");
+    printf("%lu rounds of calls, %lu accepted and %lu refused, nothing found\n", rounds, accepted, turned_away);
+    written();
+}
+
 int main(int argc, char **argv)
 {
-    time_t end = time(NULL) + (argc > 1 ? atol(argv[1]) : 10);
-    state = 0x9e3779b97f4a7c15u ^ (argc > 2 ? (uint64_t)atol(argv[2]) : 1);
+    if (argc == 2 && strcmp(argv[1], "--help") == 0)
+        help();
+    unsigned long long seconds = argc > 1 ? number_of(argv[1]) : 10;
+    if (argc > 3 || seconds == 0)
+        fail(USAGE);
+    state = 0x9e3779b97f4a7c15u ^ (argc > 2 ? number_of(argv[2]) : 1);
+    time_t end = time(NULL) + (time_t)seconds;
     Fenced costs = fence(), route = fence(), previous = fence(), sheet = fence();
     unsigned long rounds = 0;
-    for (; time(NULL) < end; rounds++)
+    for (; time(NULL) <= end; rounds++)
         round_of_calls(&costs, &route, &previous, &sheet);
-    printf("%lu rounds of calls, nothing found\n", rounds);
+    report(rounds);
     return 0;
 }

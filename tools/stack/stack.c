@@ -1,6 +1,7 @@
 /*
  * The deepest stack of a leg: plans legs of sixteen steps on a painted stack and looks how far down the paint is gone.
  * The floors are hard: sectors are changed cell by cell, and a change is kept where the waves do not become fewer.
+ * What goes wrong, a refused leg among it, is one line on standard error and exit status 1.
  *
  *     rt staticlib hanjolum
  *     cc -pthread -Iinclude tools/stack/stack.c target/staticlib/libhanjolum.a -o target/stack && target/stack
@@ -14,6 +15,12 @@
 #include "hanjolum.h"
 
 enum { STACK = 8 << 20, PAINT = 0xa5, CHANGES = 20000, LEGS = 30 };
+
+static void fail(const char *what)
+{
+    fprintf(stderr, "stack: %s\n", what);
+    exit(1);
+}
 
 static uint8_t floor_costs[HANJOLUM_FLOOR];
 static uint8_t sheet[HANJOLUM_FLOOR];
@@ -83,21 +90,30 @@ static size_t depth(uint8_t *stack)
     pthread_attr_init(&attributes);
     pthread_attr_setstack(&attributes, stack, STACK);
     if (pthread_create(&thread, &attributes, plan, NULL) != 0)
-        exit(1);
+        fail("no thread on the painted stack");
     pthread_join(thread, NULL);
     pthread_attr_destroy(&attributes);
-    while (stack[paint] == PAINT)
+    if (number != 0)
+        fail("the leg was refused");
+    while (paint < STACK && stack[paint] == PAINT)
         paint++;
+    if (paint == STACK || before < (uintptr_t)(stack + paint))
+        fail("the leg did not run on the painted stack");
     return before - (uintptr_t)(stack + paint);
 }
 
-int main(void)
+int main(int argc, char **argv)
 {
     uint8_t *stack = aligned_alloc(4096, STACK);
     size_t deepest = 0;
     size_t most = 0;
+    (void)argv;
+    if (argc > 1)
+        fail("takes no words");
+    if (stack == NULL)
+        fail("no memory");
     srand(1);
-    for (int leg = 0; stack != NULL && leg < LEGS; leg++) {
+    for (int leg = 0; leg < LEGS; leg++) {
         make_steps();
         memset(floor_costs, 1, sizeof floor_costs);
         for (int i = leg % 2; i < HANJOLUM_STEPS; i += 4) {
@@ -106,10 +122,10 @@ int main(void)
         }
         size_t used = depth(stack);
         deepest = used > deepest ? used : deepest;
-        if (number != 0)
-            printf("refused with number %d\n", number);
     }
     free(stack);
     printf("%zu bytes of stack at most, with %zu waves\n", deepest, most);
-    return deepest == 0;
+    if (fflush(stdout) != 0)
+        fail("standard output cannot be written");
+    return 0;
 }
