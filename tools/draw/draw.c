@@ -1,7 +1,9 @@
 /*
  * Plans a sector that is drawn as text, and shows its arrows beside its flow bytes.
  * The drawing is turned into costs and a step here; every arrow comes from hanjolum_sector.
+ * What is wrong with the words, the drawing or the output is one line on standard error and exit status 1.
  */
+#include <errno.h>
 #include <stdarg.h>
 #include <stdio.h>
 #include <stdlib.h>
@@ -12,17 +14,16 @@
 enum { SIDE = 10 };
 
 static const char SIDES[] = "NESW";
+static const char *const EDGES[] = {"north edge (row 1)", "east edge (column 10)", "south edge (row 10)", "west edge (column 1)"};
 
-static const char USAGE[] =
-    "usage: draw [--ascii] [FILE]\n"
-    "FILE, or standard input, holds ten rows of ten cells: '#' a wall, '.' a cost of 1, a digit its own cost,\n"
-    "and 'G' the goal, or along one edge an unbroken window of 'N', 'E', 'S' or 'W', the side that it leads across.\n";
+static const char USAGE[] = "usage: draw [--ascii] [FILE], FILE - or none for standard input; tools/draw/run --help says what a drawing is";
 
 static const char *const ARROWS[] = {"↑", "→", "↓", "←", "↗", "↘", "↙", "↖"};
 static const char *const LETTERS[] = {"N ", "E ", "S ", "W ", "NE", "SE", "SW", "NW"};
 
-/* What a drawing says. A window is from cell `first` to cell `last`; a goal is both. */
+/* What a drawing says, and where it stands. A window is from cell `first` to cell `last`; a goal is both. */
 struct drawing {
+    const char *name;
     uint8_t costs[HANJOLUM_CELLS];
     char mark;
     int marked;
@@ -41,6 +42,12 @@ static void fail(const char *format, ...)
     exit(1);
 }
 
+/* The name of the edge that a letter stands for. */
+static const char *edge_of(char side)
+{
+    return EDGES[strchr(SIDES, side) - SIDES];
+}
+
 /* Whether a cell lies on the edge that a letter names. */
 static int on_edge(char side, int row, int column)
 {
@@ -55,12 +62,13 @@ static int on_edge(char side, int row, int column)
 static void mark(struct drawing *drawing, char letter, int row, int column)
 {
     int cell = row * SIDE + column;
+    const char *name = drawing->name;
     if (letter != 'G' && !on_edge(letter, row, column))
-        fail("row %d, column %d: '%c' stands off its edge", row + 1, column + 1, letter);
+        fail("%s: row %d, column %d: '%c' stands off its edge, the %s", name, row + 1, column + 1, letter, edge_of(letter));
     if (drawing->marked > 0 && drawing->mark != letter)
-        fail("row %d, column %d: '%c' and '%c'; draw a goal or one window", row + 1, column + 1, letter, drawing->mark);
+        fail("%s: row %d, column %d: '%c' beside '%c'; draw a goal or one window", name, row + 1, column + 1, letter, drawing->mark);
     if (drawing->marked > 0 && letter == 'G')
-        fail("row %d, column %d: a second goal", row + 1, column + 1);
+        fail("%s: row %d, column %d: a second goal", name, row + 1, column + 1);
     if (drawing->marked == 0)
         drawing->first = cell;
     drawing->mark = letter;
@@ -77,41 +85,55 @@ static uint8_t cost_of(struct drawing *drawing, char letter, int row, int column
     if (letter == 'G' || (letter != '\0' && strchr(SIDES, letter) != NULL))
         mark(drawing, letter, row, column);
     else if (letter != '.')
-        fail("row %d, column %d: a cell is '#', '.', a digit, 'G' or one of 'N', 'E', 'S', 'W'", row + 1, column + 1);
+        fail("%s: row %d, column %d: the byte 0x%02x is none of '#', '.', a digit, 'G', 'N', 'E', 'S', 'W'",
+             drawing->name, row + 1, column + 1, (unsigned char)letter);
     return 1;
 }
 
-static void read_row(struct drawing *drawing, const char *line, size_t length, int row)
+/* Puts the first bytes of a line into `row`, and answers how many the line has, or -1 where the file has ended. */
+static long read_line(FILE *file, char *row)
 {
-    if (length != SIDE)
-        fail("row %d does not have %d cells", row + 1, SIDE);
-    for (int column = 0; column < SIDE; column++)
-        drawing->costs[row * SIDE + column] = cost_of(drawing, line[column], row, column);
+    long length = 0;
+    int last = EOF;
+    int byte;
+    while ((byte = getc(file)) != EOF && byte != '\n') {
+        if (length < SIDE)
+            row[length] = (char)byte;
+        length += 1;
+        last = byte;
+    }
+    if (byte == EOF && length == 0)
+        return -1;
+    return last == '\r' ? length - 1 : length;
 }
 
 static void read_drawing(struct drawing *drawing, FILE *file)
 {
-    char line[128];
-    int rows = 0;
-    while (fgets(line, sizeof line, file) != NULL) {
-        if (rows == SIDE)
-            fail("more than %d rows", SIDE);
-        read_row(drawing, line, strcspn(line, "\r\n"), rows);
-        rows += 1;
+    char line[SIDE];
+    long length;
+    int row = 0;
+    while ((length = read_line(file, line)) >= 0) {
+        if (row == SIDE)
+            fail("%s: more than %d rows", drawing->name, SIDE);
+        if (length != SIDE)
+            fail("%s: row %d has %ld cells, not %d", drawing->name, row + 1, length, SIDE);
+        for (int column = 0; column < SIDE; column++)
+            drawing->costs[row * SIDE + column] = cost_of(drawing, line[column], row, column);
+        row += 1;
     }
     if (ferror(file))
-        fail("the drawing cannot be read");
-    if (rows < SIDE)
-        fail("%d rows, not %d", rows, SIDE);
+        fail("%s cannot be read: %s", drawing->name, strerror(errno));
+    if (row < SIDE)
+        fail("%s: %d rows, not %d", drawing->name, row, SIDE);
 }
 
 static void check_marks(const struct drawing *drawing)
 {
     int stride = drawing->mark == 'N' || drawing->mark == 'S' ? 1 : SIDE;
     if (drawing->marked == 0)
-        fail("no goal 'G', and no window of 'N', 'E', 'S' or 'W' along an edge");
+        fail("%s: no goal 'G', and no window of 'N', 'E', 'S' or 'W' along an edge", drawing->name);
     if (drawing->first + (drawing->marked - 1) * stride != drawing->last)
-        fail("the window of '%c' has a gap", drawing->mark);
+        fail("%s: the window of '%c' along the %s has a gap", drawing->name, drawing->mark, edge_of(drawing->mark));
 }
 
 static void make_step(const struct drawing *drawing, uint8_t *step)
@@ -155,21 +177,50 @@ static void show(const struct drawing *drawing, const uint8_t *sheet, int ascii)
     printf("\n%s wall   x not reached   G goal   * goal in sight, no arrow needed\n", ascii ? "##" : "█");
 }
 
+/* Ends with an error where what was printed did not arrive. */
+static void written(void)
+{
+    if (fflush(stdout) != 0 || ferror(stdout))
+        fail("standard output cannot be written: %s", strerror(errno));
+}
+
+static void help(void)
+{
+    puts(USAGE);
+    written();
+    exit(0);
+}
+
+/* The file that the words name, or NULL for standard input. Options may stand before it and behind it. */
+static const char *file_of(int count, char **words, int *ascii)
+{
+    const char *file = NULL;
+    for (int i = 1; i < count; i++) {
+        if (strcmp(words[i], "--help") == 0)
+            help();
+        if (strcmp(words[i], "--ascii") == 0)
+            *ascii = 1;
+        else if (words[i][0] == '-' && words[i][1] != '\0')
+            fail("%s is not understood; %s", words[i], USAGE);
+        else if (file != NULL)
+            fail("%s beside %s; %s", words[i], file, USAGE);
+        else
+            file = words[i];
+    }
+    return file != NULL && strcmp(file, "-") == 0 ? NULL : file;
+}
+
 int main(int count, char **words)
 {
     struct drawing drawing = {0};
     uint8_t step[HANJOLUM_STEP];
     uint8_t sheet[HANJOLUM_CELLS] = {0};
-    int ascii = count > 1 && strcmp(words[1], "--ascii") == 0;
-    FILE *file = stdin;
-    if (count > ascii + 2 || (count > ascii + 1 && words[ascii + 1][0] == '-')) {
-        fputs(USAGE, stderr);
-        return 1;
-    }
-    if (count == ascii + 2)
-        file = fopen(words[ascii + 1], "r");
+    int ascii = 0;
+    const char *name = file_of(count, words, &ascii);
+    FILE *file = name == NULL ? stdin : fopen(name, "r");
+    drawing.name = name == NULL ? "standard input" : name;
     if (file == NULL)
-        fail("%s cannot be opened", words[ascii + 1]);
+        fail("%s cannot be opened: %s", name, strerror(errno));
     read_drawing(&drawing, file);
     fclose(file);
     check_marks(&drawing);
@@ -177,7 +228,8 @@ int main(int count, char **words)
     HanjolumBuildAnswer answer =
         hanjolum_sector(drawing.costs, HANJOLUM_CELLS, step, HANJOLUM_STEP, false, NULL, 0, sheet, HANJOLUM_CELLS);
     if (answer.number != 0)
-        fail("refused with number %d", answer.number);
+        fail("%s: refused with number %d", drawing.name, answer.number);
     show(&drawing, sheet, ascii);
+    written();
     return 0;
 }
