@@ -218,15 +218,16 @@ uint8_t hanjolum_flow_build(
 HanjolumLine hanjolum_line(size_t source_column, size_t source_row, size_t target_column, size_t target_row);
 
 /*
- * The reference's two walks, of which a line is made: from cell 0 one column on at each step, at most one row aside. No
- * cells, with number 0, where column 1 is below column 0. With as many columns as rows, or more, it ends in cell 1;
- * otherwise it goes one aside at each step and ends in column 1, short of cell 1.
+ * One of the reference's two walks that lines are made of: from (col_0, row_0) toward (col_1, row_1), one column on at
+ * each step and at most one row aside. No cells, with number 0, where col_1 is below col_0. Where the columns lie as far
+ * apart as the rows, or farther, it ends at the target; otherwise it goes one row aside at each step, and ends in column
+ * col_1 before it reaches the target's row.
  * Number 13.
  */
 HanjolumLine hanjolum_walk_bresenham_shallow(size_t col_0, size_t row_0, size_t col_1, size_t row_1);
 
 /*
- * The same with columns and rows changed over: one row on at each step, at most one column aside.
+ * The other walk: the same with columns and rows changed over, one row on at each step.
  * Number 13.
  */
 HanjolumLine hanjolum_walk_bresenham_steep(size_t col_0, size_t row_0, size_t col_1, size_t row_1);
