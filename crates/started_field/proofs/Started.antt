@@ -18,7 +18,7 @@ use Rattle.route.proofs.Windows.{window-at, window-few, window-increases}
 use Rattle.integration_field.specs.declared.IntegrationField.{IntegrationField}
 use Rattle.integration_field.specs.Listed.{withCorners}
 use Rattle.integration_field.proofs.Lists.{padded-length, padded-beyond, corners-listed}
-use Rattle.started_field.specs.Sight.{walls, sightAfter}
+use Rattle.started_field.specs.Sight.{walls, Sight, sightAfter}
 use Rattle.started_field.specs.CornerLine.{cornerLine}
 use Rattle.started_field.specs.Sizes.{Sizes}
 use Rattle.started_field.specs.StartedCell.{GoalStarted, WindowStarted}
@@ -50,13 +50,16 @@ module _ (costs : List ℕ) (hundred : length costs ≡ 100) where
   made : (step cells corners : List ℕ) → length corners ≤ 100
       → (isWindow step ≡ false → GoalStarted costs (goalOf step) cells corners)
       → (isWindow step ≡ true → WindowStarted costs (windowCells step) cells corners)
+      → (isWindow step ≡ false → (n : ℕ) → 100 ≤ n → let s = sightAfter (cornerLine (goalOf step)) (walls costs) (goalOf step) n in
+      withCorners cells corners ≡ withCorners (s .cells) (s .corners))
       → StartedField costs step (withCorners cells corners)
-  made step cells corners few g w = record {
+  made step cells corners few g w o = record {
     list-fits = few;
     list-full = padded-length corners few;
     list-beyond = padded-beyond corners;
     of-goal = λ e. rw (corners-listed corners cells) (g e);
     of-window = λ e. rw (corners-listed corners cells) (w e);
+    sight-over = o;
   }
 
   pub started-field : (step : List ℕ) → stepNumber step ≡ 0 → StartedField costs step (started costs step)
@@ -69,11 +72,13 @@ module _ (costs : List ℕ) (hundred : length costs ≡ 100) where
           made step _ (windowCells step) (omega (arith, window-few step w))
           (λ f. absurd (true≢false (sym e ∙ f)))
           (λ f. window-started costs hundred (windowCells step) (λ i h. window-at step w i h .below) (λ i j h k q. omega (arith, window-increases step w i j h k)))
+          (λ f. absurd (true≢false (sym e ∙ f)))
       go false e =
           let h = accepted-goal step ok e in
-          made step _ (sightFrom costs (goalOf step) .corners) (started-sizes (goalOf step) h .corners-fit 100)
-          (λ f. goal-started (goalOf step) h costs hundred (cornerLine (goalOf step)) (corner-lines (goalOf step)) 100)
+          made step _ (sightFrom costs (goalOf step) .corners) (started-sizes (goalOf step) h .corners-fit _)
+          (λ f. goal-started (goalOf step) h costs hundred (cornerLine (goalOf step)) (corner-lines (goalOf step)) _)
           (λ f. absurd (true≢false (sym f ∙ e)))
+          (λ f n m. ap (λ (s : Sight). withCorners (s .cells) (s .corners)) (sym (any-number (goalOf step) h n m)))
 
 -- what an accepted `init` is given
 pub accepted : (costs step : List ℕ) → initNumber costs step ≡ 0 → (length costs ≡ 100) × (stepNumber step ≡ 0)

@@ -14,7 +14,7 @@ use Rattle.started_field.specs.Sight.{walls, withPortals, Sight, sightAf
 use Rattle.started_field.specs.CornerLine.{cornerLine}
 use Rattle.started_field.specs.StartedCell.{GoalStarted, WindowStarted}
 
--- Sight from a goal, after wave 100: no cell is left to look from, and every later wave leaves the same (Sizes).
+-- Sight from a goal, after wave 100: no cell is left to look from, and every later wave leaves the same (`StartedField`, `sight-over`).
 unfoldable pub sightFrom : List ℕ → ℕ → Sight
 sightFrom costs goal = sightAfter (cornerLine goal) (walls costs) goal 100
 
@@ -51,3 +51,6 @@ pub record StartedField (costs step : List ℕ) (f : IntegrationField) : Type 0 
   pub list-beyond : (i : ℕ) → f .count ≤ i → getD (f .«los_corners») i 0 ≡ 0
   pub of-goal : isWindow step ≡ false → GoalStarted costs (goalOf step) (f .field) (listOf f)
   pub of-window : isWindow step ≡ true → WindowStarted costs (windowCells step) (f .field) (listOf f)
+  -- sight has come to its end: every number of waves from 100 on leaves these cells and these corners
+  pub sight-over : isWindow step ≡ false → (n : ℕ) → 100 ≤ n
+      → let s = sightAfter (cornerLine (goalOf step)) (walls costs) (goalOf step) n in f ≡ withCorners (s .cells) (s .corners)
