@@ -160,7 +160,7 @@ impl Subject for Oracle {
     }
 
     fn init(&self, costs: &[u8], step: &[u8]) -> InitAnswer {
-        let given = Given { costs: Some(costs.len()), steps: Some(step), ..Given::default() };
+        let given = Given { costs: Some(costs), steps: Some(step), ..Given::default() };
         match refusals::number(&given) {
             0 => InitAnswer { number: 0, field: self.start(costs, step) },
             number => refused::init(number),
@@ -168,7 +168,7 @@ impl Subject for Oracle {
     }
 
     fn build(&self, costs: &[u8], field: IntegrationField) -> BuildAnswer {
-        let given = Given { costs: Some(costs.len()), by_hand: Some(&field), ..Given::default() };
+        let given = Given { costs: Some(costs), by_hand: Some(&field), ..Given::default() };
         let number = refusals::number(&given);
         if number != 0 {
             return refused::build(number);
@@ -198,7 +198,7 @@ impl Subject for Oracle {
 
     fn sector(&self, costs: &[u8], step: &[u8], previous: Previous, sheet: &mut [u8]) -> BuildAnswer {
         let given = Given {
-            costs: Some(costs.len()),
+            costs: Some(costs),
             sheet: Some(sheet.len()),
             steps: Some(step),
             previous: Some(previous),
@@ -214,13 +214,8 @@ impl Subject for Oracle {
     }
 
     fn leg(&self, floor: &[u8], steps: &[u8], sheet: &mut [u8]) -> u8 {
-        let given = Given {
-            leg: true,
-            costs: Some(floor.len()),
-            sheet: Some(sheet.len()),
-            steps: Some(steps),
-            ..Given::default()
-        };
+        let given =
+            Given { leg: true, costs: Some(floor), sheet: Some(sheet.len()), steps: Some(steps), ..Given::default() };
         let number = refusals::number(&given);
         if number != 0 {
             return number;

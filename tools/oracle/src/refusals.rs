@@ -1,6 +1,8 @@
 //! The table of document 01 ("A leg, the added entry"), read from that page alone: each row a number
 //! and a condition, in the page's order.
 
+use std::ops::Index;
+
 use crate::subject::{IntegrationField, Previous};
 
 /// What a call was lent or given. What a call does not have stands as `None` or empty, and no row
@@ -9,12 +11,31 @@ use crate::subject::{IntegrationField, Previous};
 pub struct Given<'a> {
     /// The call is a leg: its floor and sheet hold 6,400 bytes, its steps are a list.
     pub leg: bool,
-    pub costs: Option<usize>,
+    /// The cost bytes, of a sector or of a floor.
+    pub costs: Option<&'a [u8]>,
+    /// The length of the sheet: what it holds is never judged.
     pub sheet: Option<usize>,
     pub steps: Option<&'a [u8]>,
     pub by_hand: Option<&'a IntegrationField>,
     pub previous: Option<Previous<'a>>,
     pub coordinates: &'a [usize],
+}
+
+/// A step as it is judged: its 8 bytes, and the cost bytes of the sector that it names, none where the call has none
+/// or the sector is not on the floor.
+#[derive(Clone, Copy)]
+pub struct Judged<'a> {
+    pub step: &'a [u8],
+    pub costs: &'a [u8],
+}
+
+/// A byte of the step.
+impl Index<usize> for Judged<'_> {
+    type Output = u8;
+
+    fn index(&self, byte: usize) -> &u8 {
+        &self.step[byte]
+    }
 }
 
 /// A row of the table: its number, and whether its condition holds.
@@ -27,8 +48,8 @@ pub struct Row<T: ?Sized> {
 pub struct Table<'a> {
     /// "lent memory" and "step list"
     pub lent: [Row<Given<'a>>; 3],
-    /// "each step", a step being 8 bytes
-    pub each_step: [Row<[u8]>; 5],
+    /// "each step"
+    pub each_step: [Row<Judged<'a>>; 5],
     /// "whole leg"
     pub whole_leg: [Row<[u8]>; 2],
     /// "building by hand", "flow by hand, sector call" and "line calls"
@@ -40,7 +61,7 @@ impl<'a> Table<'a> {
     pub fn document_01() -> Self {
         Table {
             lent: [
-                Row { number: 1, holds: |g| g.costs.is_some_and(|length| length != size(g)) },
+                Row { number: 1, holds: |g| g.costs.is_some_and(|costs| costs.len() != size(g)) },
                 Row { number: 2, holds: |g| g.sheet.is_some_and(|length| length != size(g)) },
                 Row { number: 3, holds: |g| g.steps.is_some_and(|steps| !step_list_fits(g.leg, steps.len())) },
             ],
@@ -68,7 +89,7 @@ impl<'a> Table<'a> {
     pub fn number(&self, given: &Given<'a>) -> u8 {
         let steps = given.steps.unwrap_or(&[]);
         first(&self.lent, given)
-            .or_else(|| steps.chunks(8).find_map(|step| first(&self.each_step, step)))
+            .or_else(|| each(given).find_map(|step| first(&self.each_step, &step)))
             .or_else(|| if given.leg { first(&self.whole_leg, steps) } else { None })
             .or_else(|| first(&self.others, given))
             .unwrap_or(0)
@@ -78,6 +99,15 @@ impl<'a> Table<'a> {
 /// The number of the first row that holds.
 pub fn first<T: ?Sized>(rows: &[Row<T>], of: &T) -> Option<u8> {
     rows.iter().find(|row| (row.holds)(of)).map(|row| row.number)
+}
+
+/// Each step of a call, with the costs of its sector.
+pub fn each<'a>(given: &Given<'a>) -> impl Iterator<Item = Judged<'a>> {
+    let (leg, costs) = (given.leg, given.costs.unwrap_or(&[]));
+    given.steps.unwrap_or(&[]).chunks(8).map(move |step| {
+        let at = if leg { 100 * usize::from(step[0]) } else { 0 };
+        Judged { step, costs: costs.get(at..at + 100).unwrap_or(&[]) }
+    })
 }
 
 /// The number that document 01 gives a call.

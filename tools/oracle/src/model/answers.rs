@@ -116,7 +116,7 @@ impl Subject for Model {
     }
 
     fn init(&self, costs: &[u8], step: &[u8]) -> InitAnswer {
-        let given = Given { costs: Some(costs.len()), steps: Some(step), ..Given::default() };
+        let given = Given { costs: Some(costs), steps: Some(step), ..Given::default() };
         match self.turned_away(&given, &mut []) {
             Some(number) => InitAnswer { number, field: self.refused_build(number).field },
             None => InitAnswer { number: 0, field: self.started(costs, step) },
@@ -124,7 +124,7 @@ impl Subject for Model {
     }
 
     fn build(&self, costs: &[u8], field: IntegrationField) -> BuildAnswer {
-        let given = Given { costs: Some(costs.len()), by_hand: Some(&field), ..Given::default() };
+        let given = Given { costs: Some(costs), by_hand: Some(&field), ..Given::default() };
         if let Some(number) = self.turned_away(&given, &mut []) {
             return self.refused_build(number);
         }
@@ -154,7 +154,7 @@ impl Subject for Model {
 
     fn sector(&self, costs: &[u8], step: &[u8], previous: Previous, sheet: &mut [u8]) -> BuildAnswer {
         let given = Given {
-            costs: Some(costs.len()),
+            costs: Some(costs),
             sheet: Some(sheet.len()),
             steps: Some(step),
             previous: Some(previous),
@@ -169,13 +169,8 @@ impl Subject for Model {
     }
 
     fn leg(&self, floor: &[u8], steps: &[u8], sheet: &mut [u8]) -> u8 {
-        let given = Given {
-            leg: true,
-            costs: Some(floor.len()),
-            sheet: Some(sheet.len()),
-            steps: Some(steps),
-            ..Given::default()
-        };
+        let given =
+            Given { leg: true, costs: Some(floor), sheet: Some(sheet.len()), steps: Some(steps), ..Given::default() };
         if let Some(number) = self.turned_away(&given, sheet) {
             return number;
         }

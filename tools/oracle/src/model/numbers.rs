@@ -87,7 +87,7 @@ impl Model {
             Slip::NineBeforeSteps => first(&table.whole_leg[..1], steps),
             Slip::RowsBeforeSteps => {
                 let rows = table.each_step.iter();
-                rows.filter(|row| steps.chunks(8).any(|step| (row.holds)(step))).map(|row| row.number).next()
+                rows.filter(|row| refusals::each(given).any(|step| (row.holds)(&step))).map(|row| row.number).next()
             }
             _ => None,
         }
