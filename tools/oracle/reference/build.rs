@@ -1,3 +1,3 @@
 fn main() {
-    prepare::lay_out(false);
+    prepare::lay_out(&[]);
 }

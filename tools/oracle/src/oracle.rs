@@ -81,12 +81,11 @@ pub struct Counted {
 
 /// The counted copy's build.
 pub fn counted_build(costs: &[u8], field: &IntegrationField) -> Counted {
-    use counted::flowfields::fields::integration_field::{IntegrationField as Copied, ORACLE_WAVEFRONTS};
-    use counted::flowfields::fields::{Field, cost_field::CostField};
+    use counted::flowfields::fields::{Field, cost_field::CostField, integration_field::IntegrationField as Copied};
     let mut copy = Copied::oracle_from(field.field, field.corners().to_vec());
-    ORACLE_WAVEFRONTS.with(|seen| seen.set((0, 0)));
+    counted::WAVEFRONTS.set((0, 0));
     copy.build(&CostField::oracle_from(hundred(costs)));
-    let (calls, longest) = ORACLE_WAVEFRONTS.with(|seen| seen.get());
+    let (calls, longest) = counted::WAVEFRONTS.get();
     Counted { cells: *copy.get(), waves: calls - 1, longest }
 }
 

@@ -1,10 +1,11 @@
-//! Lays out the Rust reference for a build script: the nine files as published, the two that were
-//! not published (stubs/flowfields/), and at the end of four of them an item that reads, makes
-//! or calls what they keep private (stubs/appended/). All of it goes to OUT_DIR; nothing is written elsewhere.
+//! Lays out a copy of the Rust reference for a build script: the nine files as published or with changes that
+//! are listed, the two that were not published (stubs/flowfields/), and at the end of four of them an item that
+//! reads, makes or calls what they keep private (stubs/appended/). All of it goes to OUT_DIR; nothing is written
+//! elsewhere. What cannot be laid out ends the build with one line.
 
-use std::env;
-use std::fs;
 use std::path::{Path, PathBuf};
+use std::process::exit;
+use std::{env, fs};
 
 /// The published files, below `src/flowfields/` of the reference's folder.
 pub const PUBLISHED: [&str; 9] = [
@@ -26,20 +27,34 @@ const STOOD_IN: [&str; 2] = ["mod.rs", "sectors/sector_cost.rs"];
 const APPENDED: [&str; 4] =
     ["fields/cost_field.rs", "fields/flow_field.rs", "fields/integration_field.rs", "portal/mod.rs"];
 
-const INTEGRATION_FIELD: &str = "fields/integration_field.rs";
+/// A change of a copy: in this file, this text, which it has so often, becomes that one.
+pub struct Change {
+    pub file: &'static str,
+    pub old: &'static str,
+    pub new: &'static str,
+    pub times: usize,
+}
 
-/// The one line that counts the calls of `propagate_integrated_wavefront` and keeps the length of the
-/// longest wavefront: after this line ..
-const BEFORE_COUNT: &str = "\twavefront: Vec<(usize, u32)>,\n) {\n";
-/// .. this one.
-const COUNT: &str =
-    "\tORACLE_WAVEFRONTS.with(|seen| seen.set((seen.get().0 + 1, seen.get().1.max(wavefront.len()))));\n";
-/// What the line counts in: calls, longest.
-const COUNTER: &str = "\nthread_local! {\n\tpub static ORACLE_WAVEFRONTS: std::cell::Cell<(usize, usize)> = const { std::cell::Cell::new((0, 0)) };\n}\n";
+/// The text of one file with the changes of that file made, one after the other.
+pub fn changed(name: &str, text: &str, changes: &[Change]) -> Result<String, String> {
+    changes.iter().filter(|change| change.file == name).try_fold(text.to_string(), |text, change| {
+        let (old, found) = (change.old, text.matches(change.old).count());
+        if found == change.times {
+            return Ok(text.replace(old, change.new));
+        }
+        Err(format!("{name} has {old:?} {found} times, and the copy is to change it in {} places", change.times))
+    })
+}
+
+/// Ends the build with one line, which `tools/oracle/run` shows alone.
+fn fail(message: String) -> ! {
+    eprintln!("oracle: {message}");
+    exit(1)
+}
 
 /// The folder that holds `src/flowfields/`: ORACLE_REFERENCE, or `../shared/docs/src` seen from the
 /// repository's root.
-pub fn reference_folder() -> PathBuf {
+fn reference_folder() -> PathBuf {
     println!("cargo:rerun-if-env-changed=ORACLE_REFERENCE");
     match env::var_os("ORACLE_REFERENCE") {
         Some(folder) => PathBuf::from(folder),
@@ -55,9 +70,7 @@ fn oracle_folder() -> PathBuf {
 
 fn read(path: &Path) -> String {
     println!("cargo:rerun-if-changed={}", path.display());
-    fs::read_to_string(path).unwrap_or_else(|e| {
-        panic!("{}: {e}. Set ORACLE_REFERENCE to the folder that holds src/flowfields/", path.display())
-    })
+    fs::read_to_string(path).unwrap_or_else(|e| fail(format!("{}: {e}", path.display())))
 }
 
 fn write(path: &Path, text: &str) {
@@ -66,16 +79,10 @@ fn write(path: &Path, text: &str) {
 }
 
 /// The text of one published file as it is compiled.
-fn compiled_text(published: &str, name: &str, counted: bool) -> String {
-    let mut text = published.to_string();
-    if counted && name == INTEGRATION_FIELD {
-        assert_eq!(text.matches(BEFORE_COUNT).count(), 1, "one place to count waves at");
-        text = text.replacen(BEFORE_COUNT, &format!("{BEFORE_COUNT}{COUNT}"), 1);
-        text.push_str(COUNTER);
-    }
+fn compiled_text(published: &str, name: &str, changes: &[Change]) -> String {
+    let mut text = changed(name, published, changes).unwrap_or_else(|message| fail(message));
     if APPENDED.contains(&name) {
-        let ours = oracle_folder().join("stubs/appended").join(name);
-        text.push_str(&read(&ours));
+        text.push_str(&read(&oracle_folder().join("stubs/appended").join(name)));
     }
     text
 }
@@ -85,26 +92,53 @@ fn fingerprint(text: &str, start: u64) -> u64 {
     text.bytes().fold(start, |sum, byte| (sum ^ u64::from(byte)).wrapping_mul(0x100_0000_01b3))
 }
 
-/// Writes the crate's modules to OUT_DIR, with `root.rs` to include at the crate's root.
-pub fn lay_out(counted: bool) {
+/// Writes the crate's modules to OUT_DIR, with `root.rs` to include at the crate's root: the published files
+/// with these changes.
+pub fn lay_out(changes: &[Change]) {
+    if let Some(change) = changes.iter().find(|change| !PUBLISHED.contains(&change.file)) {
+        fail(format!("a change names {}, which is none of the published files", change.file));
+    }
     let out = PathBuf::from(env::var("OUT_DIR").expect("cargo sets OUT_DIR"));
     let published = reference_folder().join("src/flowfields");
     let mut sum = 0xcbf2_9ce4_8422_2325;
     for name in PUBLISHED {
         let text = read(&published.join(name));
         sum = fingerprint(&text, sum);
-        write(&out.join("flowfields").join(name), &compiled_text(&text, name, counted));
+        write(&out.join("flowfields").join(name), &compiled_text(&text, name, changes));
     }
     for name in STOOD_IN {
         let ours = oracle_folder().join("stubs/flowfields").join(name);
         write(&out.join("flowfields").join(name), &read(&ours));
     }
-    let root = out.join("flowfields/mod.rs");
+    let root = out.join("flowfields/mod.rs").display().to_string();
+    let item = format!("pub const FINGERPRINT: u64 = {sum:#x};\n");
     write(
         &out.join("root.rs"),
-        &format!(
-            "#[path = {:?}]\npub mod flowfields;\n/// Of the nine published files.\npub const FINGERPRINT: u64 = {sum:#x};\n",
-            root.display().to_string()
-        ),
+        &format!("#[path = {root:?}]\npub mod flowfields;\n/// Of the nine published files.\n{item}"),
     );
+}
+
+#[cfg(test)]
+mod tests {
+    use super::*;
+
+    const CHANGE: Change = Change { file: "route.rs", old: "a && b", new: "a || b", times: 2 };
+
+    #[test]
+    fn each_place_is_changed() {
+        assert_eq!(changed("route.rs", "a && b; a && b", &[CHANGE]).as_deref(), Ok("a || b; a || b"));
+    }
+
+    #[test]
+    fn another_file_stays() {
+        assert_eq!(changed("portal/mod.rs", "a && b", &[CHANGE]).as_deref(), Ok("a && b"));
+    }
+
+    #[test]
+    fn a_count_that_is_off_is_one_line() {
+        for text in ["", "a && b", "a && b a && b a && b"] {
+            let message = changed("route.rs", text, &[CHANGE]).expect_err("the count is off");
+            assert!(!message.contains('\n') && message.starts_with("route.rs has \"a && b\""), "{message}");
+        }
+    }
 }
