@@ -1,15 +1,34 @@
 //! The oracle: refusal numbers by the table of document 01, everything else by the Rust. Wave counts
-//! come from the counted copy, whose fields are asserted equal to the published one's.
+//! come from the counted copy, whose fields are asserted equal to the published one's. Each judge is noted where it
+//! is asked.
 
 use reference::flowfields as rust;
 use reference::flowfields::fields::bresenham::{walk_bresenham_shallow, walk_bresenham_steep};
 use reference::flowfields::fields::{Field, flow_field};
 use reference::flowfields::utilities::CompassDir;
 
+use crate::judges::{Judge, decides};
 use crate::refusals::{self, Given};
 use crate::subject::*;
 
 pub struct Oracle;
+
+/// The judges of a call that the table takes.
+pub fn judges(call: Call) -> &'static [Judge] {
+    match call {
+        Call::Build | Call::Sector => &[Judge::Published, Judge::Counted],
+        _ => &[Judge::Published],
+    }
+}
+
+/// The number of a call, which the table decides where it is not 0.
+fn number(given: &Given) -> u8 {
+    let number = refusals::number(given);
+    if number != 0 {
+        decides(Judge::Table);
+    }
+    number
+}
 
 const BOUNDARIES: [CompassDir; 4] = [CompassDir::North, CompassDir::East, CompassDir::South, CompassDir::West];
 
@@ -29,10 +48,11 @@ fn answered(at: &rust::fields::FieldCell) -> FieldCell {
 /// The answer of these cells, where the table takes the two ends.
 fn line_of(ends: [FieldCell; 2], walked: impl FnOnce() -> Vec<rust::fields::FieldCell>) -> Line {
     let coordinates = [ends[0].column, ends[0].row, ends[1].column, ends[1].row];
-    let number = refusals::number(&Given { coordinates: &coordinates, ..Given::default() });
+    let number = number(&Given { coordinates: &coordinates, ..Given::default() });
     if number != 0 {
         return refused::line(number);
     }
+    decides(Judge::Published);
     let walked = walked();
     let mut line = Line { count: walked.len(), ..Line::default() };
     for (place, at) in line.cells.iter_mut().zip(&walked) {
@@ -91,10 +111,12 @@ pub fn counted_build(costs: &[u8], field: &IntegrationField) -> Counted {
 
 impl Oracle {
     fn start(&self, costs: &[u8], step: &[u8]) -> IntegrationField {
+        decides(Judge::Published);
         from_rust(&RustField::init(&cost_field(costs), &route_step(step)))
     }
 
     fn built(&self, costs: &[u8], field: &IntegrationField) -> (IntegrationField, usize) {
+        decides(Judge::Published);
         let mut published = rust_field(field);
         published.build(&cost_field(costs));
         let counted = counted_build(costs, field);
@@ -103,6 +125,7 @@ impl Oracle {
     }
 
     fn arrows(&self, step: &[u8], field: &IntegrationField, previous: Option<&[u32]>) -> flow_field::FlowField {
+        decides(Judge::Published);
         let previous = previous.map(|numbers| rust_cells(hundred(numbers)));
         flow_field::FlowField::new(&route_step(step), &rust_cells(field.field), previous.as_ref())
     }
@@ -139,15 +162,17 @@ impl Subject for Oracle {
 
     fn line_end(&self, corner: FieldCell, goal: FieldCell) -> LineEnd {
         let coordinates = [corner.column, corner.row, goal.column, goal.row];
-        let number = refusals::number(&Given { coordinates: &coordinates, ..Given::default() });
+        let number = number(&Given { coordinates: &coordinates, ..Given::default() });
         if number != 0 {
             return refused::line_end(number);
         }
+        decides(Judge::Published);
         let end = rust::fields::integration_field::oracle_line_end(&cell(corner), &cell(goal));
         LineEnd { number: 0, cell: answered(&end) }
     }
 
     fn readings(&self, byte: u8) -> Readings {
+        decides(Judge::Published);
         Readings {
             is_pathable: flow_field::is_pathable(byte),
             is_goal: flow_field::is_goal(byte),
@@ -160,7 +185,7 @@ impl Subject for Oracle {
 
     fn init(&self, costs: &[u8], step: &[u8]) -> InitAnswer {
         let given = Given { costs: Some(costs), steps: Some(step), ..Given::default() };
-        match refusals::number(&given) {
+        match number(&given) {
             0 => InitAnswer { number: 0, field: self.start(costs, step) },
             number => refused::init(number),
         }
@@ -168,17 +193,18 @@ impl Subject for Oracle {
 
     fn build(&self, costs: &[u8], field: IntegrationField) -> BuildAnswer {
         let given = Given { costs: Some(costs), by_hand: Some(&field), ..Given::default() };
-        let number = refusals::number(&given);
+        let number = number(&given);
         if number != 0 {
             return refused::build(number);
         }
         let (field, waves) = self.built(costs, &field);
+        decides(Judge::Counted);
         BuildAnswer { number, field, waves }
     }
 
     fn flow_new(&self, step: &[u8], field: IntegrationField, previous: Previous, sheet: &mut [u8]) -> u8 {
         let given = Given { sheet: Some(sheet.len()), steps: Some(step), previous: Some(previous), ..Given::default() };
-        let number = refusals::number(&given);
+        let number = number(&given);
         if number == 0 {
             sheet.copy_from_slice(self.arrows(step, &field, lent(previous)).get());
         }
@@ -186,8 +212,9 @@ impl Subject for Oracle {
     }
 
     fn flow_build(&self, field: IntegrationField, sheet: &mut [u8]) -> u8 {
-        let number = refusals::number(&Given { sheet: Some(sheet.len()), ..Given::default() });
+        let number = number(&Given { sheet: Some(sheet.len()), ..Given::default() });
         if number == 0 {
+            decides(Judge::Published);
             let mut flow = flow_field::FlowField::oracle_from(hundred(sheet));
             flow.build(&rust_cells(field.field));
             sheet.copy_from_slice(flow.get());
@@ -203,11 +230,12 @@ impl Subject for Oracle {
             previous: Some(previous),
             ..Given::default()
         };
-        let number = refusals::number(&given);
+        let number = number(&given);
         if number != 0 {
             return refused::build(number);
         }
         let (field, waves, bytes) = self.planned(costs, step, lent(previous));
+        decides(Judge::Counted);
         sheet.copy_from_slice(&bytes);
         BuildAnswer { number, field, waves }
     }
@@ -215,7 +243,7 @@ impl Subject for Oracle {
     fn leg(&self, floor: &[u8], steps: &[u8], sheet: &mut [u8]) -> u8 {
         let given =
             Given { leg: true, costs: Some(floor), sheet: Some(sheet.len()), steps: Some(steps), ..Given::default() };
-        let number = refusals::number(&given);
+        let number = number(&given);
         if number != 0 {
             return number;
         }

@@ -6,6 +6,7 @@ use std::time::Instant;
 
 use oracle::command;
 use oracle::groups::{Clean, Difference, GROUPS, Group};
+use oracle::judges::Judge;
 use oracle::library::Library;
 use oracle::model::{Model, Slip};
 use oracle::subject::Subject;
@@ -74,11 +75,19 @@ fn arguments(words: &[String]) -> Result<Arguments, String> {
     }
 }
 
+/// How many inputs each judge decided, those left out that decided none.
+fn judged(counts: &[usize; 4]) -> String {
+    let decided = Judge::ALL.into_iter().zip(counts).filter(|(_, count)| **count > 0);
+    let words: Vec<String> = decided.map(|(judge, count)| format!("{} {count}", judge.name())).collect();
+    words.join(", ")
+}
+
 fn report_clean(group: &Group, clean: &Clean, start: Instant) {
     let due = clean.numbers.iter().enumerate().filter(|(_, count)| **count > 0);
     let numbers: Vec<String> = due.map(|(number, count)| format!("{number}: {count}")).collect();
     let seconds = start.elapsed().as_secs_f64();
     println!("{:<20} {:>9} inputs alike  {seconds:>7.1} s  numbers {}", group.name, clean.inputs, numbers.join(", "));
+    println!("{:<20} decided by: {}", "", judged(&clean.judged));
 }
 
 fn report_difference(group: &Group, difference: &Difference) {
@@ -89,40 +98,34 @@ fn report_difference(group: &Group, difference: &Difference) {
     }
 }
 
-/// Runs one group, and says how many inputs it compared.
-fn run(group: &Group, side: &dyn Subject, chosen: &Arguments) -> Result<usize, String> {
+/// Runs one group.
+fn run(group: &Group, side: &dyn Subject, chosen: &Arguments) -> Result<Clean, String> {
     let start = Instant::now();
     let clean = group.run(side, chosen.seed, chosen.inputs.unwrap_or(100_000)).map_err(|difference| {
         report_difference(group, &difference);
         format!("`{}` differs at input {}", group.name, difference.input)
     })?;
     report_clean(group, &clean, start);
-    match group.reaches.iter().find(|number| clean.numbers[usize::from(**number)] == 0) {
-        Some(number) => {
-            let inputs = clean.inputs;
-            Err(format!("`{}` did not reach number {number} in {inputs} inputs: ask for more by --inputs", group.name))
-        }
-        None => Ok(clean.inputs),
-    }
+    group.unmet(&clean).map_or(Ok(clean), Err)
 }
 
 /// Runs every group that was chosen. A group whose calls the side does not have compares nothing, which is a failure.
 fn compare(side: &dyn Subject, chosen: &Arguments) -> Result<(), String> {
-    let mut inputs = 0;
+    let mut all = Clean::default();
     let mut left = Vec::new();
     for group in GROUPS.iter().filter(|group| chosen.group.as_ref().is_none_or(|name| name == group.name)) {
         if group.needs.iter().all(|call| side.offers(*call)) {
-            inputs += run(group, side, chosen)?;
+            all.add(&run(group, side, chosen)?);
         } else {
             println!("{:<20} not there: {:?}", group.name, group.needs);
             left.push(group.name);
         }
     }
-    println!("{inputs} inputs, no difference (seed {})", chosen.seed);
+    println!("{} inputs, no difference (seed {}); decided by: {}", all.inputs, chosen.seed, judged(&all.judged));
     if !left.is_empty() {
         return Err(format!("not compared, since the library does not export their calls: {}", left.join("; ")));
     }
-    if inputs == 0 { Err("nothing was compared".to_string()) } else { Ok(()) }
+    if all.inputs == 0 { Err("nothing was compared".to_string()) } else { Ok(()) }
 }
 
 /// Whether a group is where a slip is likely found, by the first word of what the slip does.

@@ -7,7 +7,8 @@ mod good;
 
 use crate::cases::{Case, Outcome};
 use crate::floors::Rng;
-use crate::oracle::Oracle;
+use crate::judges::{self, Judge, Judges};
+use crate::oracle::{self, Oracle};
 use crate::shrink;
 use crate::subject::{Call, Subject};
 
@@ -73,6 +74,17 @@ pub struct Clean {
     pub inputs: usize,
     /// How often each number was due.
     pub numbers: [usize; 14],
+    /// How many inputs each judge decided, by its place in `Judge::ALL`. A build has two: fields and waves.
+    pub judged: [usize; 4],
+}
+
+impl Clean {
+    pub fn add(&mut self, other: &Clean) {
+        let sum = |ours: &mut [usize], theirs: &[usize]| ours.iter_mut().zip(theirs).for_each(|(a, b)| *a += b);
+        self.inputs += other.inputs;
+        sum(&mut self.numbers, &other.numbers);
+        sum(&mut self.judged, &other.judged);
+    }
 }
 
 /// The first difference.
@@ -83,27 +95,61 @@ pub struct Difference {
     pub found: Vec<String>,
 }
 
-/// Where a side differs from the oracle on one input.
-fn differences(case: &Case, side: &dyn Subject) -> (Outcome, Vec<String>) {
-    let due = case.run(&Oracle);
-    let found = case.run(side);
-    let list = if due == found { Vec::new() } else { due.differences(&found) };
-    (due, list)
+/// What the oracle says of one input, by which judges, and where a side differs from it.
+struct Compared {
+    due: Outcome,
+    judges: Judges,
+    found: Vec<String>,
+}
+
+fn compared(case: &Case, side: &dyn Subject) -> Compared {
+    let (due, judges) = judges::during(|| case.run(&Oracle));
+    assert!(judges.contains(&true), "no judge decided {:?}", case.ask);
+    let outcome = case.run(side);
+    let found = if due == outcome { Vec::new() } else { due.differences(&outcome) };
+    Compared { due, judges, found }
 }
 
 impl Group {
+    /// The judges of the group: those of its calls, and the table where it must have reached a refusal.
+    pub fn judges(&self) -> Vec<Judge> {
+        let accepted = self.needs.iter().filter(|_| self.reaches.contains(&0)).flat_map(|call| oracle::judges(*call));
+        let named: Vec<Judge> = accepted.copied().collect();
+        let table = self.reaches.iter().any(|number| *number != 0);
+        let named = |judge: &Judge| named.contains(judge) || (*judge == Judge::Table && table);
+        Judge::ALL.into_iter().filter(named).collect()
+    }
+
     pub fn run(&self, side: &dyn Subject, seed: u64, inputs: usize) -> Result<Clean, Box<Difference>> {
         let mut clean = Clean::default();
         for case in (self.cases)(Rng::new(seed), inputs) {
             clean.inputs += 1;
-            let (due, found) = differences(&case, side);
+            let Compared { due, judges, found } = compared(&case, side);
             clean.numbers[usize::from(due.number)] += 1;
+            for (count, decided) in clean.judged.iter_mut().zip(judges) {
+                *count += usize::from(decided);
+            }
             if !found.is_empty() {
-                let smallest = shrink::smallest(&case, &|simpler| !differences(simpler, side).1.is_empty());
-                let found = differences(&smallest, side).1;
+                let smallest = shrink::smallest(&case, &|simpler| !compared(simpler, side).found.is_empty());
+                let found = compared(&smallest, side).found;
                 return Err(Box::new(Difference { input: clean.inputs, smallest, found }));
             }
         }
         Ok(clean)
+    }
+
+    /// What the group has to have met and has not: a number, or a judge; or a judge that it does not name.
+    pub fn unmet(&self, clean: &Clean) -> Option<String> {
+        let (name, inputs) = (self.name, clean.inputs);
+        if let Some(number) = self.reaches.iter().find(|number| clean.numbers[usize::from(**number)] == 0) {
+            return Some(format!(
+                "`{name}` did not reach number {number} in {inputs} inputs: ask for more by --inputs"
+            ));
+        }
+        let named = self.judges();
+        let decided = |judge: Judge| clean.judged[judge as usize] > 0;
+        let other = Judge::ALL.into_iter().find(|judge| named.contains(judge) != decided(*judge))?;
+        let fault = if decided(other) { "does not name it" } else { "names it, and it decided nothing" };
+        Some(format!("the judge of `{name}`, {}: the group {fault}", other.name()))
     }
 }

@@ -1,0 +1,49 @@
+//! Who decides what an answer must be. The oracle notes its judges while it answers, so that what is counted is what was
+//! asked and not what was meant to be.
+
+use std::cell::Cell;
+
+#[derive(Clone, Copy, PartialEq, Eq, Debug)]
+pub enum Judge {
+    /// The Rust's nine files as they are.
+    Published,
+    /// The copy of them with one line more: the wave count, beside the published Rust.
+    Counted,
+    /// The table of refusals, as `refusals` reads it.
+    Table,
+    /// The model of the documents, for what has no Rust.
+    Model,
+}
+
+impl Judge {
+    pub const ALL: [Judge; 4] = [Judge::Published, Judge::Counted, Judge::Table, Judge::Model];
+
+    pub fn name(self) -> &'static str {
+        match self {
+            Judge::Published => "published Rust",
+            Judge::Counted => "counted copy",
+            Judge::Table => "table of refusals",
+            Judge::Model => "model",
+        }
+    }
+}
+
+/// For each judge whether it decided, by its place in `Judge::ALL`.
+pub type Judges = [bool; 4];
+
+thread_local! {
+    static DECIDED: Cell<Judges> = const { Cell::new([false; 4]) };
+}
+
+/// Notes that a judge decides the answer that is being made, or a part of it.
+pub fn decides(judge: Judge) {
+    let mut judges = DECIDED.get();
+    judges[judge as usize] = true;
+    DECIDED.set(judges);
+}
+
+/// What is answered, and by which judges it was decided.
+pub fn during<T>(answer: impl FnOnce() -> T) -> (T, Judges) {
+    DECIDED.set([false; 4]);
+    (answer(), DECIDED.get())
+}
