@@ -1,5 +1,6 @@
-// Compares our calls with recorded answers of the Rust, a file for each section: prints how many records agree and a sum
-// of all their bytes, or the first record that differs.
+// Compares our calls with recorded answers, a file for each section: prints how many records agree and a sum of all
+// their bytes, or the first record that differs. The answers are the Rust's; a file that has another judge has its name
+// behind a dot.
 mod flow;
 mod integration;
 mod legs;
@@ -91,5 +92,5 @@ fn main() {
     replay(6, b"flow_build", 601);
     replay(7, b"sector", 1112);
     replay(8, b"leg", 3330);
-    replay(9, b"refusals", 160);
+    replay(9, b"refusals.table", 160);
 }

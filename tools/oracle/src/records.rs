@@ -12,7 +12,11 @@
 //! | flow_build | 601 | 100 cells of 32 bits, 100 sheet | number, 100 sheet |
 //! | sector | 1112 | 100 costs, 8 step, has_previous, 100 previous of 32 bits | number, waves, count, 100 corners, 100 cells of 32 bits, 100 sheet |
 //! | leg | 3330 | step count, 128 steps, 16 times 100 costs | number, 16 times 100 sheet |
-//! | refusals | 160 | see below | number, 4 zeros |
+//! | refusals.table | 160 | see below | number, 4 zeros |
+//!
+//! A file whose name has no dot holds answers of the Rust; its wave counts are those of the counted copy. Behind a dot
+//! stands the judge of a file that has no Rust: `table`, the reading of document 01's table of refusals, or `model`, the
+//! model of the documents.
 //!
 //! flow_new, flow_build, sector: the flow calls do not look at a field's list, so none is recorded
 //! (count 0). The sheet lent to `flow_new` and to the sector call holds 0x55 in every byte.
@@ -21,18 +25,18 @@
 //! sectors not named are 1; every byte of the sheet is 0x55 before the call, and those of sectors not
 //! named still are after it. What stands beyond the last step is 0.
 //!
-//! refusals: call (0 init, 1 build, 2 flow_new, 3 flow_build, 4 sector, 5 leg, 6 line, 7 line_end), then
+//! refusals.table: call (0 init, 1 build, 2 flow_new, 3 flow_build, 4 sector, 5 leg, 6 line, 7 line_end), then
 //! in 16 bits each costs length, sheet length, step bytes' length; has_previous; in 16 bits each
 //! previous length, corner count; the place of one corner, and in 16 bits its value (every other
 //! corner is 0); 4 coordinates; 136 step bytes. What a call does not have is not read. All lent costs
 //! are 1, sheet bytes 0x55, previous numbers and cells 0. Where the number is 0 the call is accepted,
 //! and only its number is recorded.
 //!
-//! Nothing here comes from the program that replays it: fields, lists and bytes are the Rust's, wave
-//! counts those of the counted copy, refusal numbers those of the table reader (`refusals`).
+//! Nothing here comes from the program that replays it.
 
 use crate::cases::Case;
 use crate::floors::{self, Costs, Rng, Step};
+use crate::judges::Judge;
 use crate::model::{Model, Slip};
 use crate::oracle::Oracle;
 use crate::subject::*;
@@ -40,12 +44,26 @@ use crate::subject::*;
 /// The seed of what is drawn.
 const SEED: u64 = 20_261_022;
 
-/// A section of the sample.
+/// A section of the sample: a file.
 pub struct Section {
+    /// The file's name, with the judge behind a dot where it is not the Rust.
     pub name: &'static str,
     /// Bytes of a record.
     pub length: usize,
     pub records: Vec<Vec<u8>>,
+}
+
+impl Section {
+    /// Who decided what is expected, by the name.
+    pub fn judges(&self) -> &'static [Judge] {
+        match self.name.split_once('.') {
+            Some((_, "table")) => &[Judge::Table],
+            Some((_, "model")) => &[Judge::Model],
+            Some((_, other)) => panic!("{}: there is no judge `{other}`", self.name),
+            None if ["build", "sector"].contains(&self.name) => &[Judge::Published, Judge::Counted],
+            None => &[Judge::Published],
+        }
+    }
 }
 
 /// All sections, in the order of the layers.
@@ -61,7 +79,7 @@ pub fn sections() -> Vec<Section> {
         Section { name: "flow_build", length: 601, records: flows_build(rng()) },
         Section { name: "sector", length: 1112, records: sectors(rng()) },
         Section { name: "leg", length: 3330, records: legs(rng()) },
-        Section { name: "refusals", length: 160, records: refusals() },
+        Section { name: "refusals.table", length: 160, records: refusals() },
     ]
 }
 

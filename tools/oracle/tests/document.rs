@@ -114,8 +114,8 @@ fn recorded_refusals_reach_every_number() {
     let calls =
         [Call::Init, Call::Build, Call::FlowNew, Call::FlowBuild, Call::Sector, Call::Leg, Call::Line, Call::LineEnd];
     let sections = sections();
-    let refusals = &sections.iter().find(|section| section.name == "refusals").expect("a section").records;
-    let refusing = GROUPS.iter().filter(|group| group.name.ends_with("refusals"));
+    let refusals = &sections.iter().find(|section| section.name == "refusals.table").expect("a section").records;
+    let refusing = GROUPS.iter().filter(|group| group.name.ends_with("refusals.table"));
     for group in refusing.filter(|group| calls.contains(&group.needs[0])) {
         for number in group.reaches {
             let call = group.needs[0];

@@ -1,6 +1,7 @@
 //! The recorded sample, read back by its layout and asked of the model: the bytes mean what the README
 //! of the sample says.
 
+use oracle::judges::Judge;
 use oracle::model::Model;
 use oracle::records::sections;
 use oracle::subject::*;
@@ -56,6 +57,18 @@ fn each(name: &str, check: impl Fn(&mut Reader)) {
 }
 
 const MODEL: Model = Model::PLAIN;
+
+#[test]
+fn a_file_without_a_rust_judge_says_so_in_its_name() {
+    let sections = sections();
+    let without: Vec<&str> = sections
+        .iter()
+        .filter(|section| !section.judges().contains(&Judge::Published))
+        .map(|section| section.name)
+        .collect();
+    assert_eq!(without, ["refusals.table"]);
+    assert!(sections.iter().all(|section| section.name.contains('.') == without.contains(&section.name)));
+}
 
 #[test]
 fn lines() {
@@ -140,7 +153,7 @@ fn legs() {
 
 #[test]
 fn refusals() {
-    each("refusals", |r| {
+    each("refusals.table", |r| {
         let call = r.byte();
         let (costs, mut sheet, length) = (vec![1; r.short()], vec![0x55; r.short()], r.short());
         let (lent, numbers, count) = (r.byte() == 1, vec![0; r.short()], r.short());

@@ -16,7 +16,7 @@ fn layouts() -> String {
 }
 
 fn readme(sections: &[Section]) -> String {
-    let mut text = String::from("# Recorded answers of the Rust\n\n");
+    let mut text = String::from("# Recorded answers\n\n");
     text += "Made by `record` of tools/oracle, never by hand: `tools/oracle/run record`.\n";
     text += "`tools/oracle/run record --check` says whether the files are what it writes.\n";
     text += &format!(
@@ -24,10 +24,11 @@ fn readme(sections: &[Section]) -> String {
         reference::FINGERPRINT
     );
     text += &layouts();
-    text += "\n| file | records | bytes |\n|---|---|---|\n";
+    text += "\n| file | records | bytes | judge |\n|---|---|---|---|\n";
     for section in sections {
         let records = section.records.len();
-        text += &format!("| {} | {records} | {} |\n", section.name, records * section.length);
+        let judges: Vec<&str> = section.judges().iter().map(|judge| judge.name()).collect();
+        text += &format!("| {} | {records} | {} | {} |\n", section.name, records * section.length, judges.join(", "));
     }
     text
 }
