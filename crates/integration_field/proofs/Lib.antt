@@ -1,3 +1,4 @@
+pub mod Examples
 pub mod Flags
 pub mod Lists
 pub mod Neighbours
@@ -8,4 +9,3 @@ pub mod Answers
 pub mod Decided
 pub mod Snake
 pub mod Diagonal
-pub mod Examples

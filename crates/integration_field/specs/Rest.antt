@@ -38,19 +38,21 @@ then (inl p) (inr m) = inr (omega (arith, ap total p))
 then (inr l) (inl q) = inr (omega (arith, ap total q))
 then (inr l) (inr m) = inr (omega arith)
 
-set-lower : (cells : List ℕ) (x s : ℕ) → s < low (getD cells x 0) → total (set cells x s) < total cells
+set-lower : (cells : List ℕ) (x v : ℕ) → low v < low (getD cells x 0) → total (set cells x v) < total cells
 unfolding total
-set-lower [] x s h = absurd (omega arith)
-set-lower (w ∷ ws) zero s h = omega arith
-set-lower (w ∷ ws) (suc x) s h = omega (arith, set-lower ws x s h)
+set-lower [] x v h = absurd (omega arith)
+set-lower (w ∷ ws) zero v h = omega arith
+set-lower (w ∷ ws) (suc x) v h = omega (arith, set-lower ws x v h)
+
+lowered-if : (b : Bool) (cells r : List ℕ) → (b ≡ true → total r < total cells) → Lowered cells (cond b r cells)
+lowered-if true cells r h = inr (h refl)
+lowered-if false cells r h = inl refl
 
 relaxed-lowered : (s x : ℕ) (cells : List ℕ) → Lowered cells (relaxed s x cells)
 unfolding relaxed
-relaxed-lowered s x cells = go (isWritten (getD cells x 0) s) refl
-  where
-    go : (b : Bool) → isWritten (getD cells x 0) s ≡ b → Lowered cells (cond b (set cells x s) cells)
-    go true e = inr (set-lower cells x s (ltb-true s (low (getD cells x 0)) (and-eq-true-iff (isOpen (getD cells x 0)) _ .0 e .1)))
-    go false e = inl refl
+relaxed-lowered s x cells =
+    lowered-if (isWritten (getD cells x 0) s) cells _
+    (λ e. set-lower cells x _ (omega (arith, ltb-true s (low (getD cells x 0)) (and-eq-true-iff (isOpen (getD cells x 0)) _ .0 e .1))))
 
 module _ (costs : List ℕ) where
   step-lowered : (v : ℕ) (t : Stepped) (cells : List ℕ) → Lowered cells (offered costs v t cells)

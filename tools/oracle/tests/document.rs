@@ -115,7 +115,7 @@ fn recorded_refusals_reach_every_number() {
         [Call::Init, Call::Build, Call::FlowNew, Call::FlowBuild, Call::Sector, Call::Leg, Call::Line, Call::LineEnd];
     let sections = sections();
     let refusals = &sections.iter().find(|section| section.name == "refusals.table").expect("a section").records;
-    let refusing = GROUPS.iter().filter(|group| group.name.ends_with("refusals.table"));
+    let refusing = GROUPS.iter().filter(|group| group.name.ends_with("refusals"));
     for group in refusing.filter(|group| calls.contains(&group.needs[0])) {
         for number in group.reaches {
             let call = group.needs[0];
