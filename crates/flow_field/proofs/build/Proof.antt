@@ -1,5 +1,7 @@
 -- `flow_field::build` meets its contract: the one number, and the sheet filled or left.
 -- Assumes nothing.
+use mathlib.Core.Path.{_≡_}
+use native.Mathlib.Omega.{arith}
 use borrow.Author.Tests.{eq-eqb, ne-eqb}
 use denote.Ref.{now}
 use lib.ListN.{length}
@@ -13,8 +15,9 @@ returns : tie.Need-returns
 unfolding buildNumber
 returns c =
     let a = c .before .before .args in
-    let e = ne-eqb (length (now (a .sheet))) 100 (c .if1 .taken) in
-    (rw e, (rw e, build-arrows (a .field .field) (now (a .sheet)) (now (a .sheet)) (λ h. absurd (c .if1 .taken h))))
+    let other : length (now (a .sheet)) ≡ 100 → ⊥ = λ h. omega (arith, c .if1 .taken) in
+    let e = ne-eqb (length (now (a .sheet))) 100 other in
+    (rw e, (rw e, build-arrows (a .field .field) (now (a .sheet)) (now (a .sheet)) (λ h. absurd (other h))))
 
 calculate-flow-cells-requires : tie.Need-calculate-flow-cells-requires
 calculate-flow-cells-requires c κs = search needs

@@ -1,6 +1,7 @@
 -- `flow_field::new` meets its contract: the numbers in the table's order, and the sheet beside each.
 -- Assumes nothing.
 use mathlib.Core.Path.{sym, ap, _∙_}
+use native.Mathlib.Omega.{arith}
 use denote.Ref.{now}
 use Rattle.route.specs.declared.RouteStep.{RouteStep}
 use Rattle.flow_byte.specs.New.{newBytes}
@@ -12,7 +13,7 @@ use Rattle.flow_field.proofs.new.Tie as tie
 returns : tie.Need-returns
 returns c =
     let a = c .before .before .before .before .args in
-    refused-2 (now (a .step)) (a .field .field) (a .has-previous) (now (a .previous)) (now (a .sheet)) (c .if1 .taken)
+    refused-2 (now (a .step)) (a .field .field) (a .has-previous) (now (a .previous)) (now (a .sheet)) (λ h. omega (arith, c .if1 .taken))
 
 step-number-requires : tie.Need-step-number-requires
 step-number-requires c κs = search needs
@@ -20,7 +21,7 @@ step-number-requires c κs = search needs
 returns-2 : tie.Need-returns-2
 returns-2 c =
     let a = c .before .before .before .before .before .before .args in
-    refused-step (now (a .step)) (a .field .field) (a .has-previous) (now (a .previous)) (now (a .sheet)) (c .before .before .if1 .left) (c .before .step-number .result) (c .before .step-number .ensures) (c .if2 .taken)
+    refused-step (now (a .step)) (a .field .field) (a .has-previous) (now (a .previous)) (now (a .sheet)) (omega arith) (c .before .step-number .result) (c .before .step-number .ensures) (c .if2 .taken)
 
 is-misfit-requires : tie.Need-is-misfit-requires
 is-misfit-requires c κs = search needs

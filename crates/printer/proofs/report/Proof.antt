@@ -1,8 +1,14 @@
 -- `printer::report` meets its contract: an input too short to have costs, or what the sector call answers for its parts.
 -- Assumes nothing.
 use denote.Ref.{now}
-use mathlib.Core.Path.{_∙_}
-use lib.ListN.{replicate}
+use mathlib.Core.Path.{_≡_, _∙_}
+use mathlib.Core.Bool.{false}
+use mathlib.Core.List.{[]}
+use Prim.Native.Nat.{_-_}
+use lib.ListN.{length, take, drop, replicate}
+use lib.Seq.{sets}
+use Rattle.sector.specs.Sector.{sectorAnswer, sectorSheet}
+use Rattle.printer.specs.Text.{rendered}
 use Rattle.printer.proofs.Laws.{printed-short, printed-answer}
 use borrow.Author.Needs.{needs}
 use Rattle.printer.proofs.report.Statement.{statement}
@@ -14,8 +20,10 @@ render-requires c κs = search needs
 returns : tie.Need-returns
 returns c =
     let a = c .before .before .before .before .before .args in
+    let text : c .render .last .1 .1 .0 ≡ sets (now (a .out)) 0 (rendered 1 (replicate 100 0)) = search needs in
+    let count : c .render .result ≡ length (rendered 1 (replicate 100 0)) = search needs in
     let e = printed-short (now (a .input)) (replicate 100 0) (c .before .before .before .if1 .taken) in
-    ((c .render .ensures .0 .0, c .render .ensures .0 .1 ∙ rw e), c .render .ensures .1 ∙ rw e)
+    ((c .render .ensures .0 .0, count ∙ rw e), text ∙ rw e)
 
 sub-costs : tie.Need-sub-costs
 sub-costs c = search needs
@@ -50,8 +58,12 @@ render-requires-2 c κs = search needs
 returns-2 : tie.Need-returns-2
 returns-2 c =
     let a = c .before .before .before .before .before .before .before .before .before .before .before .args in
-    let p = c .before .before .before .before .plan-sector .ensures in
-    let e = printed-answer (now (a .input)) _ _ (p .0) (p .1 .0) in
+    let input = now (a .input) in
+    let planned = c .before .before .before .before .plan-sector in
+    let sheet = planned .last .1 .1 .1 .1 .0 in
+    let answer : planned .result ≡ sectorAnswer (take 100 input) (take (length input - 100) (drop 100 input)) false [] (replicate 100 0) = search needs in
+    let bytes : sheet ≡ sectorSheet (take 100 input) (take (length input - 100) (drop 100 input)) false [] (replicate 100 0) = search needs in
+    let e = printed-answer input (planned .result) sheet answer bytes in
     ((c .render2 .ensures .0 .0, c .render2 .ensures .0 .1 ∙ rw e), c .render2 .ensures .1 ∙ rw e)
 
 pub report-spec : {M : Type 1} → statement M

@@ -1,0 +1,52 @@
+-- Small inputs on which the rules of a flow byte decide (01, "Flow byte"), computed: a definition with one rule changed gives something else.
+--     start-portal                   the flags that a window cell starts with
+--     lower-side, end-sees-two       the facing choice, and what an end cell sees of it
+--     earliest, ended, uncut         a look: of equals the earliest, an end at a cell that nothing reaches, a cut between two walls
+--     ended-byte                     what becomes of a byte where a look has ended
+-- Assumes nothing.
+use mathlib.Core.Path.{_≡_, refl}
+use mathlib.Core.List.{List}
+use Prim.Native.Nat.{ℕ}
+use lib.ListN.{set, replicate}
+use Rattle.utilities.specs.declared.CompassDir.the-variants.{North, South}
+use Rattle.fields.specs.Cell.{stepped}
+use Rattle.integration_field.specs.Diagonal.{betweenWalls}
+use Rattle.flow_byte.specs.declared.Look.the-variants.{Looking, Ended}
+use Rattle.flow_byte.specs.New.{startOf, facingBits, facingChoice}
+use Rattle.flow_byte.specs.Look.{seen, lookAround, pointed, lookedByte}
+
+start-portal : startOf 0x80000 ≡ 0x90
+unfolding startOf
+start-portal = refl
+
+-- of the cells that a cell of a North window faces, the one of the lower index is the cheapest
+lower-side : facingBits North 5 9 9 ≡ 9
+unfolding facingBits
+lower-side = refl
+
+-- the cell beside the first of a North window 3 to 5 faces a cheaper one
+end-sees-two : facingChoice (record { start = 3; end = 5; boundary = North }) (set (replicate 100 7) 92 1) 3 ≡ 1
+unfolding facingChoice facingBits
+end-sees-two = refl
+
+-- a field of cells of one value
+abbrev sevens : List ℕ
+sevens = replicate 100 7
+
+earliest : lookAround sevens 44 ≡ Looking North 7
+unfolding lookAround seen stepped betweenWalls
+earliest = refl
+
+-- the cell to the East is not reached
+ended : lookAround (set sevens 45 65535) 44 ≡ Ended North
+unfolding lookAround seen stepped betweenWalls
+ended = refl
+
+-- walls to the North and to the East, and between them the cheapest cell
+uncut : lookAround (set (set (set sevens 34 0x200FFFF) 45 0x200FFFF) 35 1) 44 ≡ Looking South 7
+unfolding lookAround seen stepped betweenWalls
+uncut = refl
+
+ended-byte : lookedByte 0 (Ended North) ≡ 0xF1
+unfolding pointed
+ended-byte = refl
