@@ -42,7 +42,7 @@ pub fn changed(name: &str, text: &str, changes: &[Change]) -> Result<String, Str
         if found == change.times {
             return Ok(text.replace(old, change.new));
         }
-        Err(format!("{name} has {old:?} {found} times, and the copy is to change it in {} places", change.times))
+        Err(format!("{name} has {old:?} {found} times, and the copy lists {}", change.times))
     })
 }
 
