@@ -1,22 +1,43 @@
 //! The proved library, as others link it. The build script reads which exports the archive has; a
 //! call whose export is not there yet is not offered.
 
+use std::path::{Path, PathBuf};
+
 use crate::subject::*;
 
 pub struct Library;
 
 impl Library {
-    /// Says what is missing where the archive is not there or lacks one of the calls.
+    /// Says what is wrong where the archive is not there, is older than the source, or lacks one of the calls.
     pub fn found(calls: &[Call]) -> Result<(), String> {
         let archive = env!("ORACLE_ARCHIVE");
         if !cfg!(library) {
             return Err(format!("there is no library {archive}: run `rt staticlib hanjolum` first"));
+        }
+        // A library that ORACLE_LIBRARY names may be of any age.
+        let ours = Path::new(env!("CARGO_MANIFEST_DIR"));
+        let newer = newer_source(&ours.join("../../crates"), Path::new(archive));
+        if let Some(source) = newer.filter(|_| Path::new(archive).starts_with(ours)) {
+            return Err(format!("the library is older than {}: run `rt staticlib hanjolum` first", source.display()));
         }
         match calls.iter().find(|call| !Library.offers(**call)) {
             Some(call) => Err(format!("the library {archive} does not export the call {call:?}")),
             None => Ok(()),
         }
     }
+}
+
+/// A Rattle source below a folder, programs left out, that is newer than the archive.
+pub fn newer_source(folder: &Path, archive: &Path) -> Option<PathBuf> {
+    if folder.join("main.rt").exists() {
+        return None;
+    }
+    let changed = |path: &Path| path.metadata().and_then(|file| file.modified()).ok();
+    let entries = folder.read_dir().into_iter().flatten().flatten().map(|entry| entry.path());
+    entries.into_iter().find_map(|path| match path.is_dir() {
+        true => newer_source(&path, archive),
+        false => (path.extension().is_some_and(|end| end == "rt") && changed(&path) > changed(archive)).then_some(path),
+    })
 }
 
 /// `call` where the archive has the export of that name.

@@ -121,11 +121,14 @@ fn compare(side: &dyn Subject, chosen: &Arguments) -> Result<(), String> {
             left.push(group.name);
         }
     }
-    println!("{} inputs, no difference (seed {}); decided by: {}", all.inputs, chosen.seed, judged(&all.judged));
     if !left.is_empty() {
         return Err(format!("not compared, since the library does not export their calls: {}", left.join("; ")));
     }
-    if all.inputs == 0 { Err("nothing was compared".to_string()) } else { Ok(()) }
+    if all.inputs == 0 {
+        return Err("nothing was compared".to_string());
+    }
+    println!("{} inputs, no difference (seed {}); decided by: {}", all.inputs, chosen.seed, judged(&all.judged));
+    Ok(())
 }
 
 /// Whether a group is where a slip is likely found, by the first word of what the slip does.
