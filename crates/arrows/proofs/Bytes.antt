@@ -1,26 +1,27 @@
 -- The bytes of a flow field, cell by cell.
 --     built-byte, new-byte      the byte at an index
 --     new-length                100 bytes
---     pointed-is                a byte made of a direction: its arrow is that direction, and it has not all of 0xE0
---     portal-kept, window-bits  a window cell's byte: 0x10 is set, and not all of 0xE0
+--     pointed-is                a byte made of a direction: its arrow has that direction's bits, and it has not all of 0xE0
+--     portal-kept, window-bits  a window cell's byte, whatever the step's window: 0x10 is set, and not all of 0xE0
 -- Assumes nothing.
 use mathlib.Core.Path.{_≡_, refl, sym, ap, _∙_}
 use mathlib.Core.Bool.{Bool, true, false, true≢false, cond, not, _&&_, _||_}
 use mathlib.Core.List.{List, [], _∷_, map}
-use Prim.Native.Nat.{ℕ, zero, suc, _+_, _-_, _<_}
+use Prim.Native.Nat.{ℕ, zero, suc, _+_, _-_, _%_, _<_, _≤_}
 use native.Mathlib.Omega.{arith}
-use lib.Dec.{ltb, leb, eqb}
+use lib.Dec.{leb, eqb}
 use lib.Bits.{bitOr}
 use lib.ListN.{length, getD, length-map}
-use borrow.Author.Tests.{ltb-true, not-true}
+use borrow.Author.Tests.{not-true}
 use Rattle.utilities.specs.declared.CompassDir.{CompassDir}
 use Rattle.utilities.specs.declared.CompassDir.the-variants.{North, East, South, West, NorthEast, SouthEast, SouthWest, NorthWest, Zero}
-use Rattle.utilities.specs.Compass.{points, sideOf, opposite}
+use Rattle.utilities.specs.Compass.{points, opposite}
+use Rattle.utilities.proofs.Compass.{small}
+use Rattle.route.specs.declared.PortalWindow.{PortalWindow}
 use Rattle.route.specs.Window.{below, stride}
-use Rattle.route.specs.Step.{firstOf, lastOf, boundaryByte, boundaryOf, routeStep}
-use Rattle.route.proofs.Below.{holds, holds-at, same-at}
-use Rattle.flow_byte.specs.Byte.{bitsOf, dirOf, isPathable, isImpassable}
-use Rattle.flow_byte.specs.New.{towardsLower, facingBits, facingValue, unlessEnd, facingChoice, windowBits, newByte, newBytes, flowNew}
+use Rattle.route.proofs.Below.{holds-at, same-at}
+use Rattle.flow_byte.specs.Byte.{bitsOf, isPathable, isImpassable}
+use Rattle.flow_byte.specs.New.{towardsLower, facingBits, facingValue, unlessEnd, facingChoice, windowBits, newByte, newBytes}
 use Rattle.flow_byte.specs.Look.{pointed, builtByte, flowBuild}
 
 -- ---- a byte at an index
@@ -40,23 +41,23 @@ pub built-byte : (cells sheet : List ℕ) (i : ℕ) → i < 100 → getD (flowBu
 unfolding flowBuild
 built-byte cells sheet i h = table-at (λ i. builtByte cells i (getD sheet i 0)) i h
 
-pub new-byte : (step cells : List ℕ) (has : Bool) (previous : List ℕ) (i : ℕ) → i < 100
-    → getD (flowNew step cells has previous) i 0 ≡ newByte (routeStep step) (getD cells i 0) has previous i
-unfolding newBytes
-new-byte step cells has previous i h = table-at (λ i. newByte (routeStep step) (getD cells i 0) has previous i) i h
+module _ (portal : PortalWindow) (window cells : List ℕ) (has : Bool) (previous : List ℕ) where
+  pub new-byte : (i : ℕ) → i < 100 → getD (newBytes portal window cells has previous) i 0 ≡ newByte portal window (getD cells i 0) has previous i
+  unfolding newBytes
+  new-byte i h = table-at (λ i. newByte portal window (getD cells i 0) has previous i) i h
 
-pub new-length : (step cells : List ℕ) (has : Bool) (previous : List ℕ) → length (flowNew step cells has previous) ≡ 100
-unfolding newBytes
-new-length step cells has previous = length-map (below 100) (λ i. newByte (routeStep step) (getD cells i 0) has previous i)
+  pub new-length : length (newBytes portal window cells has previous) ≡ 100
+  unfolding newBytes
+  new-length = length-map (below 100) (λ i. newByte portal window (getD cells i 0) has previous i)
 
 -- ---- a direction's byte
 
 pub record Pointed (d : CompassDir) : Type 0 where
-  pub arrow-is : dirOf (pointed 0 d) ≡ d
+  pub arrow-is : pointed 0 d % 16 ≡ bitsOf d
   pub unmarked : isImpassable (pointed 0 d) ≡ false
 
 pub pointed-is : (d : CompassDir) → points d ≡ true → Pointed d
-unfolding pointed dirOf
+unfolding pointed
 pointed-is North e = record { arrow-is = refl; unmarked = refl }
 pointed-is East e = record { arrow-is = refl; unmarked = refl }
 pointed-is South e = record { arrow-is = refl; unmarked = refl }
@@ -69,47 +70,47 @@ pointed-is Zero e = absurd (true≢false (sym e))
 
 -- ---- a window cell's byte
 
--- bits of the low half, or-ed onto 0x90
+-- bits below 0x20, or-ed onto 0x90
 pub record Kept (byte : ℕ) : Type 0 where
   pub pathable : isPathable byte ≡ true
   pub unmarked : isImpassable byte ≡ false
 
-pub portal-kept : (b : ℕ) → b < 16 → Kept (bitOr 0x90 b)
+pub portal-kept : (b : ℕ) → b < 32 → Kept (bitOr 0x90 b)
 portal-kept b h = record {
-  pathable = holds-at 16 (λ b. isPathable (bitOr 0x90 b)) refl b h;
-  unmarked = not-true (isImpassable (bitOr 0x90 b)) (holds-at 16 (λ b. not (isImpassable (bitOr 0x90 b))) refl b h);
+  pathable = holds-at 32 (λ b. isPathable (bitOr 0x90 b)) refl b h;
+  unmarked = not-true (isImpassable (bitOr 0x90 b)) (holds-at 32 (λ b. not (isImpassable (bitOr 0x90 b))) refl b h);
 }
+
+bits-few : (d : CompassDir) → bitsOf d ≤ 12
+bits-few d = let s = small d refl in omega (arith, s .columns, s .rows)
 
 -- the bits of a side, straight or towards either end
 abbrev sideBits : Bool → Bool → CompassDir → ℕ
 sideBits straight lower side =
     cond straight (bitsOf side) (cond lower (bitsOf side + bitsOf (towardsLower side)) (bitsOf side + bitsOf (opposite (towardsLower side))))
 
-side-bits : (a b : Bool) (n : ℕ) → n < 4 → sideBits a b (sideOf n) < 16
-side-bits a b n h = ltb-true (sideBits a b (sideOf n)) 16 (holds-at 4 (λ n. ltb (sideBits a b (sideOf n)) 16) (each a b) n h)
-  where
-    each : (a b : Bool) → holds 4 (λ n. ltb (sideBits a b (sideOf n)) 16) ≡ true
-    each true b = refl
-    each false true = refl
-    each false false = refl
+side-bits : (a b : Bool) (side : CompassDir) → sideBits a b side < 32
+side-bits true b side = omega (arith, bits-few side)
+side-bits false true side = omega (arith, bits-few side, bits-few (towardsLower side))
+side-bits false false side = omega (arith, bits-few side, bits-few (opposite (towardsLower side)))
 
-facing-bits : (n lower straight higher : ℕ) → n < 4 → facingBits (sideOf n) lower straight higher < 16
+facing-bits : (side : CompassDir) (lower straight higher : ℕ) → facingBits side lower straight higher < 32
 unfolding facingBits
-facing-bits n lower straight higher h = side-bits (leb straight lower && leb straight higher) (leb lower straight && leb lower higher) n h
+facing-bits side lower straight higher = side-bits (leb straight lower && leb straight higher) (leb lower straight && leb lower higher) side
 
-pub window-bits : (step : List ℕ) (has : Bool) (previous : List ℕ) (i : ℕ) → boundaryByte step < 4 → windowBits (routeStep step .portal) has previous i < 16
+pub window-bits : (portal : PortalWindow) (has : Bool) (previous : List ℕ) (i : ℕ) → windowBits portal has previous i < 32
 unfolding windowBits facingChoice
-window-bits step has previous i h = go (not has || eqb (firstOf step) (lastOf step))
+window-bits portal has previous i = go (not has || eqb (portal .start) (portal .end))
   where
     side : CompassDir
-    side = boundaryOf step
+    side = portal .boundary
 
     lower : ℕ
-    lower = unlessEnd (eqb i (firstOf step)) (facingValue previous side (i - stride side))
+    lower = unlessEnd (eqb i (portal .start)) (facingValue previous side (i - stride side))
 
     higher : ℕ
-    higher = unlessEnd (eqb i (lastOf step)) (facingValue previous side (i + stride side))
+    higher = unlessEnd (eqb i (portal .end)) (facingValue previous side (i + stride side))
 
-    go : (t : Bool) → cond t (bitsOf side) (facingBits side lower (facingValue previous side i) higher) < 16
-    go true = side-bits true true (boundaryByte step) h
-    go false = facing-bits (boundaryByte step) lower (facingValue previous side i) higher h
+    go : (t : Bool) → cond t (bitsOf side) (facingBits side lower (facingValue previous side i) higher) < 32
+    go true = side-bits true true side
+    go false = facing-bits side lower (facingValue previous side i) higher

@@ -3,8 +3,9 @@
 --                      stands exactly on walls and unreached cells
 --     build-arrows     the same as it is promised of `FlowField::build`
 --     leads-once       following is determined: two ways to follow the arrows from a cell make as many moves
+--     move-read        and is the same by the direction that a byte reads as
 -- Assumes nothing.
-use mathlib.Core.Path.{_≡_, refl, sym, ap, _∙_}
+use mathlib.Core.Path.{_≡_, refl, sym, ap, subst, _∙_}
 use mathlib.Core.Bool.{Bool, true, false, true≢false, _||_}
 use mathlib.Core.Logic.{_⊎_, inl, inr}
 use mathlib.Core.List.{List, List·Memᴰ}
@@ -15,11 +16,12 @@ use lib.ListN.{length, getD}
 use Rattle.utilities.specs.declared.CompassDir.{CompassDir}
 use Rattle.utilities.specs.Compass.{all}
 use Rattle.fields.specs.declared.Stepped.the-variants.{Cell}
-use Rattle.fields.specs.Cell.{cell, indexOf, cellAt, stepped}
-use Rattle.fields.proofs.Steps.{stepped-cell, index-of-cell}
+use Rattle.fields.specs.Cell.{cellAt, stepped}
+use Rattle.fields.proofs.Steps.{stepped-cell}
 use Rattle.fields.proofs.Beside.{beside-flip}
-use Rattle.route.specs.Step.{isWindow, windowCells, boundaryByte, routeStep}
-use Rattle.route.proofs.Accepted.{accepted-window}
+use Rattle.route.specs.declared.PortalWindow.{PortalWindow}
+use Rattle.route.specs.Step.{portalOf}
+use Rattle.route.specs.Target.{Target, to-goal, to-window, windowOf, targetOf}
 use Rattle.integration_field.specs.Word.{low, isGoal, isPortal}
 use Rattle.integration_field.specs.Word as word
 use Rattle.integration_field.specs.Diagonal.{wallAt, betweenWalls}
@@ -33,14 +35,15 @@ use Rattle.least_walks.specs.Walks.{Wall}
 use Rattle.least_walks.proofs.Ground.{among-mem, mem-among}
 use Rattle.flow_byte.specs.declared.Look.{Look}
 use Rattle.flow_byte.specs.declared.Look.the-variants.{Looking, Taken, Ended}
-use Rattle.flow_byte.specs.Byte.{isImpassable}
-use Rattle.flow_byte.specs.New.{isIn, inWindow, startOf, windowBits, newByte, flowNew}
+use Rattle.flow_byte.specs.Byte.{bitsOf, dirOf, isImpassable}
+use Rattle.flow_byte.specs.New.{isIn, startOf, windowBits, newByte, newBytes}
 use Rattle.flow_byte.specs.Look.{lookedByte, lookAround, pointed, builtByte, flowBuild}
-use Rattle.arrows.specs.Arrows.{Reached, Away, Cuts, Move, Leads, ends, moves, ArrowsLead}
+use Rattle.arrows.specs.Arrows.{Reached, arrow, Away, Cuts, Move, Leads, ends, moves, ArrowsLead}
 use Rattle.arrows.specs.Promise.{WindowSector, builtCells, BuildArrows}
 use Rattle.arrows.proofs.Fall.{is-in, in-among, Sector, value, Plain, wall-word, by-kind, Lower, falls, rank, rank-less, rank-few}
 use Rattle.arrows.proofs.Around.{Sees, differ, near-in, reached-there, reached-back, sees-beside}
 use Rattle.arrows.proofs.Look.{Found, found, Nothing, nothing}
+use Rattle.arrows.proofs.Moves.{away, reads-so, away-once}
 use Rattle.arrows.proofs.Bytes.{built-byte, new-byte, new-length, Pointed, pointed-is, Kept, portal-kept, window-bits}
 
 -- a word without flags starts with 0
@@ -51,45 +54,35 @@ small-start w h = rw (small-flag w 17 (omega arith), small-flag w 19 (omega arit
 small-untaken : (w : ℕ) → w < 2 ^ 16 → (isGoal w || isPortal w) ≡ false
 small-untaken w h = rw (small-flag w 17 (omega arith), small-flag w 19 (omega arith))
 
--- a step arrives as far away as its direction says
-stepped-away : (d : CompassDir) (x y : ℕ) → stepped (cellAt x) d ≡ Cell (cellAt y) → Away d x y
-stepped-away d x y e = let a = stepped-cell (cellAt x) d (cellAt y) e in record { columns = omega arith; rows = omega arith }
-
-module _ (costs step cells corners built : List ℕ) (s : Sector costs (windowCells step) cells corners built) (on : isWindow step ≡ true) (side : boundaryByte step < 4)
-    (has : Bool) (previous : List ℕ) where
-  abbrev window : List ℕ
-  window = windowCells step
+module _ (costs window cells corners built : List ℕ) (s : Sector costs window cells corners built) (portal : PortalWindow) (has : Bool) (previous : List ℕ) where
+  abbrev target : Target
+  target = to-window window
 
   abbrev bytes : List ℕ
-  bytes = flowBuild built (flowNew step built has previous)
+  bytes = flowBuild built (newBytes portal window built has previous)
 
   -- ---- the byte of each kind of cell
 
   -- what building begins from
   abbrev newAt : ℕ → ℕ
-  newAt x = newByte (routeStep step) (getD built x 0) has previous x
+  newAt x = newByte portal window (getD built x 0) has previous x
 
   made : (x : ℕ) → x < 100 → getD bytes x 0 ≡ builtByte built x (newAt x)
-  made x h = built-byte built (flowNew step built has previous) x h ∙ ap (builtByte built x) (new-byte step built has previous x h)
+  made x h = built-byte built (newBytes portal window built has previous) x h ∙ ap (builtByte built x) (new-byte portal window built has previous x h)
 
-  no-bits : (x : ℕ) → (Among x window → ⊥) → inWindow (routeStep step) x ≡ false
-  unfolding inWindow
-  no-bits x a = rw on (go (isIn x window) refl)
+  no-bits : (x : ℕ) → (Among x window → ⊥) → isIn x window ≡ false
+  no-bits x a = go (isIn x window) refl
     where
       go : (b : Bool) → isIn x window ≡ b → b ≡ false
       go true e = absurd (a (in-among x window e))
       go false e = refl
 
-  bits : (x : ℕ) → Among x window → inWindow (routeStep step) x ≡ true
-  unfolding inWindow
-  bits x a = rw (on, is-in x window a)
-
   window-byte : (x : ℕ) → x < 100 → Among x window → getD built x 0 ≡ 0x80000 → Kept (getD bytes x 0)
   unfolding newByte startOf builtByte
   window-byte x h a e =
-      let b = windowBits (routeStep step .portal) has previous x in
-      let k = portal-kept b (window-bits step has previous x side) in
-      let n : newAt x ≡ bitOr 0x90 b = rw (e, bits x a) in
+      let b = windowBits portal has previous x in
+      let k = portal-kept b (window-bits portal has previous x) in
+      let n : newAt x ≡ bitOr 0x90 b = rw (e, is-in x window a) in
       rw (made x h, n, k .pathable) k
 
   wall-byte : (x : ℕ) → x < 100 → (Among x window → ⊥) → getD built x 0 ≡ 0x200FFFF → getD bytes x 0 ≡ 0xE0
@@ -107,10 +100,10 @@ module _ (costs step cells corners built : List ℕ) (s : Sector costs (windowCe
   -- ---- a move
 
   -- the walls of document 01 are walls of the built field
-  wall-at : (x : ℕ) → x < 100 → Wall costs step x → wallAt built x ≡ true
-  wall-at x h w = ap word.isImpassable (wall-word s x h (w .impassable) (λ a. w .not-window (on, among-mem x window a)))
+  wall-at : (x : ℕ) → x < 100 → Wall costs target x → wallAt built x ≡ true
+  wall-at x h w = ap word.isImpassable (wall-word s x h (w .impassable) (λ a. w .not-window (among-mem x window a)))
 
-  no-cut : (x n : ℕ) → x < 100 → n < 100 → betweenWalls built x n ≡ false → Cuts costs step x n → ⊥
+  no-cut : (x n : ℕ) → x < 100 → n < 100 → betweenWalls built x n ≡ false → Cuts costs target x n → ⊥
   unfolding betweenWalls
   no-cut x n h l e c =
       let r : wallAt built (x / 10 * 10 + n % 10) ≡ true = wall-at (x / 10 * 10 + n % 10) (omega arith) (c .wall-in-row) in
@@ -128,10 +121,14 @@ module _ (costs step cells corners built : List ℕ) (s : Sector costs (windowCe
   next-pointed : {x : ℕ} (n : Next x) → Pointed (n .way)
   next-pointed {x} n = pointed-is (n .way) (stepped-cell (cellAt x) (n .way) (cellAt (n .next)) (n .sees .steps) .pointing)
 
-  next-move : {x : ℕ} → x < 100 → (n : Next x) → Move costs step built bytes x (n .next)
+  next-arrow : {x : ℕ} (n : Next x) → arrow bytes x ≡ bitsOf (n .way)
+  next-arrow n = ap (λ (b : ℕ). b % 16) (n .byte) ∙ next-pointed n .arrow-is
+
+  next-move : {x : ℕ} → x < 100 → (n : Next x) → Move costs target built bytes x (n .next)
   next-move {x} h n = record {
-    goes = rw (n .byte, next-pointed n .arrow-is) (n .sees .steps);
-    away = rw (n .byte, next-pointed n .arrow-is) (stepped-away (n .way) x (n .next) (n .sees .steps));
+    away =
+        subst (λ (a : ℕ). Away a x (n .next)) (sym (next-arrow n))
+        (away (n .way) x (n .next) (stepped-cell (cellAt x) (n .way) (cellAt (n .next)) (n .sees .steps)));
     inside = near-in (n .sees .to);
     lower = omega (arith, n .lower);
     uncut = no-cut x (n .next) h (near-in (n .sees .to)) (n .sees .open-way);
@@ -174,18 +171,18 @@ module _ (costs step cells corners built : List ℕ) (s : Sector costs (windowCe
   -- ---- the arrows lead to the window
 
   abbrev Led : ℕ → Type 0
-  Led x = (n : ℕ) × (n ≤ rank s x) × Leads costs step built bytes n x
+  Led x = (n : ℕ) × (n ≤ rank s x) × Leads costs target built bytes n x
 
   lead : (r x : ℕ) → x < 100 → rank s x < r → value s x < 65535 → Led x
   lead zero x h l v = absurd (omega arith)
   lead (suc r) x h l v =
-      by-kind s x h (λ a e. (zero, omega arith, ends (on, among-mem x window a))) (λ c a e. absurd (omega (arith, ap low e)))
+      by-kind s x h (λ a e. (zero, omega arith, ends (among-mem x window a))) (λ c a e. absurd (omega (arith, ap low e)))
       (λ p q.
       let n = next-of x p q v in
       let to = near-in (n .sees .to) in
       let less = rank-less s x (n .next) to (n .lower) in
       let rest = lead r (n .next) to (omega arith) (omega (arith, n .lower)) in
-      (suc (rest .0), omega (arith, rest .1), moves (λ w. p .no-window (mem-among x window (w .1))) (next-move h n) (rest .2)))
+      (suc (rest .0), omega (arith, rest .1), moves (λ w. p .no-window (mem-among x window w)) (next-move h n) (rest .2)))
 
   -- ---- all of 0xE0
 
@@ -208,19 +205,19 @@ module _ (costs step cells corners built : List ℕ) (s : Sector costs (windowCe
       go (Taken t) q = absurd q
       go (Ended best) q = rw q
 
-  marked-cell : (x : ℕ) → x < 100 → isImpassable (getD bytes x 0) ≡ true → Wall costs step x ⊎ (Reached built x → ⊥)
+  marked-cell : (x : ℕ) → x < 100 → isImpassable (getD bytes x 0) ≡ true → Wall costs target x ⊎ (Reached built x → ⊥)
   marked-cell x h m =
       by-kind s x h (λ a e. absurd (true≢false (sym m ∙ window-byte x h a e .unmarked)))
-      (λ c a e. inl (record { impassable = c; not-goal = λ g. true≢false (sym on ∙ g .0); not-window = λ w. a (mem-among x window (w .1)) }))
+      (λ c a e. inl (record { impassable = c; not-goal = λ g. g; not-window = λ w. a (mem-among x window w) }))
       (λ p l. inr (λ r. (let n = next-of x p l (omega arith) in true≢false (sym m ∙ ap isImpassable (n .byte) ∙ next-pointed n .unmarked))))
 
-  cell-marked : (x : ℕ) → x < 100 → Wall costs step x ⊎ (Reached built x → ⊥) → isImpassable (getD bytes x 0) ≡ true
+  cell-marked : (x : ℕ) → x < 100 → Wall costs target x ⊎ (Reached built x → ⊥) → isImpassable (getD bytes x 0) ≡ true
   cell-marked x h (inl w) =
-      by-kind s x h (λ a e. absurd (w .not-window (on, among-mem x window a))) (λ c a e. ap isImpassable (wall-byte x h a e)) (λ p l. absurd (p .no-wall (w .impassable)))
+      by-kind s x h (λ a e. absurd (w .not-window (among-mem x window a))) (λ c a e. ap isImpassable (wall-byte x h a e)) (λ p l. absurd (p .no-wall (w .impassable)))
   cell-marked x h (inr u) =
       by-kind s x h (λ a e. absurd (u (omega (arith, ap low e)))) (λ c a e. ap isImpassable (wall-byte x h a e)) (λ p l. plain-unreached x p l (λ v. u (omega arith)))
 
-  sector-arrows : ArrowsLead costs step built bytes
+  sector-arrows : ArrowsLead costs target built bytes
   sector-arrows = record {
     leads = λ x h r.
         (let few = rank-few s x h in
@@ -231,41 +228,48 @@ module _ (costs step cells corners built : List ℕ) (s : Sector costs (windowCe
 
 -- ---- a sector left by a window
 
-module _ (costs step : List ℕ) (w : WindowSector costs step) where
+module _ (costs window : List ℕ) (w : WindowSector costs (to-window window)) where
   abbrev cells : List ℕ
-  cells = started costs step .field
+  cells = started costs (to-window window) .field
 
   abbrev corners : List ℕ
-  corners = listOf (started costs step)
+  corners = listOf (started costs (to-window window))
 
-  told : WindowStarted costs (windowCells step) cells corners
-  told = started-field costs (w .full) step (w .accepted) .of-window (w .by-window)
+  told : WindowStarted costs window cells corners
+  told = started-field costs (w .full) (to-window window) (w .target-in) .cells-are
 
   inside : (x : ℕ) → List·Memᴰ x corners → x < 100
   inside x m = let a = mem-among x corners m in omega (arith, told .corner-in (a .0) (a .1), a .2)
 
-  sector : Sector costs (windowCells step) cells corners (builtCells costs step)
+  sector : Sector costs window cells corners (builtCells costs (to-window window))
   sector = record { started = told; least = least-walks costs cells corners (told .full) inside; cost-from = λ x h. omega (arith, w .no-zero x h); cost-to = w .byte }
 
-  pub arrows-lead : (has : Bool) (previous : List ℕ)
-      → ArrowsLead costs step (builtCells costs step) (flowBuild (builtCells costs step) (flowNew step (builtCells costs step) has previous))
-  arrows-lead has previous =
-      sector-arrows costs step cells corners (builtCells costs step) sector (w .by-window) (accepted-window step (w .accepted) (w .by-window) .boundary-in) has previous
+pub arrows-lead : (costs : List ℕ) (target : Target) → WindowSector costs target → (portal : PortalWindow) (has : Bool) (previous : List ℕ)
+    → ArrowsLead costs target (builtCells costs target)
+    (flowBuild (builtCells costs target) (newBytes portal (windowOf target) (builtCells costs target) has previous))
+arrows-lead costs (to-goal goal) w portal has previous = absurd (true≢false (sym (w .by-window)))
+arrows-lead costs (to-window window) w portal has previous =
+    sector-arrows costs window (cells costs window w) (corners costs window w) (builtCells costs (to-window window)) (sector costs window w) portal has previous
 
 -- for a call that writes what building makes of a sheet of 100 bytes
 pub build-arrows : (cells entry exit : List ℕ) → (length entry ≡ 100 → exit ≡ flowBuild cells entry) → BuildArrows cells entry exit
 build-arrows cells entry exit writes = record {
   arrows = λ costs step has previous w c e.
-      (let made : exit ≡ flowBuild cells entry = writes (ap length e ∙ new-length step cells has previous) in rw (made, e, c) (arrows-lead costs step w has previous));
+      (let made : exit ≡ flowBuild cells entry = writes (ap length e ∙ new-length (portalOf step) (windowOf (targetOf step)) cells has previous) in
+      rw (made, e, c) (arrows-lead costs (targetOf step) w (portalOf step) has previous));
 }
 
 -- ---- following is determined
 
-pub leads-once : (costs step built bytes : List ℕ) {n m x : ℕ} → Leads costs step built bytes n x → Leads costs step built bytes m x → n ≡ m
-leads-once costs step built bytes (ends a) (ends b) = refl
-leads-once costs step built bytes (ends a) (moves o p q) = absurd (o a)
-leads-once costs step built bytes (moves o p q) (ends b) = absurd (o b)
-leads-once costs step built bytes (moves {y = y} o p q) (moves {y = z} u v w) =
-    let e : cellAt z ≡ cellAt y = cc (p .goes, v .goes) in
-    let c : z ≡ y = sym (index-of-cell z) ∙ ap indexOf e ∙ index-of-cell y in
-    ap suc (leads-once costs step built bytes q (rw c at w))
+module _ (costs : List ℕ) (target : Target) (built bytes : List ℕ) where
+  pub leads-once : {n m x : ℕ} → Leads costs target built bytes n x → Leads costs target built bytes m x → n ≡ m
+  leads-once (ends a) (ends b) = refl
+  leads-once (ends a) (moves o p q) = absurd (o a)
+  leads-once (moves o p q) (ends b) = absurd (o b)
+  leads-once {x = x} (moves {y = y} o p q) (moves {y = z} u v w) =
+      let c : z ≡ y = away-once (arrow bytes x) x z y (v .away) (p .away) in
+      ap suc (leads-once q (rw c at w))
+
+  -- a move goes where the direction that its byte reads as steps
+  pub move-read : {x y : ℕ} → Move costs target built bytes x y → stepped (cellAt x) (dirOf (getD bytes x 0)) ≡ Cell (cellAt y)
+  move-read {x = x} {y = y} m = reads-so (getD bytes x 0) x y (m .inside) (m .away)

@@ -2,4 +2,5 @@ pub mod Fall
 pub mod Around
 pub mod Look
 pub mod Bytes
+pub mod Moves
 pub mod Lead

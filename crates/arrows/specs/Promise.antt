@@ -5,26 +5,26 @@ use mathlib.Core.Bool.{Bool, true}
 use mathlib.Core.List.{List}
 use Prim.Native.Nat.{ℕ, _≤_, _<_}
 use lib.ListN.{length, getD}
-use Rattle.route.specs.Step.{isWindow, stepNumber}
+use Rattle.route.specs.Target.{Target, byWindow, TargetIn, targetOf}
 use Rattle.integration_field.specs.Build.{builtField}
 use Rattle.started_field.specs.Started.{started}
 use Rattle.flow_byte.specs.New.{flowNew}
 use Rattle.arrows.specs.Arrows.{ArrowsLead}
 
--- a sector left by a window, with no cost 0: 100 cost bytes from 1 on, and an accepted step with a window
-pub record WindowSector (costs step : List ℕ) : Type 0 where
+-- a sector left by a window, with no cost 0: 100 cost bytes from 1 on, and window cells inside the sector
+pub record WindowSector (costs : List ℕ) (target : Target) : Type 0 where
   pub full : length costs ≡ 100
   pub no-zero : (x : ℕ) → x < 100 → 1 ≤ getD costs x 0
   pub byte : (x : ℕ) → x < 100 → getD costs x 0 ≤ 255
-  pub accepted : stepNumber step ≡ 0
-  pub by-window : isWindow step ≡ true
+  pub target-in : TargetIn target
+  pub by-window : byWindow target ≡ true
 
 -- the cells of the built started field
-abbrev pub builtCells : List ℕ → List ℕ → List ℕ
-builtCells costs step = builtField costs (started costs step) .field
+abbrev pub builtCells : List ℕ → Target → List ℕ
+builtCells costs target = builtField costs (started costs target) .field
 
 -- `FlowField::build`, of the cells given, and the sheet at entry and at exit: where the cells are those of the built started field of a
--- step, and the sheet at entry is what `new` leaves for that step, the arrows of the sheet at exit lead
+-- step's target, and the sheet at entry is what `new` leaves for that step, the arrows of the sheet at exit lead
 pub record BuildArrows (cells entry exit : List ℕ) : Type 0 where
-  pub arrows : (costs step : List ℕ) (has : Bool) (previous : List ℕ) → WindowSector costs step → cells ≡ builtCells costs step
-      → entry ≡ flowNew step cells has previous → ArrowsLead costs step cells exit
+  pub arrows : (costs step : List ℕ) (has : Bool) (previous : List ℕ) → WindowSector costs (targetOf step) → cells ≡ builtCells costs (targetOf step)
+      → entry ≡ flowNew step cells has previous → ArrowsLead costs (targetOf step) cells exit

@@ -12,6 +12,8 @@ use Rattle.bresenham.specs.Table.{table}
 use Rattle.bresenham.specs.Line.{toward, nearest, shallow, steep, line}
 use Rattle.line_end.specs.LineEnd.{gradient, intercept, floor, rowAt, firstEnding, slantedEnd, endBy, lineEnd}
 use Rattle.route.specs.Window.{onEdge, edge, cellsBetween}
+use Rattle.route.specs.Step.{portalOf}
+use Rattle.route.specs.Target.{targetOf}
 use Rattle.integration_field.specs.Diagonal.{betweenWalls}
 use Rattle.integration_field.specs.Listed.{listOf}
 use Rattle.integration_field.specs.Wave.{relaxed, offeredAround, offeredBy, changedFrom, next}
@@ -21,7 +23,7 @@ use Rattle.started_field.specs.Sight.{walls, withPortals, withGoal, marked, lin
 use Rattle.started_field.specs.CornerLine.{cornerLine}
 use Rattle.started_field.specs.Started.{sightFrom, startedFrom, startedAt, started}
 use Rattle.flow_byte.specs.Byte.{isGoal, isPortalGoal, hasLineOfSight, isWall}
-use Rattle.flow_byte.specs.New.{startOf, facingBits, facingChoice, windowBits, inWindow, newByte, newBytes}
+use Rattle.flow_byte.specs.New.{startOf, facingBits, facingChoice, windowBits, newByte, newBytes}
 use Rattle.flow_byte.specs.Look as look
 use Rattle.flow_byte.specs.Look.{lookAround, pointed, builtByte, flowBuild}
 use Rattle.sector.specs.Sector.{sectorBytes}
@@ -57,24 +59,25 @@ abbrev words : List ℕ → List ℕ → List ℕ
 words cells is = map (λ (i : ℕ). getD cells i 0) is
 
 abbrev unbuilt : List ℕ → List ℕ → List ℕ → List ℕ
-unbuilt costs step is = words (started costs step .field) is
+unbuilt costs step is = words (started costs (targetOf step) .field) is
 
 abbrev built : List ℕ → List ℕ → List ℕ → List ℕ
 built costs step is =
-    let f = started costs step in
+    let f = started costs (targetOf step) in
     let b = build costs (f .field) (listOf f) in
     words (b .cells) is
 
 abbrev waves : List ℕ → List ℕ → List ℕ
-waves costs step = let f = started costs step in build costs (f .field) (listOf f) .waves ∷ []
+waves costs step = let f = started costs (targetOf step) in build costs (f .field) (listOf f) .waves ∷ []
 
 abbrev flow : List ℕ → List ℕ → List ℕ → List ℕ
-flow costs step is = words (sectorBytes costs step false []) is
+flow costs step is = words (sectorBytes costs (targetOf step) (portalOf step) false []) is
 
 -- the flow bytes of a North window 3 to 5, where the facing cells hold these
 abbrev facing : ℕ → ℕ → ℕ → List ℕ
 facing a b c =
-    let bytes = sectorBytes ones (window 3 5 0) true (set (set (set (replicate 100 0) 93 a) 94 b) 95 c) in
+    let step = window 3 5 0 in
+    let bytes = sectorBytes ones (targetOf step) (portalOf step) true (set (set (set (replicate 100 0) 93 a) 94 b) 95 c) in
     getD bytes 3 0 ∷ getD bytes 4 0 ∷ getD bytes 5 0 ∷ []
 
 -- what a byte reads as: goal, portal goal, in sight, wall
@@ -113,5 +116,5 @@ cases =
     ∷ []
 
 pub as-expected : map (λ (c : Case). c .given) cases ≡ map (λ (c : Case). c .expected) cases
-unfolding onEdge stepped table toward nearest shallow steep line gradient intercept floor rowAt firstEnding slantedEnd endBy lineEnd add sub mul div neg ofInt edge cellsBetween betweenWalls relaxed offeredAround offeredBy changedFrom next total isEmpty settle build walls withPortals withGoal marked lineMarked seen extended sideTried wallMet neighbourLooked lookedAround waveLooked sightAfter cornerLine sightFrom startedFrom startedAt started startOf facingBits facingChoice windowBits inWindow newByte newBytes look.seen lookAround pointed builtByte flowBuild sectorBytes
+unfolding onEdge stepped table toward nearest shallow steep line gradient intercept floor rowAt firstEnding slantedEnd endBy lineEnd add sub mul div neg ofInt edge cellsBetween targetOf betweenWalls relaxed offeredAround offeredBy changedFrom next total isEmpty settle build walls withPortals withGoal marked lineMarked seen extended sideTried wallMet neighbourLooked lookedAround waveLooked sightAfter cornerLine sightFrom startedFrom startedAt started startOf facingBits facingChoice windowBits newByte newBytes look.seen lookAround pointed builtByte flowBuild sectorBytes
 as-expected = refl

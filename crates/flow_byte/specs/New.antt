@@ -10,9 +10,9 @@ use Rattle.utilities.specs.declared.CompassDir.{CompassDir}
 use Rattle.utilities.specs.declared.CompassDir.the-variants.{North, West}
 use Rattle.utilities.specs.Compass.{opposite}
 use Rattle.route.specs.declared.PortalWindow.{PortalWindow}
-use Rattle.route.specs.declared.RouteStep.{RouteStep}
-use Rattle.route.specs.Window.{below, stride, facing, cellsBetween}
-use Rattle.route.specs.Step.{routeStep}
+use Rattle.route.specs.Window.{below, stride, facing}
+use Rattle.route.specs.Step.{portalOf}
+use Rattle.route.specs.Target.{windowOf, targetOf}
 use Rattle.integration_field.specs.Word.{low, isLos, isGoal, isPortal, isImpassable}
 use Rattle.flow_byte.specs.Byte.{bitsOf}
 
@@ -39,36 +39,34 @@ facingValue previous side i = low (getD previous (facing side i) 0)
 abbrev pub unlessEnd : Bool → ℕ → ℕ
 unlessEnd end value = cond end (2 ^ 16) value
 
--- The facing choice of window cell i: it sees the cell that faces it, and those that face its neighbours in the window.
+-- The facing choice of window cell i: it sees the cell that faces it, and those that face its neighbours in the step's window.
 unfoldable pub facingChoice : PortalWindow → List ℕ → ℕ → ℕ
-facingChoice window previous i =
-    let side = window .boundary in
+facingChoice portal previous i =
+    let side = portal .boundary in
     facingBits side
-    (unlessEnd (eqb i (window .start)) (facingValue previous side (i - stride side)))
+    (unlessEnd (eqb i (portal .start)) (facingValue previous side (i - stride side)))
     (facingValue previous side i)
-    (unlessEnd (eqb i (window .end)) (facingValue previous side (i + stride side)))
+    (unlessEnd (eqb i (portal .end)) (facingValue previous side (i + stride side)))
 
 -- The bits of window cell i: without a previous field, or with one window cell, the boundary's; else the facing choice.
 unfoldable pub windowBits : PortalWindow → Bool → List ℕ → ℕ → ℕ
-windowBits window has previous i =
-    cond (not has || eqb (window .start) (window .end)) (bitsOf (window .boundary)) (facingChoice window previous i)
+windowBits portal has previous i =
+    cond (not has || eqb (portal .start) (portal .end)) (bitsOf (portal .boundary)) (facingChoice portal previous i)
 
 -- a list has the number i
 abbrev pub isIn : ℕ → List ℕ → Bool
 isIn i [] = false
 isIn i (n ∷ ns) = eqb n i || isIn i ns
 
--- cell i is a window cell of the step
-unfoldable pub inWindow : RouteStep → ℕ → Bool
-inWindow step i = step .«has_portal» && isIn i (cellsBetween (step .portal .boundary) (step .portal .start) (step .portal .end))
+-- The first byte of cell i, whose 32 bits are x: all bits are or-ed on. `window` are the target's window cells; the bits of each go by the
+-- whole of the step's window, `portal`.
+unfoldable pub newByte : PortalWindow → List ℕ → ℕ → Bool → List ℕ → ℕ → ℕ
+newByte portal window x has previous i = bitOr (startOf x) (cond (isIn i window) (windowBits portal has previous i) 0)
 
--- the first byte of cell i, whose 32 bits are x: all bits are or-ed on
-unfoldable pub newByte : RouteStep → ℕ → Bool → List ℕ → ℕ → ℕ
-newByte step x has previous i = bitOr (startOf x) (cond (inWindow step i) (windowBits (step .portal) has previous i) 0)
+-- the 100 bytes of a new flow field for an integration field's cells; `has` says whether there is a previous field
+unfoldable pub newBytes : PortalWindow → List ℕ → List ℕ → Bool → List ℕ → List ℕ
+newBytes portal window cells has previous = map (λ i. newByte portal window (getD cells i 0) has previous i) (below 100)
 
-unfoldable pub newBytes : RouteStep → List ℕ → Bool → List ℕ → List ℕ
-newBytes step cells has previous = map (λ i. newByte step (getD cells i 0) has previous i) (below 100)
-
--- the 100 bytes of a new flow field, for a step's bytes and an integration field's cells; `has` says whether there is a previous field
+-- the same for a step
 abbrev pub flowNew : List ℕ → List ℕ → Bool → List ℕ → List ℕ
-flowNew step cells has previous = newBytes (routeStep step) cells has previous
+flowNew step cells has previous = newBytes (portalOf step) (windowOf (targetOf step)) cells has previous

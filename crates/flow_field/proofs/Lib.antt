@@ -1,4 +1,4 @@
 pub mod Looks
-pub mod Windows
 pub mod Sheets
+pub mod Starts
 pub mod Numbers

@@ -11,6 +11,7 @@ use flow_byte::Look;
 use integration_field::IntegrationField;
 use route::PortalWindow;
 use route::RouteStep;
+use route::WindowCells;
 use utilities::CompassDir;
 ghost use mathlib.Core.Path.{_≡_};
 ghost use mathlib.Core.Bool.{true, not, _&&_};
@@ -19,11 +20,12 @@ ghost use Prim.Native.Nat.{_-_, _<_};
 ghost use lib.Dec.{eqb, leb};
 ghost use lib.ListN.{length};
 ghost use Rattle.fields.specs.Cell.{Inside, indexOf};
-ghost use Rattle.route.specs.Window.{cellsBetween};
-ghost use Rattle.flow_byte.specs.New.{startOf, towardsLower, facingBits, facingValue, unlessEnd, facingChoice, windowBits, isIn, newByte, newBytes};
+ghost use Rattle.route.specs.Inner.{heldCells, WindowHeld};
+ghost use Rattle.flow_byte.specs.New.{startOf, towardsLower, facingBits, facingValue, unlessEnd, facingChoice, windowBits, newBytes};
 ghost use Rattle.flow_byte.specs.Look.{seen, lookAt, lookAlong, lookAround, pointed, lookedByte, builtByte, flowBuild};
 ghost use Rattle.arrows.specs.Promise.{BuildArrows};
 ghost use Rattle.flow_field.specs.Flow.{newNumber, newSheet, buildNumber, buildSheet};
+ghost use Rattle.flow_field.specs.Inner.{startBytes, withBits};
 
 // What an end cell of a window does not see: above every cost.
 const UNSEEN: u32 = 0x10000;
@@ -149,56 +151,55 @@ fn portal_direction(window: PortalWindow, has_previous: bool, previous: &[u32], 
     optimise_portal_direction(window, previous, index)
 }
 
-// Whether a cell is one of a window's.
-fn is_window_cell(window: PortalWindow, index: usize) -> bool
-    requires { ⌜ index < 100 ⌝ }
-    ensures { λ r. ⌜ r ≡ isIn index (cellsBetween (window .boundary) (window .start) (window .end)) ⌝ }
+// The flags that all cells start with.
+fn start_cells(cells: &[u32; 100], sheet: &mut [u8])
+    requires { ⌜ length (now sheet) ≡ 100 ⌝ }
+    ensures { λ _. ⌜ now (sheet .exit) ≡ startBytes (now (cells .entry)) ⌝ }
 {
-    let boundary = window.boundary;
-    let start = window.start;
-    let end = window.end;
-    if index < start {
-        return false;
+    let mut i = 0;
+    while i < 100 {
+        sheet[i] = starting_flags(cells[i]);
+        i += 1;
     }
-    if end < index {
-        return false;
-    }
-    route::on_edge(boundary, index)
 }
 
-// A cell's first byte: its flags, with a window cell's bits or-ed on.
-fn new_cell(step: RouteStep, cost: u32, has_previous: bool, previous: &[u32], index: usize) -> u8
-    requires { ⌜ («has_previous» ≡ true → length (now previous) ≡ 100) × (index < 100) ⌝ }
-    ensures { λ r. ⌜ r ≡ newByte step cost «has_previous» (now (previous .entry)) index ⌝ }
-{
-    let flags = starting_flags(cost);
-    let has_portal = step.has_portal;
-    let window = step.portal;
-    if !has_portal {
-        return flags;
-    }
-    if !is_window_cell(window, index) {
-        return flags;
-    }
-    flags | portal_direction(window, has_previous, previous, index)
-}
-
-// The first bytes of all cells.
-fn new_cells(
-    step: RouteStep,
-    cells: &[u32; 100],
+// The bits of the window cells, or-ed on one after the other.
+fn point_portals(
+    portal: PortalWindow,
+    window: WindowCells,
     has_previous: bool,
     previous: &[u32],
     sheet: &mut [u8],
 )
-    requires { ⌜ («has_previous» ≡ true → length (now previous) ≡ 100) × (length (now sheet) ≡ 100) ⌝ }
-    ensures { λ _. ⌜ now (sheet .exit) ≡ newBytes step (now (cells .entry)) «has_previous» (now (previous .entry)) ⌝ }
+    requires { ⌜ (WindowHeld window) × ((«has_previous» ≡ true → length (now previous) ≡ 100) × (length (now sheet) ≡ 100)) ⌝ }
+    ensures { λ _. ⌜ now (sheet .exit) ≡ withBits portal «has_previous» (now (previous .entry)) (heldCells window) (now (sheet .entry)) ⌝ }
 {
+    let listed = window.cells;
+    let count = window.count;
     let mut i = 0;
-    while i < 100 {
-        sheet[i] = new_cell(step, cells[i], has_previous, previous, i);
+    while i < count {
+        let n = listed[i];
+        let flags = sheet[n];
+        sheet[n] = flags | portal_direction(portal, has_previous, previous, n);
         i += 1;
     }
+}
+
+// The first bytes of all cells: their flags, and the window cells' bits, each by the whole of the step's window.
+pub fn new_cells(
+    portal: PortalWindow,
+    window: WindowCells,
+    field: IntegrationField,
+    has_previous: bool,
+    previous: &[u32],
+    sheet: &mut [u8],
+)
+    requires { ⌜ (WindowHeld window) × ((«has_previous» ≡ true → length (now previous) ≡ 100) × (length (now sheet) ≡ 100)) ⌝ }
+    ensures { λ _. ⌜ now (sheet .exit) ≡ newBytes portal (heldCells window) (field .field) «has_previous» (now (previous .entry)) ⌝ }
+{
+    let cells = field.field;
+    start_cells(&cells, sheet);
+    point_portals(portal, window, has_previous, previous, sheet);
 }
 
 // Whether a previous field is lent as other than 100 numbers.
@@ -233,8 +234,16 @@ pub fn new(
     if is_misfit(has_previous, previous) {
         return 12;
     }
-    let cells = field.field;
-    new_cells(RouteStep::new(step), &cells, has_previous, previous, sheet);
+    let route_step = RouteStep::new(step);
+    let target = route_step.as_target();
+    new_cells(
+        route_step.portal,
+        target.window,
+        field,
+        has_previous,
+        previous,
+        sheet,
+    );
     0
 }
 

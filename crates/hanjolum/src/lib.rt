@@ -11,6 +11,7 @@ ghost use Rattle.fields.specs.Cell.{cell};
 ghost use Rattle.bresenham.specs.Line.{lineCall, shallowCall, steepCall};
 ghost use Rattle.bresenham.specs.Nearest.{columnOf, rowOf, HoldsNearestLine, HoldsNearestWalk};
 ghost use Rattle.line_end.specs.LineEnd.{lineEndAnswer};
+ghost use Rattle.route.specs.Target.{targetOf};
 ghost use Rattle.integration_field.specs.Listed.{listOf};
 ghost use Rattle.integration_field.specs.Answer.{buildAnswer};
 ghost use Rattle.integration_field.specs.Promise.{LeastWalks, Counted};
@@ -35,7 +36,7 @@ pub extern "C" fn hanjolum_sector(
 ) -> BuildAnswer
     ensures answer { λ r. ⌜ r ≡ sectorAnswer (now (costs .entry)) (now (step .entry)) «has_previous» (now (previous .entry)) (now (sheet .entry)) ⌝ }
     ensures sheet { λ _. ⌜ now (sheet .exit) ≡ sectorSheet (now (costs .entry)) (now (step .entry)) «has_previous» (now (previous .entry)) (now (sheet .entry)) ⌝ }
-    ensures planned { λ r. ⌜ (r .number ≡ 0 → Planned (now (costs .entry)) (now (step .entry)) (r .field .field) (r .waves) (now (sheet .exit))) ⌝ }
+    ensures planned { λ r. ⌜ (r .number ≡ 0 → Planned (now (costs .entry)) (targetOf (now (step .entry))) (r .field .field) (r .waves) (now (sheet .exit))) ⌝ }
 {
     sector::plan_sector(costs, step, has_previous, previous, sheet)
 }
@@ -54,8 +55,8 @@ pub extern "C" fn hanjolum_leg(floor: &[u8], steps: &[u8], sheet: &mut [u8]) -> 
 #[no_mangle]
 pub extern "C" fn hanjolum_init(costs: &[u8], step: &[u8]) -> InitAnswer
     ensures answer { λ r. ⌜ r ≡ initAnswer (now (costs .entry)) (now (step .entry)) ⌝ }
-    ensures started { λ r. ⌜ (r .number ≡ 0 → StartedField (now (costs .entry)) (now (step .entry)) (r .field)) ⌝ }
-    ensures built { λ r. ⌜ (r .number ≡ 0 → OnceBuilt (now (costs .entry)) (now (step .entry)) (r .field)) ⌝ }
+    ensures started { λ r. ⌜ (r .number ≡ 0 → StartedField (now (costs .entry)) (targetOf (now (step .entry))) (r .field)) ⌝ }
+    ensures built { λ r. ⌜ (r .number ≡ 0 → OnceBuilt (now (costs .entry)) (targetOf (now (step .entry))) (r .field)) ⌝ }
 {
     integration_init::init(costs, step)
 }

@@ -8,6 +8,7 @@ use Prim.Native.Nat.{ℕ}
 use lib.ListN.{length}
 use borrow.Author.Tests.{eq-eqb, ne-eqb}
 use Rattle.route.specs.Step.{stepNumber}
+use Rattle.route.specs.Target.{targetOf}
 use Rattle.started_field.specs.declared.InitAnswer.{InitAnswer}
 use Rattle.started_field.specs.Started.{started, initNumber, initRefused, initAccepted, initAnswer, StartedField}
 use Rattle.started_field.proofs.Started.{answer-told}
@@ -24,10 +25,10 @@ module _ (costs step : List ℕ) where
     unfolding initAnswer initNumber
     step-refused h = rw (eq-eqb (length costs) 100 hundred, ne-eqb (stepNumber step) 0 h)
 
-    pub accepts : stepNumber step ≡ 0 → initAccepted (started costs step) ≡ initAnswer costs step
+    pub accepts : stepNumber step ≡ 0 → initAccepted (started costs (targetOf step)) ≡ initAnswer costs step
     unfolding initAnswer initNumber
     accepts e = rw (eq-eqb (length costs) 100 hundred, e)
 
   pub promised : (r : InitAnswer) → r ≡ initAnswer costs step
-      → (r ≡ initAnswer costs step) × ((r .number ≡ 0 → StartedField costs step (r .field)) × (r .number ≡ 0 → OnceBuilt costs step (r .field)))
+      → (r ≡ initAnswer costs step) × ((r .number ≡ 0 → StartedField costs (targetOf step) (r .field)) × (r .number ≡ 0 → OnceBuilt costs (targetOf step) (r .field)))
   promised r e = (e, (answer-told costs step r e, once-built costs step r e))

@@ -1,22 +1,18 @@
 -- What sight starts with.
 --     wall-step, wall-end            walls, cell by cell
 --     portal-step .. portal-started  a window's cells, marked and listed one after another
---     window-held, window-list       an accepted step's window, in an array
 --     goal-ready .. goal-wavefront   the goal and the first wave
 -- Assumes nothing.
-use mathlib.Core.Path.{_≡_, refl, sym, ap, ap₂, subst, _∙_}
+use mathlib.Core.Path.{_≡_, refl, sym, ap, ap₂, _∙_}
 use mathlib.Core.List.{List, [], _∷_, _++_}
 use Prim.Native.Nat.{ℕ, zero, suc, _+_, _<_}
 use native.Mathlib.Numerals.{add-one}
 use native.Mathlib.Omega.{arith}
-use lib.ListN.{length, getD, set, take, replicate, List·getD-map, List·getD-append}
-use lib.Seq.{slice, slice-cons, slice-empty, take-suc, take-suc-set, take-all, length-take-le, take-append-seam}
-use Rattle.utilities.proofs.Padded.{padded-length}
+use lib.ListN.{length, getD, set, take, replicate, List·getD-map}
+use lib.Seq.{slice, slice-cons, slice-empty, take-suc, take-suc-set, take-all, length-take-le}
 use Rattle.route.specs.declared.WindowCells.{WindowCells}
-use Rattle.route.specs.Window.{listed}
-use Rattle.route.specs.Step.{windowCells}
-use Rattle.route.proofs.Accepted as accepted
-use Rattle.route.proofs.Windows.{window-few, window-at}
+use Rattle.route.specs.Inner.{heldCells, WindowHeld}
+use Rattle.route.proofs.Targets.{held-length}
 use Rattle.integration_field.specs.Listed.{padded, Indexes}
 use Rattle.integration_field.proofs.Lists.{padded-push}
 use Rattle.started_field.specs.Sight.{wallOr, walls, withPortals, withGoal, sightAfter}
@@ -39,7 +35,13 @@ module _ (costs cells : List ℕ) (hundred : length costs ≡ 100) (full : lengt
   pub wall-end : take 100 cells ≡ take 100 (walls costs) → cells ≡ walls costs
   wall-end t = sym (take-all 100 cells (omega arith)) ∙ t ∙ take-all 100 (walls costs) (omega (arith, walls-length costs))
 
-module _ (window : List ℕ) (count : ℕ) (w : Indexes 10 window count) where
+module _ (held : WindowCells) (w : WindowHeld held) where
+  abbrev window : List ℕ
+  window = held .cells
+
+  abbrev count : ℕ
+  count = held .count
+
   pub portal-step : (i : ℕ) (cells : List ℕ) → i < count → withPortals (slice i count window) cells ≡ withPortals (slice (i + 1) count window) (set cells (getD window i 0) 0x80000)
   unfolding withPortals
   portal-step i cells h =
@@ -57,25 +59,13 @@ module _ (window : List ℕ) (count : ℕ) (w : Indexes 10 window count) where
       ∙ padded-push (take i window) (getD window i 0) (omega (arith, w .count-in))
       ∙ ap padded (sym (take-suc window i 0 (omega (arith, w .full, w .count-in))) ∙ ap (λ (k : ℕ). take k window) (sym (add-one i)))
 
-  pub portal-started : (costs cells corners : List ℕ) → cells ≡ withPortals (take count window) (walls costs) → corners ≡ padded (take count window)
-      → record { field = cells; «los_corners» = corners; count = count } ≡ startedAt costs (take count window)
+  pub portal-started : (costs cells corners : List ℕ) → cells ≡ withPortals (heldCells held) (walls costs) → corners ≡ padded (heldCells held)
+      → record { field = cells; «los_corners» = corners; count = count } ≡ startedAt costs (heldCells held)
   unfolding startedAt
   portal-started costs cells corners e f =
-      let l = take count window in
-      let long : length l ≡ count = length-take-le count window (omega (arith, w .full, w .count-in)) in
+      let l = heldCells held in
       ap₂ (λ (x y : List ℕ). record { field = x; «los_corners» = y; count = count }) e f
-      ∙ ap (λ (n : ℕ). record { field = withPortals l (walls costs); «los_corners» = padded l; count = n }) (sym long)
-
-module _ (step : List ℕ) (w : accepted.Window step) (cells : WindowCells) (e : cells ≡ listed (windowCells step)) where
-  pub window-held : Indexes 10 (cells .cells) (cells .count)
-  window-held = rw e (record {
-    full = padded-length 10 0 (windowCells step) (window-few step w);
-    count-in = window-few step w;
-    cells-in = λ i h. subst (λ (n : ℕ). n < 100) (sym (List·getD-append (windowCells step) _ 0 i h)) (window-at step w i h .below);
-  })
-
-  pub window-list : take (cells .count) (cells .cells) ≡ windowCells step
-  window-list = rw e (take-append-seam (windowCells step) _)
+      ∙ ap (λ (n : ℕ). record { field = withPortals l (walls costs); «los_corners» = padded l; count = n }) (sym (held-length held w))
 
 module _ (costs : List ℕ) (hundred : length costs ≡ 100) (goal : ℕ) (inside : goal < 100) where
   pub goal-ready : (cells : List ℕ) → cells ≡ set (walls costs) goal 0x20000 → Ready cells (replicate 100 0) 0

@@ -10,6 +10,7 @@ use integration_field::INT_BITS_PORTAL;
 use integration_field::INT_BITS_WAVE_BLOCKED;
 use integration_field::IntegrationField;
 use route::RouteStep;
+use route::Target;
 use route::WindowCells;
 use started_field::InitAnswer;
 use utilities::CompassDir;
@@ -20,7 +21,8 @@ ghost use lib.ListN.{length, take};
 ghost use Rattle.utilities.specs.Compass.{orthogonal};
 ghost use Rattle.fields.specs.Cell.{cellAt, indexOf, stepped};
 ghost use Rattle.integration_field.specs.Listed.{padded, Indexes};
-ghost use Rattle.route.specs.Step.{stepNumber};
+ghost use Rattle.route.specs.Target.{targetOf};
+ghost use Rattle.route.specs.Inner.{heldCells, heldTarget, WindowHeld, TargetHeld};
 ghost use Rattle.started_field.specs.Started.{startedAt, startedFrom, started, initRefused, initAnswer, StartedField};
 ghost use Rattle.started_field.specs.CornerLine.{cornerLine};
 ghost use Rattle.started_field.specs.Sight.{wallOr, walls, withPortals, marked, stopped, lineMarked, extended, unlessWall, firstSide, sideTried, wallMet, neighbourLooked, looked, lookedAround, waveLooked, sightAfter};
@@ -400,8 +402,8 @@ fn mark_walls(costs: &[u8], cells: &mut [u32; 100])
 
 // Marks the cells of a window as portals, and lists them as corners in order.
 fn mark_portals(cells: &mut [u32; 100], corners: &mut [usize; 100], window: WindowCells)
-    requires { ⌜ (Indexes 10 (window .cells) (window .count)) × (now corners ≡ padded []) ⌝ }
-    ensures { λ _. ⌜ (now (cells .exit) ≡ withPortals (take (window .count) (window .cells)) (now (cells .entry))) × (now (corners .exit) ≡ padded (take (window .count) (window .cells))) ⌝ }
+    requires { ⌜ (WindowHeld window) × (now corners ≡ padded []) ⌝ }
+    ensures { λ _. ⌜ (now (cells .exit) ≡ withPortals (heldCells window) (now (cells .entry))) × (now (corners .exit) ≡ padded (heldCells window)) ⌝ }
 {
     let listed = window.cells;
     let count = window.count;
@@ -414,10 +416,10 @@ fn mark_portals(cells: &mut [u32; 100], corners: &mut [usize; 100], window: Wind
     }
 }
 
-// The field that starts at a window.
-fn start_at(costs: &[u8], window: WindowCells) -> IntegrationField
-    requires { ⌜ (length (now costs) ≡ 100) × (Indexes 10 (window .cells) (window .count)) ⌝ }
-    ensures { λ r. ⌜ r ≡ startedAt (now (costs .entry)) (take (window .count) (window .cells)) ⌝ }
+// The field that starts at window cells, which need not lie side by side.
+pub fn start_at(costs: &[u8], window: WindowCells) -> IntegrationField
+    requires { ⌜ (length (now costs) ≡ 100) × (WindowHeld window) ⌝ }
+    ensures { λ r. ⌜ r ≡ startedAt (now (costs .entry)) (heldCells window) ⌝ }
 {
     let mut cells: [u32; 100] = [65535; 100];
     mark_walls(costs, &mut cells);
@@ -449,19 +451,16 @@ fn start_from(costs: &[u8], goal: usize) -> IntegrationField
     }
 }
 
-// The field that an accepted step starts.
-fn start(costs: &[u8], step: &[u8]) -> IntegrationField
-    requires { ⌜ (length (now costs) ≡ 100) × (stepNumber (now step) ≡ 0) ⌝ }
-    ensures { λ r. ⌜ r ≡ started (now (costs .entry)) (now (step .entry)) ⌝ }
+// The field that a target starts.
+pub fn start(costs: &[u8], target: Target) -> IntegrationField
+    requires { ⌜ (length (now costs) ≡ 100) × (TargetHeld target) ⌝ }
+    ensures { λ r. ⌜ r ≡ started (now (costs .entry)) (heldTarget target) ⌝ }
 {
-    let route_step = RouteStep::new(step);
-    let has_portal = route_step.has_portal;
-    if has_portal {
-        let portal = route_step.portal;
-        return start_at(costs, portal.get_all_window_cells());
+    let has_window = target.has_window;
+    if has_window {
+        return start_at(costs, target.window);
     }
-    let goal = route_step.goal;
-    start_from(costs, goal)
+    start_from(costs, target.goal)
 }
 
 // A refused answer: its number, and every other part zero.
@@ -477,8 +476,8 @@ fn refused(number: u8) -> InitAnswer
 // Starts a field on 100 cost bytes for a step of 8 bytes, or answers why not: 1, 3, or 4 to 8.
 pub fn init(costs: &[u8], step: &[u8]) -> InitAnswer
     ensures answer { λ r. ⌜ r ≡ initAnswer (now (costs .entry)) (now (step .entry)) ⌝ }
-    ensures started { λ r. ⌜ (r .number ≡ 0 → StartedField (now (costs .entry)) (now (step .entry)) (r .field)) ⌝ }
-    ensures built { λ r. ⌜ (r .number ≡ 0 → OnceBuilt (now (costs .entry)) (now (step .entry)) (r .field)) ⌝ }
+    ensures started { λ r. ⌜ (r .number ≡ 0 → StartedField (now (costs .entry)) (targetOf (now (step .entry))) (r .field)) ⌝ }
+    ensures built { λ r. ⌜ (r .number ≡ 0 → OnceBuilt (now (costs .entry)) (targetOf (now (step .entry))) (r .field)) ⌝ }
 {
     if costs.len() != 100 {
         return refused(1);
@@ -487,6 +486,7 @@ pub fn init(costs: &[u8], step: &[u8]) -> InitAnswer
     if number != 0 {
         return refused(number);
     }
-    let field = start(costs, step);
+    let target = RouteStep::new(step).as_target();
+    let field = start(costs, target);
     InitAnswer { number, field }
 }

@@ -1,31 +1,28 @@
 -- What a started cell is, as far as walks go.
 --     goal-ground, window-ground    of a field started with a goal, and with a window
 -- Assumes nothing.
-use mathlib.Core.Path.{_≡_, sym, _∙_}
-use mathlib.Core.Bool.{true, false, true≢false}
+use mathlib.Core.Path.{_≡_}
 use mathlib.Core.Logic.{_⊎_, inl, inr, ⊎-elim}
 use mathlib.Core.List.{List, [], _∷_, List·Memᴰ, List·Memᴰ·head, List·Memᴰ·tail, List·Memᴰ·cases-cons, List·Memᴰ·not-nil}
-use Prim.Native.Nat.{ℕ, zero, suc, _<_}
+use Prim.Native.Nat.{ℕ, _<_}
 use native.Mathlib.Omega.{arith}
 use native.Mathlib.Decide.{decLt, ℕ-discrete}
 use lib.ListN.{getD, length, List·getD-eq-default}
-use Rattle.route.specs.Step.{isWindow, goalOf, windowCells}
+use Rattle.route.specs.Target.{to-goal, to-window, GoalCell}
+use Rattle.route.proofs.Targets.{at-place, place-of}
 use Rattle.integration_field.specs.Word.{low}
 use Rattle.started_field.specs.StartedCell.{Among, SightCell, in-sight, corner, unseen, GoalStarted, WindowStarted}
 use Rattle.started_field.proofs.Words.{corner-flags, seen-flags}
-use Rattle.least_walks.specs.Walks.{GoalCell, WindowCell, Wall, Enterable}
+use Rattle.least_walks.specs.Walks.{Wall, Enterable}
 use Rattle.least_walks.proofs.Started.{Ground}
 
 -- ---- a list has an entry, by its place and by membership
 
 pub among-mem : (x : ℕ) (l : List ℕ) → Among x l → List·Memᴰ x l
-among-mem x [] (i, h, e) = absurd (omega arith)
-among-mem x (y ∷ l) (zero, h, e) = List·Memᴰ·head (sym e)
-among-mem x (y ∷ l) (suc i, h, e) = List·Memᴰ·tail (among-mem x l (i, omega arith, e))
+among-mem x l a = at-place l (a .0) x (a .1) (a .2)
 
 pub mem-among : (x : ℕ) (l : List ℕ) → List·Memᴰ x l → Among x l
-mem-among x l (List·Memᴰ·head e) = (0, omega arith, sym e)
-mem-among x l (List·Memᴰ·tail {xs = ys} m) = let r = mem-among x ys m in (suc (r .0), omega (arith, r .1), r .2)
+mem-among x l m = place-of l x m
 
 pub is-mem : (x : ℕ) (l : List ℕ) → Dec (List·Memᴰ x l)
 is-mem x [] = no List·Memᴰ·not-nil
@@ -40,48 +37,56 @@ is-mem x (y ∷ l) = go (ℕ-discrete x y) (is-mem x l)
 cost-inside : (costs : List ℕ) (x : ℕ) → length costs ≡ 100 → getD costs x 0 ≡ 255 → x < 100
 cost-inside costs x n e = elim (decLt x 100) [ yes h ↦ h | no h ↦ absurd (omega (arith, List·getD-eq-default costs 0 {n = x} (omega arith))) ]
 
-module _ (costs step : List ℕ) (full : length costs ≡ 100) (cells corners : List ℕ) where
-  module _ (goal-step : isWindow step ≡ false) (g : GoalStarted costs (goalOf step) cells corners) where
-    wall-word : (x : ℕ) → Wall costs step x → getD cells x 0 ≡ 0x200FFFF
-    wall-word x w = g .wall-cell x (cost-inside costs x full (w .impassable)) (w .impassable) (λ e. w .not-goal (goal-step, e))
+module _ (costs : List ℕ) (full : length costs ≡ 100) (cells corners : List ℕ) where
+  module _ (goal : ℕ) (g : GoalStarted costs goal cells corners) where
+    abbrev GoalWall : ℕ → Type 0
+    GoalWall = Wall costs (to-goal goal)
 
-    not-dear : (x : ℕ) → Enterable costs cells corners (Wall costs step) (GoalCell step) x → getD costs x 0 ≡ 255 → ⊥
-    not-dear x o e = o .no-wall (record { impassable = e; not-goal = o .no-goal; not-window = λ w. true≢false (sym (w .0) ∙ goal-step) })
+    abbrev IsGoal : ℕ → Type 0
+    IsGoal = GoalCell (to-goal goal)
 
-    pub goal-ground : Ground costs cells corners (Wall costs step) (GoalCell step)
+    wall-word : (x : ℕ) → GoalWall x → getD cells x 0 ≡ 0x200FFFF
+    wall-word x w = g .wall-cell x (cost-inside costs x full (w .impassable)) (w .impassable) (w .not-goal)
+
+    not-dear : (x : ℕ) → Enterable costs cells corners GoalWall IsGoal x → getD costs x 0 ≡ 255 → ⊥
+    not-dear x o e = o .no-wall (record { impassable = e; not-goal = o .no-goal; not-window = λ m. absurd (List·Memᴰ·not-nil m) })
+
+    pub goal-ground : Ground costs cells corners GoalWall IsGoal
     goal-ground = record {
       wall-flag = λ x w. rw (wall-word x w);
-      flag-wall = λ x h e. (let w = g .wall-only x h e in record { impassable = w .0; not-goal = λ q. w .1 (q .1); not-window = λ q. true≢false (sym (q .0) ∙ goal-step) });
-      goal-zero = λ x q. rw (q .1, g .goal-stays .goal-cell);
-      listed-or-unset = λ x o. go x o (g .other-cell x (o .inside) (not-dear x o) (λ e. o .no-goal (goal-step, e)));
+      flag-wall = λ x h e. (let w = g .wall-only x h e in record { impassable = w .0; not-goal = w .1; not-window = λ m. absurd (List·Memᴰ·not-nil m) });
+      goal-zero = λ x q. rw (q, g .goal-stays .goal-cell);
+      listed-or-unset = λ x o. go x o (g .other-cell x (o .inside) (not-dear x o) (o .no-goal));
     }
       where
-        go : (x : ℕ) → Enterable costs cells corners (Wall costs step) (GoalCell step) x → SightCell (getD cells x 0) → List·Memᴰ x corners ⊎ (low (getD cells x 0) ≡ 65535)
+        go : (x : ℕ) → Enterable costs cells corners GoalWall IsGoal x → SightCell (getD cells x 0) → List·Memᴰ x corners ⊎ (low (getD cells x 0) ≡ 65535)
         go x o (in-sight v p q e) = absurd (o .not-in-sight (rw e (seen-flags v (omega arith) .los-is)))
         go x o (corner v q e) = inl (among-mem x corners (g .blocked-listed x (o .inside) (rw e (corner-flags v (omega arith) .blocked-is))))
         go x o (unseen e) = inr (rw e)
 
-  module _ (window-step : isWindow step ≡ true) (g : WindowStarted costs (windowCells step) cells corners) where
-    no-window : (x : ℕ) → (WindowCell step x → ⊥) → Among x (windowCells step) → ⊥
-    no-window x h a = h (window-step, among-mem x (windowCells step) a)
+  module _ (window : List ℕ) (g : WindowStarted costs window cells corners) where
+    abbrev WindowWall : ℕ → Type 0
+    WindowWall = Wall costs (to-window window)
 
-    pub window-ground : Ground costs cells corners (Wall costs step) (GoalCell step)
+    abbrev NoGoal : ℕ → Type 0
+    NoGoal = GoalCell (to-window window)
+
+    no-window : (x : ℕ) → (List·Memᴰ x window → ⊥) → Among x window → ⊥
+    no-window x h a = h (among-mem x window a)
+
+    pub window-ground : Ground costs cells corners WindowWall NoGoal
     window-ground = record {
       wall-flag = λ x w. rw (g .wall-cell x (cost-inside costs x full (w .impassable)) (w .impassable) (no-window x (w .not-window)));
       flag-wall = λ x h e. (let w = g .wall-only x h e in record {
         impassable = w .0;
-        not-goal = λ q. true≢false (sym window-step ∙ q .0);
-        not-window = λ q. w .1 (mem-among x (windowCells step) (q .1));
+        not-goal = λ q. q;
+        not-window = λ q. absurd (w .1 (mem-among x window q));
       });
-      goal-zero = λ x q. absurd (true≢false (sym window-step ∙ q .0));
-      listed-or-unset = λ x o. go x o (is-mem x (windowCells step));
+      goal-zero = λ x q. absurd q;
+      listed-or-unset = λ x o. go x o (is-mem x window);
     }
       where
-        go : (x : ℕ) → Enterable costs cells corners (Wall costs step) (GoalCell step) x → Dec (List·Memᴰ x (windowCells step)) → List·Memᴰ x corners ⊎ (low (getD cells x 0) ≡ 65535)
+        go : (x : ℕ) → Enterable costs cells corners WindowWall NoGoal x → Dec (List·Memᴰ x window) → List·Memᴰ x corners ⊎ (low (getD cells x 0) ≡ 65535)
         go x o (yes m) = inl (rw (g .list) m)
         go x o (no n) =
-            inr (rw (g .other-cell x (o .inside) (λ e. o .no-wall (record {
-              impassable = e;
-              not-goal = o .no-goal;
-              not-window = λ q. n (q .1);
-            })) (λ a. n (among-mem x (windowCells step) a))))
+            inr (rw (g .other-cell x (o .inside) (λ e. o .no-wall (record { impassable = e; not-goal = o .no-goal; not-window = λ m. absurd (n m) })) (no-window x n)))

@@ -1,17 +1,18 @@
--- Demand 3 for every accepted step, of the started field as it is defined.
---     accepts-started    the started field of an accepted step is one that `build` takes
+-- Demand 3 for every target inside the sector, of the started field as it is defined.
+--     accepts-started    the started field is one that `build` takes
 --     demand3            least walks, and the exact count
---     once-built         the same of what `init` answers
---     builds-started     the same of what `build` answers
+--     built, builds      what `build` answers for it, and the same of that answer
+--     builds-started     as it is promised of `build`
+--     once-built         as it is promised of `init`
 -- Assumes nothing.
 use mathlib.Core.Path.{_≡_, refl, subst, _∙_}
-use mathlib.Core.Bool.{Bool, true, false}
+use mathlib.Core.Bool.{true}
 use mathlib.Core.List.{List, [], _∷_, List·Memᴰ}
 use Prim.Native.Nat.{ℕ, zero, suc, _<_}
 use native.Mathlib.Omega.{arith}
 use lib.ListN.{getD, length}
 use borrow.Author.Tests.{lt-ltb}
-use Rattle.route.specs.Step.{isWindow, stepNumber}
+use Rattle.route.specs.Target.{Target, to-goal, to-window, GoalCell, TargetIn, targetOf}
 use Rattle.integration_field.specs.Listed.{listOf}
 use Rattle.integration_field.specs.declared.IntegrationField.{IntegrationField}
 use Rattle.integration_field.specs.declared.BuildAnswer.{BuildAnswer}
@@ -20,9 +21,9 @@ use Rattle.integration_field.specs.Answer.{answerOf, allCells, Accepted, buildA
 use Rattle.integration_field.proofs.Answers.{number-accepted}
 use Rattle.started_field.specs.declared.InitAnswer.{InitAnswer}
 use Rattle.integration_field.proofs.Least.{least-walks, waves-counted}
-use Rattle.started_field.specs.Started.{started, StartedField, initNumber, initAnswer}
-use Rattle.started_field.proofs.Started.{started-field, accepted, answered}
-use Rattle.least_walks.specs.Walks.{GoalCell, Wall}
+use Rattle.started_field.specs.Started.{started, StartedCells, StartedField, initAnswer}
+use Rattle.started_field.proofs.Started.{started-field, accepted-target, answered}
+use Rattle.least_walks.specs.Walks.{Wall}
 use Rattle.least_walks.specs.Promise.{Demand3, OnceBuilt, BuildsStarted}
 use Rattle.least_walks.proofs.Started.{Ground, started-least}
 use Rattle.least_walks.proofs.Ground.{mem-among, goal-ground, window-ground}
@@ -32,60 +33,61 @@ unfolding allCells
 all-below [] h = refl
 all-below (x ∷ xs) h = rw (lt-ltb x 100 (h zero (omega arith))) (all-below xs (λ i g. h (suc i) (omega arith)))
 
-module _ (costs step : List ℕ) (full : length costs ≡ 100) (good : stepNumber step ≡ 0) where
+-- what a started field's cells and corners are, by the kind of the target
+module _ (costs : List ℕ) (full : length costs ≡ 100) (cells corners : List ℕ) where
+  long : (target : Target) → StartedCells costs target cells corners → length cells ≡ 100
+  long (to-goal goal) s = s .full
+  long (to-window window) s = s .full
+
+  within : (target : Target) → StartedCells costs target cells corners → (i : ℕ) → i < length corners → getD corners i 0 < 100
+  within (to-goal goal) s = s .corner-in
+  within (to-window window) s = s .corner-in
+
+  ground : (target : Target) → StartedCells costs target cells corners → Ground costs cells corners (Wall costs target) (GoalCell target)
+  ground (to-goal goal) s = goal-ground costs full cells corners goal s
+  ground (to-window window) s = window-ground costs full cells corners window s
+
+module _ (costs : List ℕ) (target : Target) (full : length costs ≡ 100) (target-in : TargetIn target) where
   abbrev cells : List ℕ
-  cells = started costs step .field
+  cells = started costs target .field
 
   abbrev corners : List ℕ
-  corners = listOf (started costs step)
+  corners = listOf (started costs target)
 
-  told : StartedField costs step (started costs step)
-  told = started-field costs full step good
+  told : StartedField costs target (started costs target)
+  told = started-field costs full target target-in
 
-  -- by the kind of the step
-  abbrev Kind : Bool → Type 0
-  Kind b = isWindow step ≡ b
-
-  long : (b : Bool) → Kind b → length cells ≡ 100
-  long true e = told .of-window e .full
-  long false e = told .of-goal e .full
-
-  within : (b : Bool) → Kind b → (i : ℕ) → i < length corners → getD corners i 0 < 100
-  within true e = told .of-window e .corner-in
-  within false e = told .of-goal e .corner-in
-
-  ground : (b : Bool) → Kind b → Ground costs cells corners (Wall costs step) (GoalCell step)
-  ground true e = window-ground costs step full cells corners e (told .of-window e)
-  ground false e = goal-ground costs step full cells corners e (told .of-goal e)
+  below : (i : ℕ) → i < length corners → getD corners i 0 < 100
+  below = within costs full cells corners target (told .cells-are)
 
   inside : (x : ℕ) → List·Memᴰ x corners → x < 100
-  inside x m = let a = mem-among x corners m in subst (λ (n : ℕ). n < 100) (a .2) (within (isWindow step) refl (a .0) (a .1))
+  inside x m = let a = mem-among x corners m in subst (λ (n : ℕ). n < 100) (a .2) (below (a .0) (a .1))
 
-  pub accepts-started : Accepted costs (started costs step)
-  accepts-started = record { costs-hundred = full; count-in = told .list-fits; corners-in = all-below corners (within (isWindow step) refl) }
+  pub accepts-started : Accepted costs (started costs target)
+  accepts-started = record { costs-hundred = full; count-in = told .list-fits; corners-in = all-below corners below }
 
-  pub demand3 : Demand3 costs step (build costs cells corners .cells) (build costs cells corners .waves)
+  pub demand3 : Demand3 costs target (build costs cells corners .cells) (build costs cells corners .waves)
   demand3 =
-      let n = long (isWindow step) refl in
+      let n = long costs full cells corners target (told .cells-are) in
       record {
-        least = started-least costs cells corners (Wall costs step) (GoalCell step) (ground (isWindow step) refl)
+        least = started-least costs cells corners (Wall costs target) (GoalCell target) (ground costs full cells corners target (told .cells-are))
             (build costs cells corners .cells) (least-walks costs cells corners n inside);
         counted = waves-counted costs cells corners n inside;
       }
 
-module _ (costs step : List ℕ) (good : initNumber costs step ≡ 0) where
-  -- the field of an accepted step, built by `build`
-  built : (f : IntegrationField) → f ≡ started costs step → buildAnswer costs f ≡ answerOf 0 costs (started costs step)
-  built f e =
-      let a = accepted costs step good in
-      rw (e, number-accepted costs (started costs step) (accepts-started costs step (a .0) (a .1)))
+  -- built by `build`
+  pub built : (f : IntegrationField) → f ≡ started costs target → buildAnswer costs f ≡ answerOf 0 costs (started costs target)
+  built f e = rw (e, number-accepted costs (started costs target) accepts-started)
 
-  pub builds : (f : IntegrationField) (r : BuildAnswer) → r ≡ buildAnswer costs f → f ≡ started costs step
-      → (r .number ≡ 0) × Demand3 costs step (r .field .field) (r .waves)
-  builds f r e q = let a = accepted costs step good in rw (e ∙ built f q) (refl, demand3 costs step (a .0) (a .1))
+  pub builds : (f : IntegrationField) (r : BuildAnswer) → r ≡ buildAnswer costs f → f ≡ started costs target
+      → (r .number ≡ 0) × Demand3 costs target (r .field .field) (r .waves)
+  builds f r e q = rw (e ∙ built f q) (refl, demand3)
 
 pub builds-started : (costs : List ℕ) (f : IntegrationField) (r : BuildAnswer) → r ≡ buildAnswer costs f → BuildsStarted costs f r
-builds-started costs f r e = record { started-built = λ step good q. builds costs step good f r e q }
+builds-started costs f r e = record {
+  started-built = λ step good q. (let a = accepted-target costs step good in builds costs (targetOf step) (a .0) (a .1) f r e q);
+}
 
-pub once-built : (costs step : List ℕ) (r : InitAnswer) → r ≡ initAnswer costs step → r .number ≡ 0 → OnceBuilt costs step (r .field)
-once-built costs step = answered costs step (OnceBuilt costs step) (λ good. let a = accepted costs step good in demand3 costs step (a .0) (a .1))
+pub once-built : (costs step : List ℕ) (r : InitAnswer) → r ≡ initAnswer costs step → r .number ≡ 0 → OnceBuilt costs (targetOf step) (r .field)
+once-built costs step =
+    answered costs step (OnceBuilt costs (targetOf step)) (λ good. let a = accepted-target costs step good in demand3 costs (targetOf step) (a .0) (a .1))

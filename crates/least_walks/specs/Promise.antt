@@ -1,25 +1,27 @@
--- What demand 3 says of costs and an accepted step: the started field, once built.
+-- What demand 3 says of costs and a target: the started field, once built.
 -- Assumes nothing.
 use mathlib.Core.Path.{_≡_}
 use mathlib.Core.List.{List}
 use Prim.Native.Nat.{ℕ}
+use Rattle.route.specs.Target.{Target, GoalCell, targetOf}
 use Rattle.integration_field.specs.declared.IntegrationField.{IntegrationField}
 use Rattle.integration_field.specs.declared.BuildAnswer.{BuildAnswer}
 use Rattle.integration_field.specs.Listed.{listOf}
 use Rattle.integration_field.specs.Build.{builtField, waveCount}
 use Rattle.integration_field.specs.Promise.{Counted}
 use Rattle.started_field.specs.Started.{started, initNumber}
-use Rattle.least_walks.specs.Walks.{GoalCell, Wall, StartedLeast}
+use Rattle.least_walks.specs.Walks.{Wall, StartedLeast}
 
 -- `built` are the cells after building, `waves` the count answered
-pub record Demand3 (costs step built : List ℕ) (waves : ℕ) : Type 0 where
-  pub least : StartedLeast costs (started costs step .field) (listOf (started costs step)) (Wall costs step) (GoalCell step) built
-  pub counted : Counted costs (started costs step .field) (listOf (started costs step)) built waves
+pub record Demand3 (costs : List ℕ) (target : Target) (built : List ℕ) (waves : ℕ) : Type 0 where
+  pub least : StartedLeast costs (started costs target .field) (listOf (started costs target)) (Wall costs target) (GoalCell target) built
+  pub counted : Counted costs (started costs target .field) (listOf (started costs target)) built waves
 
 -- of `init`: a field that it answers, once built
-abbrev pub OnceBuilt : List ℕ → List ℕ → IntegrationField → Type 0
-OnceBuilt costs step f = Demand3 costs step (builtField costs f .field) (waveCount costs f)
+abbrev pub OnceBuilt : List ℕ → Target → IntegrationField → Type 0
+OnceBuilt costs target f = Demand3 costs target (builtField costs f .field) (waveCount costs f)
 
 -- of `build`: where the field given is `init`'s for these costs and a step that it accepts, the call is accepted, and demand 3 holds of its answer
 pub record BuildsStarted (costs : List ℕ) (f : IntegrationField) (r : BuildAnswer) : Type 0 where
-  pub started-built : (step : List ℕ) → initNumber costs step ≡ 0 → f ≡ started costs step → (r .number ≡ 0) × Demand3 costs step (r .field .field) (r .waves)
+  pub started-built : (step : List ℕ) → initNumber costs step ≡ 0 → f ≡ started costs (targetOf step)
+      → (r .number ≡ 0) × Demand3 costs (targetOf step) (r .field .field) (r .waves)

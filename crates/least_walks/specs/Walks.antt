@@ -1,28 +1,21 @@
 -- The permitted walks of a started field, and what demand 3 says of it once built (01, "Integration: build", "For demand 3, in a started field").
 -- Assumes nothing.
 use mathlib.Core.Path.{_≡_}
-use mathlib.Core.Bool.{true, false}
+use mathlib.Core.Bool.{true}
 use mathlib.Core.Logic.{_⊎_}
-use mathlib.Core.List.{List, List·Memᴰ}
+use mathlib.Core.List.{List}
 use Prim.Native.Nat.{ℕ, _<_, _≤_}
 use lib.ListN.{getD}
-use Rattle.route.specs.Step.{isWindow, goalOf, windowCells}
+use Rattle.route.specs.Target.{Target, GoalCell, WindowCell}
 use Rattle.waves.specs.Walks.{Walk}
 use Rattle.integration_field.specs.Word.{low, isLos}
 use Rattle.integration_field.specs.Walks.{grid}
 
--- the step's goal cell, and its window cells
-abbrev pub GoalCell : List ℕ → ℕ → Type 0
-GoalCell step x = (isWindow step ≡ false) × (x ≡ goalOf step)
-
-abbrev pub WindowCell : List ℕ → ℕ → Type 0
-WindowCell step x = (isWindow step ≡ true) × List·Memᴰ x (windowCells step)
-
 -- a wall is a cell of cost 255 that is neither goal nor window cell
-pub record Wall (costs step : List ℕ) (x : ℕ) : Type 0 where
+pub record Wall (costs : List ℕ) (target : Target) (x : ℕ) : Type 0 where
   pub impassable : getD costs x 0 ≡ 255
-  pub not-goal : GoalCell step x → ⊥
-  pub not-window : WindowCell step x → ⊥
+  pub not-goal : GoalCell target x → ⊥
+  pub not-window : WindowCell target x → ⊥
 
 -- in sight is a cell that `init` leaves with LOS
 abbrev pub InSight : List ℕ → ℕ → Type 0

@@ -5,7 +5,8 @@ use mathlib.Core.Bool.{Bool, true}
 use mathlib.Core.List.{List}
 use Prim.Native.Nat.{ℕ}
 use lib.ListN.{length}
-use Rattle.route.specs.Step.{sectorOf, stepNumber}
+use Rattle.route.specs.Step.{sectorOf, portalOf, stepNumber}
+use Rattle.route.specs.Target.{targetOf}
 use Rattle.sector.specs.Sector.{sectorField, sectorBytes}
 use Rattle.leg_plan.specs.Leg.{part, withPart}
 
@@ -18,5 +19,5 @@ pub record StepReady (floor step : List ℕ) (has : Bool) (previous sheet : List
 
 -- what planning a step answers, and the sheet that it leaves
 pub record StepPlanned (floor step : List ℕ) (has : Bool) (previous sheet built after : List ℕ) : Type 0 where
-  pub answered : built ≡ sectorField (part floor (sectorOf step)) step .field
-  pub wrote : after ≡ withPart sheet (sectorOf step) (sectorBytes (part floor (sectorOf step)) step has previous)
+  pub answered : built ≡ sectorField (part floor (sectorOf step)) (targetOf step) .field
+  pub wrote : after ≡ withPart sheet (sectorOf step) (sectorBytes (part floor (sectorOf step)) (targetOf step) (portalOf step) has previous)

@@ -11,13 +11,14 @@ use lib.ListN.{length, length-take, length-drop}
 use borrow.Author.Tests.{ne-eqb}
 use Rattle.route.specs.Step.{stepNumber}
 use Rattle.route.proofs.Accepted.{accepted-step}
+use Rattle.route.proofs.Targets.{target-in}
 use Rattle.integration_field.specs.Build.{waveCount}
 use Rattle.started_field.specs.Started.{started}
 use Rattle.sector.specs.Promise as sector
 use Rattle.sector.proofs.Planned.{sector-planned}
 use Rattle.leg_plan.specs.Leg.{part, stepsOf, legNumber, planned, legSheet}
 use Rattle.leg_plan.specs.Inner.{LegReady}
-use Rattle.leg_plan.specs.Promise.{stepOf, sectorAt, hasBefore, costsAt, builtAt, builtBefore, LegPlanned}
+use Rattle.leg_plan.specs.Promise.{stepOf, sectorAt, targetAt, portalAt, hasBefore, costsAt, builtAt, builtBefore, LegPlanned}
 use Rattle.leg_plan.proofs.Steps.{steps-count, step-of}
 use Rattle.leg_plan.proofs.Numbers.{accepted}
 use Rattle.leg_plan.proofs.Sheet.{Fits, full-after, kept, written}
@@ -45,9 +46,10 @@ module _ (floor steps sheet : List ℕ) (ready : LegReady floor steps sheet) whe
         demand3 =
             λ k h.
             let costs = costsAt floor (stepsOf steps) k in
-            let step = stepOf (stepsOf steps) k in
-            subst (sector.Planned costs step (builtAt floor (stepsOf steps) k) (waveCount costs (started costs step))) (sym (wrote k h))
-            (sector-planned costs step (part-hundred floor (sectorAt (stepsOf steps) k) (ready .floor-full) (fits .in-floor k h)) (good k h) (hasBefore k) (builtBefore floor (stepsOf steps) k));
+            let target = targetAt (stepsOf steps) k in
+            subst (sector.Planned costs target (builtAt floor (stepsOf steps) k) (waveCount costs (started costs target))) (sym (wrote k h))
+            (sector-planned costs target (portalAt (stepsOf steps) k) (part-hundred floor (sectorAt (stepsOf steps) k) (ready .floor-full) (fits .in-floor k h))
+            (target-in (stepOf (stepsOf steps) k) (good k h)) (hasBefore k) (builtBefore floor (stepsOf steps) k));
       }
 
 module _ (floor steps sheet : List ℕ) where

@@ -13,12 +13,13 @@ use lib.Dec.{eqb, ltb}
 use lib.ListN.{length, take, drop, length-append, length-drop}
 use lib.Seq.{take-at, drop-at, length-take-le, take-add, drop-drop, take-take}
 use borrow.Author.Tests.{ltb-true, ltb-false, eqb-false}
-use Rattle.route.specs.Step.{sectorOf}
+use Rattle.route.specs.Step.{sectorOf, portalOf}
+use Rattle.route.specs.Target.{targetOf}
 use Rattle.sector.specs.Sector.{sectorField, sectorBytes}
 use Rattle.sector.proofs.Planned.{bytes-hundred, none-read}
 use Rattle.leg_plan.specs.Leg.{part, names, namesTwice, withPart, plannedFrom}
 use Rattle.leg_plan.proofs.Steps.{neither}
-use Rattle.leg_plan.specs.Promise.{stepOf, sectorAt, costsAt, builtAt, hasBefore, builtBefore}
+use Rattle.leg_plan.specs.Promise.{sectorAt, targetAt, portalAt, costsAt, builtAt, hasBefore, builtBefore}
 
 -- the k elements from m on, cut the other way round
 part-of-front : (l : List ℕ) (m k : ℕ) → m ≤ length l → take k (drop m l) ≡ drop m (take (m + k) l)
@@ -78,10 +79,10 @@ pub record Fits (ss : List (List ℕ)) (sheet : List ℕ) : Type 0 where
 module _ (floor : List ℕ) where
   -- the built cells of a step, and the bytes that it writes
   abbrev cellsOf : List ℕ → List ℕ
-  cellsOf s = sectorField (part floor (sectorOf s)) s .field
+  cellsOf s = sectorField (part floor (sectorOf s)) (targetOf s) .field
 
   abbrev bytesOf : List ℕ → Bool → List ℕ → List ℕ
-  bytesOf s has previous = sectorBytes (part floor (sectorOf s)) s has previous
+  bytesOf s has previous = sectorBytes (part floor (sectorOf s)) (targetOf s) (portalOf s) has previous
 
   -- the first step has no previous field, so that what stands in its place plays no part
   pub from-none : (ss : List (List ℕ)) (previous other sheet : List ℕ) → plannedFrom floor ss false previous sheet ≡ plannedFrom floor ss false other sheet
@@ -89,7 +90,7 @@ module _ (floor : List ℕ) where
   from-none [] previous other sheet = refl
   from-none (s ∷ ss) previous other sheet =
       ap (λ (b : List ℕ). plannedFrom floor ss true (cellsOf s) (withPart sheet (sectorOf s) b))
-      (none-read (part floor (sectorOf s)) s previous other)
+      (none-read (part floor (sectorOf s)) (targetOf s) (portalOf s) previous other)
 
   -- one step: what fits still fits, its own part is written, and every other one is as it was
   module _ {s : List ℕ} {ss : List (List ℕ)} {sheet : List ℕ} (fits : Fits (s ∷ ss) sheet) (has : Bool) (previous : List ℕ) where
@@ -97,7 +98,7 @@ module _ (floor : List ℕ) where
     bytes = bytesOf s has previous
 
     hundred : length bytes ≡ 100
-    hundred = bytes-hundred (part floor (sectorOf s)) s has previous
+    hundred = bytes-hundred (part floor (sectorOf s)) (targetOf s) (portalOf s) has previous
 
     in-sheet : sectorOf s * 100 + 100 ≤ length sheet
     in-sheet = let h : sectorOf s < 64 = fits .in-floor zero (omega arith) in omega (arith, fits .full)
@@ -135,7 +136,8 @@ module _ (floor : List ℕ) where
   -- a later step has the built cells of the step before it as previous field
   later-written : (ss : List (List ℕ)) (s : List ℕ) (has : Bool) (previous : List ℕ) {sheet : List ℕ} → Fits (s ∷ ss) sheet → namesTwice (s ∷ ss) ≡ false
       → (k : ℕ) → k < length ss
-      → part (plannedFrom floor (s ∷ ss) has previous sheet) (sectorAt ss k) ≡ sectorBytes (costsAt floor ss k) (stepOf ss k) true (builtAt floor (s ∷ ss) k)
+      → part (plannedFrom floor (s ∷ ss) has previous sheet) (sectorAt ss k)
+      ≡ sectorBytes (costsAt floor ss k) (targetAt ss k) (portalAt ss k) true (builtAt floor (s ∷ ss) k)
   unfolding plannedFrom
   later-written [] s has previous fits once k h = absurd (omega arith)
   later-written (t ∷ ss) s has previous fits once zero h =
@@ -145,7 +147,8 @@ module _ (floor : List ℕ) where
 
   -- the sector of the step at place k holds what the sector call's definition gives, with the built field of the step before as previous field
   pub written : (ss : List (List ℕ)) {sheet : List ℕ} → Fits ss sheet → namesTwice ss ≡ false → (k : ℕ) → k < length ss
-      → part (plannedFrom floor ss false [] sheet) (sectorAt ss k) ≡ sectorBytes (costsAt floor ss k) (stepOf ss k) (hasBefore k) (builtBefore floor ss k)
+      → part (plannedFrom floor ss false [] sheet) (sectorAt ss k)
+      ≡ sectorBytes (costsAt floor ss k) (targetAt ss k) (portalAt ss k) (hasBefore k) (builtBefore floor ss k)
   written [] fits once k h = absurd (omega arith)
   written (s ∷ ss) fits once zero h = first-written ss s false [] fits once
   written (s ∷ ss) fits once (suc k) h = later-written ss s false [] fits once k (omega arith)

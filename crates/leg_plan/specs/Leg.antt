@@ -6,7 +6,8 @@ use Prim.Native.Nat.{ℕ, zero, suc, _+_, _*_, _/_}
 use lib.Dec.{eqb}
 use lib.ListN.{length, take, drop}
 use Rattle.route.specs.Table.{Row, row, firstNumber}
-use Rattle.route.specs.Step.{sectorOf, isWindow, boundaryOf, eachStep, noStepList}
+use Rattle.route.specs.Step.{sectorOf, isWindow, boundaryOf, portalOf, eachStep, noStepList}
+use Rattle.route.specs.Target.{targetOf}
 use Rattle.sectors.specs.declared.Across.{Across}
 use Rattle.sectors.specs.declared.Across.the-variants.{Sector, OffFloor}
 use Rattle.sectors.specs.Floor.{across}
@@ -83,13 +84,13 @@ legNumber floor steps sheet =
 abbrev pub withPart : List ℕ → ℕ → List ℕ → List ℕ
 withPart sheet sector bytes = take (sector * 100) sheet ++ (bytes ++ drop (sector * 100 + 100) sheet)
 
--- The sheet after these steps: each runs the sector call, the built field of the step before serving as previous field, and writes its
--- sector's own 100 bytes. `has` and `previous` tell of the step before the list.
+-- The sheet after these steps: each runs the sector call over its target, the built field of the step before serving as previous field, and
+-- writes its sector's own 100 bytes. `has` and `previous` tell of the step before the list.
 unfoldable pub plannedFrom : List ℕ → List (List ℕ) → Bool → List ℕ → List ℕ → List ℕ
 plannedFrom floor [] has previous sheet = sheet
 plannedFrom floor (s ∷ ss) has previous sheet =
-    plannedFrom floor ss true (sectorField (part floor (sectorOf s)) s .field)
-    (withPart sheet (sectorOf s) (sectorBytes (part floor (sectorOf s)) s has previous))
+    plannedFrom floor ss true (sectorField (part floor (sectorOf s)) (targetOf s) .field)
+    (withPart sheet (sectorOf s) (sectorBytes (part floor (sectorOf s)) (targetOf s) (portalOf s) has previous))
 
 -- the sheet of a planned leg: the first step has no previous field
 unfoldable pub planned : List ℕ → List (List ℕ) → List ℕ → List ℕ

@@ -5,7 +5,9 @@ use mathlib.Core.Bool.{Bool, true, false}
 use mathlib.Core.List.{List, []}
 use Prim.Native.Nat.{ℕ, zero, suc, _<_}
 use lib.ListN.{length, getD}
-use Rattle.route.specs.Step.{sectorOf}
+use Rattle.route.specs.declared.PortalWindow.{PortalWindow}
+use Rattle.route.specs.Step.{sectorOf, portalOf}
+use Rattle.route.specs.Target.{Target, targetOf}
 use Rattle.integration_field.specs.Build.{waveCount}
 use Rattle.started_field.specs.Started.{started}
 use Rattle.sector.specs.Sector.{sectorField, sectorBytes}
@@ -20,6 +22,13 @@ stepOf steps k = getD steps k []
 abbrev pub sectorAt : List (List ℕ) → ℕ → ℕ
 sectorAt steps k = sectorOf (stepOf steps k)
 
+-- its target, and its window, whole
+abbrev pub targetAt : List (List ℕ) → ℕ → Target
+targetAt steps k = targetOf (stepOf steps k)
+
+abbrev pub portalAt : List (List ℕ) → ℕ → PortalWindow
+portalAt steps k = portalOf (stepOf steps k)
+
 -- whether there is a step before it
 abbrev pub hasBefore : ℕ → Bool
 hasBefore zero = false
@@ -32,7 +41,7 @@ module _ (floor : List ℕ) (steps : List (List ℕ)) where
 
   -- its sector's built costs: those that the sector call's definition gives
   abbrev pub builtAt : ℕ → List ℕ
-  builtAt k = sectorField (costsAt k) (stepOf steps k) .field
+  builtAt k = sectorField (costsAt k) (targetAt steps k) .field
 
   -- the built field of the step before; none for the first
   abbrev pub builtBefore : ℕ → List ℕ
@@ -41,13 +50,13 @@ module _ (floor : List ℕ) (steps : List (List ℕ)) where
 
   -- `before` and `after` are the sheet at entry and at exit
   pub record LegPlanned (before after : List ℕ) : Type 0 where
-    -- each named sector's 100 bytes are what the sector call's definition gives for that sector's costs, that step, and as previous field
-    -- the built field that the definition gives for the step before (none for the first)
+    -- each named sector's 100 bytes are what the sector call's definition gives for that sector's costs, that step's target and window, and as
+    -- previous field the built field that the definition gives for the step before (none for the first)
     pub written : (k : ℕ) → k < length steps
-        → part after (sectorAt steps k) ≡ sectorBytes (costsAt k) (stepOf steps k) (hasBefore k) (builtBefore k)
+        → part after (sectorAt steps k) ≡ sectorBytes (costsAt k) (targetAt steps k) (portalAt steps k) (hasBefore k) (builtBefore k)
     -- every other byte is as it was
     pub kept : (sector : ℕ) → names sector steps ≡ false → part after sector ≡ part before sector
     pub same-length : length after ≡ length before
     -- demand 3, for every sector that is written
     pub demand3 : (k : ℕ) → k < length steps
-        → Planned (costsAt k) (stepOf steps k) (builtAt k) (waveCount (costsAt k) (started (costsAt k) (stepOf steps k))) (part after (sectorAt steps k))
+        → Planned (costsAt k) (targetAt steps k) (builtAt k) (waveCount (costsAt k) (started (costsAt k) (targetAt steps k))) (part after (sectorAt steps k))

@@ -12,6 +12,8 @@ use borrow.Author.Tests.{ne-eqb}
 use Rattle.integration_field.specs.declared.IntegrationField.{IntegrationField}
 use Rattle.integration_field.specs.declared.BuildAnswer.{BuildAnswer}
 use Rattle.integration_field.specs.Answer.{answerOf}
+use Rattle.route.specs.Step.{portalOf}
+use Rattle.route.specs.Target.{targetOf}
 use Rattle.started_field.specs.Started.{started}
 use Rattle.sector.specs.Sector.{sectorNumber, sectorBytes, sectorAnswer, sectorSheet}
 use Rattle.printer.specs.Text.{rendered, printed}
@@ -44,4 +46,4 @@ printed-answer input a s e f =
     let step = drop 100 input in
     let n = sectorNumber costs step false [] (replicate 100 0) in
     let whole : take (length input - 100) step ≡ step = take-all (length input - 100) step (omega (arith, length-drop 100 input)) in
-    rw (e, f, whole, number-of n costs (started costs step)) (rendered-by n (sectorBytes costs step false []) (replicate 100 0) (eqb n 0) refl)
+    rw (e, f, whole, number-of n costs (started costs (targetOf step))) (rendered-by n (sectorBytes costs (targetOf step) (portalOf step) false []) (replicate 100 0) (eqb n 0) refl)

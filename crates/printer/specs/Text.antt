@@ -6,6 +6,8 @@ use mathlib.Core.List.{List, [], _∷_, _++_}
 use Prim.Native.Nat.{ℕ}
 use lib.Dec.{eqb}
 use lib.ListN.{take, drop, replicate}
+use Rattle.route.specs.Step.{portalOf}
+use Rattle.route.specs.Target.{targetOf}
 use Rattle.text.specs.Rows.{rowsText, decimal}
 use Rattle.sector.specs.Sector.{sectorNumber, sectorBytes}
 
@@ -22,4 +24,4 @@ unfoldable pub printed : List ℕ → List ℕ
 printed input =
     let costs = take 100 input in
     let step = drop 100 input in
-    rendered (sectorNumber costs step false [] (replicate 100 0)) (sectorBytes costs step false [])
+    rendered (sectorNumber costs step false [] (replicate 100 0)) (sectorBytes costs (targetOf step) (portalOf step) false [])

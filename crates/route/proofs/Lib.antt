@@ -5,3 +5,4 @@ pub mod Accepted
 pub mod Runs
 pub mod Windows
 pub mod Facing
+pub mod Targets

@@ -1,3 +1,5 @@
 pub mod Table
 pub mod Window
 pub mod Step
+pub mod Target
+pub mod Inner

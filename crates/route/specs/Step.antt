@@ -7,6 +7,7 @@ use lib.Dec.{ltb, eqb}
 use lib.ListN.{length, getD}
 use Rattle.utilities.specs.declared.CompassDir.{CompassDir}
 use Rattle.utilities.specs.Compass.{sideOf}
+use Rattle.route.specs.declared.PortalWindow.{PortalWindow}
 use Rattle.route.specs.declared.RouteStep.{RouteStep}
 use Rattle.route.specs.Table.{Row, row, firstNumber}
 use Rattle.route.specs.Window.{onEdge, cellsBetween}
@@ -44,6 +45,10 @@ isWindow s = eqb (markOf s) 1
 abbrev pub windowCells : List ℕ → List ℕ
 windowCells s = cellsBetween (boundaryOf s) (firstOf s) (lastOf s)
 
+-- its window: the first and the last cell, and the boundary
+abbrev pub portalOf : List ℕ → PortalWindow
+portalOf s = record { start = firstOf s; end = lastOf s; boundary = boundaryOf s }
+
 -- the step taken apart
 abbrev pub routeStep : List ℕ → RouteStep
 routeStep s =
@@ -51,7 +56,7 @@ routeStep s =
       sector = sectorOf s;
       goal = goalOf s;
       «has_portal» = isWindow s;
-      portal = record { start = firstOf s; end = lastOf s; boundary = boundaryOf s };
+      portal = portalOf s;
     }
 
 -- the table's lines for each step, numbers 4 to 8 (01, "A leg", the table); with mark 0 the window bytes are not read, with mark 1 the goal byte is not

@@ -6,6 +6,7 @@ ghost use Prim.Native.Nat.{_+_, _*_, _%_, _<_};
 ghost use lib.ListN.{length, getD};
 ghost use Rattle.route.specs.Window.{onEdge, edge, stride, between, cellsBetween, listed, facing};
 ghost use Rattle.route.specs.Step.{routeStep, eachStep, stepNumber, noStepList};
+ghost use Rattle.route.specs.Inner.{routeTarget, listedTarget};
 
 // The start and end index of a portal, and the side of the sector that it sits on.
 pub struct PortalWindow {
@@ -29,8 +30,15 @@ pub struct WindowCells {
     pub count: usize,
 }
 
+// What a sector's field starts from: the cells of a window, or the goal cell. Beside a goal there are no window cells.
+pub struct Target {
+    pub has_window: bool,
+    pub goal: usize,
+    pub window: WindowCells,
+}
+
 // Whether a cell lies on a side's edge.
-pub fn on_edge(boundary: CompassDir, index: usize) -> bool
+fn on_edge(boundary: CompassDir, index: usize) -> bool
     ensures { λ r. ⌜ r ≡ onEdge boundary index ⌝ }
 {
     if boundary.number() > 3 {
@@ -217,6 +225,31 @@ impl RouteStep {
                 end,
                 boundary,
             },
+        }
+    }
+
+    // The step's target.
+    pub fn as_target(self) -> Target
+        ensures { λ r. ⌜ r ≡ listedTarget (routeTarget self) ⌝ }
+    {
+        let has_window = self.has_portal;
+        if has_window {
+            let portal = self.portal;
+            let window = portal.get_all_window_cells();
+            return Target {
+                has_window,
+                goal: 0,
+                window,
+            };
+        }
+        let window = WindowCells {
+            cells: [0; 10],
+            count: 0,
+        };
+        Target {
+            has_window,
+            goal: self.goal,
+            window,
         }
     }
 }

@@ -7,13 +7,15 @@ use Prim.Native.Nat.{ℕ}
 use lib.Dec.{eqb}
 use lib.ListN.{length}
 use Rattle.route.specs.Table.{row, firstNumber}
-use Rattle.route.specs.Step.{stepNumber}
+use Rattle.route.specs.declared.PortalWindow.{PortalWindow}
+use Rattle.route.specs.Step.{portalOf, stepNumber}
+use Rattle.route.specs.Target.{Target, windowOf, targetOf}
 use Rattle.integration_field.specs.declared.IntegrationField.{IntegrationField}
 use Rattle.integration_field.specs.declared.BuildAnswer.{BuildAnswer}
 use Rattle.integration_field.specs.Build.{builtField}
 use Rattle.integration_field.specs.Answer.{answerOf}
 use Rattle.started_field.specs.Started.{started}
-use Rattle.flow_byte.specs.New.{flowNew}
+use Rattle.flow_byte.specs.New.{newBytes}
 use Rattle.flow_byte.specs.Look.{flowBuild}
 
 -- its number: the table's lines 1 and 2, the step's 3 to 8, and 12
@@ -27,21 +29,21 @@ sectorNumber costs step has previous sheet =
     ∷ []
     )
 
--- the built field that it answers: started, and built on the costs it was started with
-abbrev pub sectorField : List ℕ → List ℕ → IntegrationField
-sectorField costs step = builtField costs (started costs step)
+-- A sector's run over a target: the built field, started and built on the costs it was started with ..
+abbrev pub sectorField : List ℕ → Target → IntegrationField
+sectorField costs target = builtField costs (started costs target)
 
--- the 100 bytes that it writes (01, "Flow byte"): the flow field of the built field, new and built
-unfoldable pub sectorBytes : List ℕ → List ℕ → Bool → List ℕ → List ℕ
-sectorBytes costs step has previous =
-    let cells = sectorField costs step .field in
-    flowBuild cells (flowNew step cells has previous)
+-- .. and its 100 bytes (01, "Flow byte"): the flow field of the built field, new and built; `portal` is the step's window, whole
+unfoldable pub sectorBytes : List ℕ → Target → PortalWindow → Bool → List ℕ → List ℕ
+sectorBytes costs target portal has previous =
+    let cells = sectorField costs target .field in
+    flowBuild cells (newBytes portal (windowOf target) cells has previous)
 
--- what it answers: its number, the built field and its wave count; a refusal has every other part zero
+-- what the call answers: its number, the built field of the step's target and its wave count; a refusal has every other part zero
 abbrev pub sectorAnswer : List ℕ → List ℕ → Bool → List ℕ → List ℕ → BuildAnswer
-sectorAnswer costs step has previous sheet = answerOf (sectorNumber costs step has previous sheet) costs (started costs step)
+sectorAnswer costs step has previous sheet = answerOf (sectorNumber costs step has previous sheet) costs (started costs (targetOf step))
 
 -- what it leaves of the sheet: a refusal writes nothing
 abbrev pub sectorSheet : List ℕ → List ℕ → Bool → List ℕ → List ℕ → List ℕ
 sectorSheet costs step has previous sheet =
-    cond (eqb (sectorNumber costs step has previous sheet) 0) (sectorBytes costs step has previous) sheet
+    cond (eqb (sectorNumber costs step has previous sheet) 0) (sectorBytes costs (targetOf step) (portalOf step) has previous) sheet

@@ -1,10 +1,18 @@
-// The sector call: a step's field on a sector's costs, started and built, and its flow bytes on the sheet.
+// The sector call: its number, and the run of its step's target: a field on the sector's costs, started and built, and its flow bytes on the sheet.
 use integration_field::BuildAnswer;
+use route::PortalWindow;
+use route::RouteStep;
+use route::Target;
 ghost use mathlib.Core.Path.{_≡_};
 ghost use mathlib.Core.List.{List};
 ghost use Prim.Native.Nat.{ℕ};
 ghost use lib.ListN.{length};
-ghost use Rattle.sector.specs.Sector.{sectorNumber, sectorAnswer, sectorSheet};
+ghost use Rattle.route.specs.Target.{targetOf};
+ghost use Rattle.route.specs.Inner.{heldTarget};
+ghost use Rattle.integration_field.specs.Answer.{answerOf};
+ghost use Rattle.started_field.specs.Started.{started};
+ghost use Rattle.sector.specs.Sector.{sectorNumber, sectorBytes, sectorAnswer, sectorSheet};
+ghost use Rattle.sector.specs.Inner.{RunReady};
 ghost use Rattle.sector.specs.Promise.{Planned};
 
 // The number of the table for a call with a sheet of so many bytes.
@@ -35,6 +43,27 @@ fn sector_number(
     0
 }
 
+// A sector's run over a target: its field, started and built, and its flow bytes. `portal` is the step's window, whole.
+pub fn run(
+    costs: &[u8],
+    target: Target,
+    portal: PortalWindow,
+    has_previous: bool,
+    previous: &[u32],
+    sheet: &mut [u8],
+) -> BuildAnswer
+    requires { ⌜ RunReady (now costs) target «has_previous» (now previous) (now sheet) ⌝ }
+    ensures answer { λ r. ⌜ r ≡ answerOf 0 (now (costs .entry)) (started (now (costs .entry)) (heldTarget target)) ⌝ }
+    ensures sheet { λ _. ⌜ now (sheet .exit) ≡ sectorBytes (now (costs .entry)) (heldTarget target) portal «has_previous» (now (previous .entry)) ⌝ }
+{
+    let field = integration_init::start(costs, target);
+    let answer = integration_build::build(costs, field);
+    let built = answer.field;
+    flow_field::new_cells(portal, target.window, built, has_previous, previous, sheet);
+    flow_field::build(built, sheet);
+    answer
+}
+
 // The sector call: a refused one writes nothing.
 pub fn plan_sector(
     costs: &[u8],
@@ -45,17 +74,20 @@ pub fn plan_sector(
 ) -> BuildAnswer
     ensures answer { λ r. ⌜ r ≡ sectorAnswer (now (costs .entry)) (now (step .entry)) «has_previous» (now (previous .entry)) (now (sheet .entry)) ⌝ }
     ensures sheet { λ _. ⌜ now (sheet .exit) ≡ sectorSheet (now (costs .entry)) (now (step .entry)) «has_previous» (now (previous .entry)) (now (sheet .entry)) ⌝ }
-    ensures planned { λ r. ⌜ (r .number ≡ 0 → Planned (now (costs .entry)) (now (step .entry)) (r .field .field) (r .waves) (now (sheet .exit))) ⌝ }
+    ensures planned { λ r. ⌜ (r .number ≡ 0 → Planned (now (costs .entry)) (targetOf (now (step .entry))) (r .field .field) (r .waves) (now (sheet .exit))) ⌝ }
 {
     let number = sector_number(costs, step, has_previous, previous, sheet.len());
     if number != 0 {
         return integration_field::refused(number);
     }
-    let started = integration_init::init(costs, step);
-    let field = started.field;
-    let answer = integration_build::build(costs, field);
-    let built = answer.field;
-    flow_field::new(step, built, has_previous, previous, sheet);
-    flow_field::build(built, sheet);
-    answer
+    let route_step = RouteStep::new(step);
+    let target = route_step.as_target();
+    run(
+        costs,
+        target,
+        route_step.portal,
+        has_previous,
+        previous,
+        sheet,
+    )
 }

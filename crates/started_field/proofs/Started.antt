@@ -1,7 +1,7 @@
--- The started field of costs and a step.
+-- The started field of costs and a target.
 --     started-sizes, any-number    100 places and any falling number of at least 100 give the sight that is defined without either
---     started-field                what it is, for every step that is accepted
---     accepted                     what an accepted `init` is given
+--     started-field                what it is, for every target inside the sector
+--     accepted, accepted-target    what an accepted `init` is given
 --     answered, answer-told        the same of what `init` answers
 -- Assumes nothing.
 use mathlib.Core.Path.{_≡_, refl, sym, _∙_, ap}
@@ -12,16 +12,15 @@ use native.Mathlib.Omega.{arith}
 use lib.Dec.{eqb}
 use lib.ListN.{length}
 use borrow.Author.Tests.{eqb-true, eqb-false}
-use Rattle.route.specs.Step.{goalOf, isWindow, windowCells, stepNumber}
-use Rattle.route.proofs.Accepted.{accepted-goal, accepted-window}
-use Rattle.route.proofs.Windows.{window-at, window-few, window-increases}
+use Rattle.route.specs.Step.{stepNumber}
+use Rattle.route.specs.Target.{Target, to-goal, to-window, byWindow, TargetIn, targetOf}
+use Rattle.route.proofs.Targets.{target-in}
 use Rattle.integration_field.specs.declared.IntegrationField.{IntegrationField}
 use Rattle.integration_field.specs.Listed.{withCorners}
 use Rattle.integration_field.proofs.Lists.{padded-length, padded-beyond, corners-listed}
 use Rattle.started_field.specs.Sight.{walls, Sight, sightAfter}
 use Rattle.started_field.specs.CornerLine.{cornerLine}
 use Rattle.started_field.specs.Sizes.{Sizes}
-use Rattle.started_field.specs.StartedCell.{GoalStarted, WindowStarted}
 use Rattle.started_field.specs.Started.{
   sightFrom,
   startedFrom,
@@ -31,12 +30,25 @@ use Rattle.started_field.specs.Started.{
   initRefused,
   initAccepted,
   initAnswer,
+  StartedCells,
   StartedField,
 }
 use Rattle.started_field.specs.declared.InitAnswer.{InitAnswer}
 use Rattle.started_field.proofs.Waves.{sizes, goal-started}
 use Rattle.started_field.proofs.Window.{window-started}
 use Rattle.started_field.proofs.Lines.{corner-lines}
+
+-- a target has one goal, and beside a window none
+goalIn : Target → ℕ
+goalIn (to-goal n) = n
+goalIn (to-window cells) = 0
+
+same-goal : {a b : ℕ} → to-goal a ≡ to-goal b → a ≡ b
+unfolding goalIn
+same-goal e = ap goalIn e
+
+no-goal : {l : List ℕ} {g : ℕ} → to-window l ≡ to-goal g → ⊥
+no-goal e = true≢false (ap byWindow e)
 
 module _ (costs : List ℕ) (hundred : length costs ≡ 100) where
   pub started-sizes : (goal : ℕ) → goal < 100 → Sizes (cornerLine goal) (walls costs) goal
@@ -47,38 +59,30 @@ module _ (costs : List ℕ) (hundred : length costs ≡ 100) where
   any-number goal h n m = started-sizes goal h .same n m
 
   -- a field made of cells and corners
-  made : (step cells corners : List ℕ) → length corners ≤ 100
-      → (isWindow step ≡ false → GoalStarted costs (goalOf step) cells corners)
-      → (isWindow step ≡ true → WindowStarted costs (windowCells step) cells corners)
-      → (isWindow step ≡ false → (n : ℕ) → 100 ≤ n → let s = sightAfter (cornerLine (goalOf step)) (walls costs) (goalOf step) n in
-      withCorners cells corners ≡ withCorners (s .cells) (s .corners))
-      → StartedField costs step (withCorners cells corners)
-  made step cells corners few g w o = record {
+  made : (target : Target) (cells corners : List ℕ) → length corners ≤ 100 → StartedCells costs target cells corners
+      → ((goal n : ℕ) → target ≡ to-goal goal → 100 ≤ n
+      → let s = sightAfter (cornerLine goal) (walls costs) goal n in withCorners cells corners ≡ withCorners (s .cells) (s .corners))
+      → StartedField costs target (withCorners cells corners)
+  made target cells corners few told over = record {
     list-fits = few;
     list-full = padded-length corners few;
     list-beyond = padded-beyond corners;
-    of-goal = λ e. rw (corners-listed corners cells) (g e);
-    of-window = λ e. rw (corners-listed corners cells) (w e);
-    sight-over = o;
+    cells-are = rw (corners-listed corners cells) told;
+    sight-over = over;
   }
 
-  pub started-field : (step : List ℕ) → stepNumber step ≡ 0 → StartedField costs step (started costs step)
+  pub started-field : (target : Target) → TargetIn target → StartedField costs target (started costs target)
   unfolding started startedFrom startedAt sightFrom
-  started-field step ok = go (isWindow step) refl
+  started-field (to-goal goal) h =
+      made (to-goal goal) _ (sightFrom costs goal .corners) (started-sizes goal h .corners-fit _)
+      (goal-started goal h costs hundred (cornerLine goal) (corner-lines goal) _)
+      (λ g n e m. over g n (same-goal e) m)
     where
-      go : (b : Bool) → isWindow step ≡ b → StartedField costs step (cond b (startedAt costs (windowCells step)) (startedFrom costs (goalOf step)))
-      go true e =
-          let w = accepted-window step ok e in
-          made step _ (windowCells step) (omega (arith, window-few step w))
-          (λ f. absurd (true≢false (sym e ∙ f)))
-          (λ f. window-started costs hundred (windowCells step) (λ i h. window-at step w i h .below) (λ i j h k q. omega (arith, window-increases step w i j h k)))
-          (λ f. absurd (true≢false (sym e ∙ f)))
-      go false e =
-          let h = accepted-goal step ok e in
-          made step _ (sightFrom costs (goalOf step) .corners) (started-sizes (goalOf step) h .corners-fit _)
-          (λ f. goal-started (goalOf step) h costs hundred (cornerLine (goalOf step)) (corner-lines (goalOf step)) _)
-          (λ f. absurd (true≢false (sym f ∙ e)))
-          (λ f n m. ap (λ (s : Sight). withCorners (s .cells) (s .corners)) (sym (any-number (goalOf step) h n m)))
+      over : (g n : ℕ) → goal ≡ g → 100 ≤ n
+          → let s = sightAfter (cornerLine g) (walls costs) g n in withCorners (sightFrom costs goal .cells) (sightFrom costs goal .corners) ≡ withCorners (s .cells) (s .corners)
+      over g n e m = rw (← e) (ap (λ (s : Sight). withCorners (s .cells) (s .corners)) (sym (any-number goal h n m)))
+  started-field (to-window window) w =
+      made (to-window window) _ window (omega (arith, w .few)) (window-started costs hundred window (w .inside) (w .once)) (λ g n e m. absurd (no-goal e))
 
 -- what an accepted `init` is given
 pub accepted : (costs step : List ℕ) → initNumber costs step ≡ 0 → (length costs ≡ 100) × (stepNumber step ≡ 0)
@@ -89,20 +93,22 @@ accepted costs step e = go (eqb (length costs) 100) refl e
     go true q z = (eqb-true (length costs) 100 q, z)
     go false q z = absurd (omega arith)
 
-accepted-field : (costs step : List ℕ) → initNumber costs step ≡ 0 → StartedField costs step (started costs step)
-accepted-field costs step e =
-    let a = accepted costs step e in
-    started-field costs (a .0) step (a .1)
+-- its costs, and the target of its step
+pub accepted-target : (costs step : List ℕ) → initNumber costs step ≡ 0 → (length costs ≡ 100) × TargetIn (targetOf step)
+accepted-target costs step e = let a = accepted costs step e in (a .0, target-in step (a .1))
+
+accepted-field : (costs step : List ℕ) → initNumber costs step ≡ 0 → StartedField costs (targetOf step) (started costs (targetOf step))
+accepted-field costs step e = let a = accepted-target costs step e in started-field costs (a .0) (targetOf step) (a .1)
 
 -- what holds of the started field of an accepted step holds of an answer of `init` whose number is 0
-pub answered : (costs step : List ℕ) (P : IntegrationField → Type 0) → (initNumber costs step ≡ 0 → P (started costs step))
+pub answered : (costs step : List ℕ) (P : IntegrationField → Type 0) → (initNumber costs step ≡ 0 → P (started costs (targetOf step)))
     → (r : InitAnswer) → r ≡ initAnswer costs step → r .number ≡ 0 → P (r .field)
 unfolding initAnswer
 answered costs step P p r e n = go (eqb (initNumber costs step) 0) refl e
   where
-    go : (b : Bool) → eqb (initNumber costs step) 0 ≡ b → r ≡ cond b (initAccepted (started costs step)) (initRefused (initNumber costs step)) → P (r .field)
+    go : (b : Bool) → eqb (initNumber costs step) 0 ≡ b → r ≡ cond b (initAccepted (started costs (targetOf step))) (initRefused (initNumber costs step)) → P (r .field)
     go true q f = rw f (p (eqb-true (initNumber costs step) 0 q))
     go false q f = absurd (eqb-false (initNumber costs step) 0 q (sym (ap (λ (a : InitAnswer). a .number) f) ∙ n))
 
-pub answer-told : (costs step : List ℕ) (r : InitAnswer) → r ≡ initAnswer costs step → r .number ≡ 0 → StartedField costs step (r .field)
-answer-told costs step = answered costs step (StartedField costs step) (accepted-field costs step)
+pub answer-told : (costs step : List ℕ) (r : InitAnswer) → r ≡ initAnswer costs step → r .number ≡ 0 → StartedField costs (targetOf step) (r .field)
+answer-told costs step = answered costs step (StartedField costs (targetOf step)) (accepted-field costs step)

@@ -1,12 +1,13 @@
--- The started field of costs and a step, and what `init` answers (01, "Integration: init"; the table of "A leg").
+-- The started field of costs and a target, and what `init` answers (01, "Integration: init"; the table of "A leg").
 -- Assumes nothing.
 use mathlib.Core.Path.{_≡_}
-use mathlib.Core.Bool.{true, false, cond, not}
+use mathlib.Core.Bool.{cond, not}
 use mathlib.Core.List.{List}
 use Prim.Native.Nat.{ℕ, _≤_}
 use lib.Dec.{eqb}
 use lib.ListN.{length, getD}
-use Rattle.route.specs.Step.{goalOf, isWindow, windowCells, stepNumber}
+use Rattle.route.specs.Step.{stepNumber}
+use Rattle.route.specs.Target.{Target, to-goal, to-window, targetOf}
 use Rattle.integration_field.specs.declared.IntegrationField.{IntegrationField}
 use Rattle.integration_field.specs.Listed.{listOf, withCorners, zeroField}
 use Rattle.started_field.specs.declared.InitAnswer.{InitAnswer}
@@ -26,15 +27,16 @@ startedFrom costs goal = withCorners (sightFrom costs goal .cells) (sightFrom co
 unfoldable pub startedAt : List ℕ → List ℕ → IntegrationField
 startedAt costs window = withCorners (withPortals window (walls costs)) window
 
--- the started field of costs and a step
-unfoldable pub started : List ℕ → List ℕ → IntegrationField
-started costs step = cond (isWindow step) (startedAt costs (windowCells step)) (startedFrom costs (goalOf step))
+-- the started field of costs and a target
+unfoldable pub started : List ℕ → Target → IntegrationField
+started costs (to-goal goal) = startedFrom costs goal
+started costs (to-window window) = startedAt costs window
 
 -- 1 for cost bytes that are not 100, else the step's number: 3, 4 to 8, or 0
 unfoldable pub initNumber : List ℕ → List ℕ → ℕ
 initNumber costs step = cond (not (eqb (length costs) 100)) 1 (stepNumber step)
 
--- A refusal answers its number with every other part zero; an accepted call's number is 0.
+-- A refusal answers its number with every other part zero; an accepted call's number is 0, and its field that of the step's target.
 abbrev pub initRefused : ℕ → InitAnswer
 initRefused n = record { number = n; field = zeroField }
 
@@ -42,15 +44,19 @@ abbrev pub initAccepted : IntegrationField → InitAnswer
 initAccepted f = record { number = 0; field = f }
 
 unfoldable pub initAnswer : List ℕ → List ℕ → InitAnswer
-initAnswer costs step = cond (eqb (initNumber costs step) 0) (initAccepted (started costs step)) (initRefused (initNumber costs step))
+initAnswer costs step = cond (eqb (initNumber costs step) 0) (initAccepted (started costs (targetOf step))) (initRefused (initNumber costs step))
 
--- What a started field is, for costs and a step that are accepted.
-pub record StartedField (costs step : List ℕ) (f : IntegrationField) : Type 0 where
+-- What a started field is, for 100 costs and a target inside the sector: its cells and its corners, by the kind of the target ..
+abbrev pub StartedCells : List ℕ → Target → List ℕ → List ℕ → Type 0
+StartedCells costs (to-goal goal) cells corners = GoalStarted costs goal cells corners
+StartedCells costs (to-window window) cells corners = WindowStarted costs window cells corners
+
+-- .. and its list of 100 places, which hold 0 beyond the count.
+pub record StartedField (costs : List ℕ) (target : Target) (f : IntegrationField) : Type 0 where
   pub list-fits : f .count ≤ 100
   pub list-full : length (f .«los_corners») ≡ 100
   pub list-beyond : (i : ℕ) → f .count ≤ i → getD (f .«los_corners») i 0 ≡ 0
-  pub of-goal : isWindow step ≡ false → GoalStarted costs (goalOf step) (f .field) (listOf f)
-  pub of-window : isWindow step ≡ true → WindowStarted costs (windowCells step) (f .field) (listOf f)
+  pub cells-are : StartedCells costs target (f .field) (listOf f)
   -- sight has come to its end: every number of waves from 100 on leaves these cells and these corners
-  pub sight-over : isWindow step ≡ false → (n : ℕ) → 100 ≤ n
-      → let s = sightAfter (cornerLine (goalOf step)) (walls costs) (goalOf step) n in f ≡ withCorners (s .cells) (s .corners)
+  pub sight-over : (goal n : ℕ) → target ≡ to-goal goal → 100 ≤ n
+      → let s = sightAfter (cornerLine goal) (walls costs) goal n in f ≡ withCorners (s .cells) (s .corners)

@@ -5,8 +5,9 @@ use Prim.Native.Nat.{ℕ}
 use borrow.Author.Needs.{needs}
 use denote.Ref.{now}
 use Rattle.integration_field.specs.declared.IntegrationField.{IntegrationField}
-use Rattle.started_field.specs.Started.{initRefused}
+use Rattle.started_field.specs.Started.{started, initRefused}
 use Rattle.route.specs.Step.{stepNumber}
+use Rattle.route.proofs.Targets.{made-target, made-held}
 use Rattle.integration_init.proofs.Answers.{costs-refused, step-refused, accepts, promised}
 use Rattle.integration_init.proofs.init.Statement.{statement}
 use Rattle.integration_init.proofs.init.Tie as tie
@@ -19,11 +20,26 @@ returns-2 c = let a = c .before .before .before .before .before .before .args in
     promised (now (a .costs)) (now (a .step)) _
     (c .refused2 .ensures ∙ ap initRefused (c .before .before .step-number .ensures) ∙ step-refused (now (a .costs)) (now (a .step)) (c .before .before .before .if1 .left) (λ e. c .before .if2 .taken (c .before .before .step-number .ensures ∙ e)))
 
+-- the step is good, and its target is held
+abbrev start : tie.After-as-target → tie.Start
+start c = c .before .before .before .before .before .before .before
+
+good : (c : tie.After-as-target) → stepNumber (now (start c .args .step)) ≡ 0
+good c = sym (c .before .before .before .step-number .ensures) ∙ c .before .before .if2 .left
+
+start-requires : tie.Need-start-requires
+start-requires c κs =
+    (c .before .before .before .before .if1 .left, made-held (now (start c .args .step)) (c .before .new .result) (c .as-target .result) (c .before .new .ensures) (c .as-target .ensures) (good c))
+
 returns-3 : tie.Need-returns-3
-returns-3 c = let a = c .before .before .before .before .before .before .args in
-    let e : stepNumber (now (a .step)) ≡ 0 = sym (c .before .before .step-number .ensures) ∙ c .before .if2 .left in
-    promised (now (a .costs)) (now (a .step)) _
-    (ap₂ (λ (n : ℕ) (f : IntegrationField). record { number = n; field = f }) (c .before .if2 .left) (c .start .ensures) ∙ accepts (now (a .costs)) (now (a .step)) (c .before .before .before .if1 .left) e)
+returns-3 c =
+    let t = c .before in
+    let costs = now (start t .args .costs) in
+    let step = now (start t .args .step) in
+    let target = made-target step (t .before .new .result) (t .as-target .result) (t .before .new .ensures) (t .as-target .ensures) in
+    promised costs step _
+    (ap₂ (λ (n : ℕ) (f : IntegrationField). record { number = n; field = f }) (t .before .before .if2 .left) (c .start .ensures ∙ ap (started costs) target)
+    ∙ accepts costs step (t .before .before .before .before .if1 .left) (good t))
 
 pub init-spec : {M : Type 1} → statement M
 init-spec = tie.close (tie.spec
@@ -31,5 +47,6 @@ init-spec = tie.close (tie.spec
     returns
     (λ c κs. search needs) (λ c κs. search needs)
     returns-2
-    (λ c κs. search needs)
+    (λ c κs. search needs) (λ c κs. search needs)
+    start-requires
     returns-3)

@@ -6,6 +6,7 @@ use native.Mathlib.Omega.{arith}
 use borrow.Author.Needs.{needs}
 use lib.ListN.{getD, take}
 use lib.Seq.{slice}
+use Rattle.route.proofs.Targets.{held-inside}
 use Rattle.integration_field.specs.Listed.{padded}
 use Rattle.started_field.specs.Sight.{withPortals}
 use Rattle.integration_init.proofs.Starts.{portal-step, portal-end, portal-listed}
@@ -26,7 +27,7 @@ array-read-n : tie.Need-array-read-n Inv-loop μ-loop
 array-read-n c = omega (arith, c .loop-test .taken, c .before .before .before .pre .0 .count-in)
 
 below : (c : tie.In-loop Inv-loop μ-loop) → getD (c .before .before .before .args .window .cells) (c .before .loop .i) 0 < 100
-below c = c .before .before .before .pre .0 .cells-in (c .before .loop .i) (c .loop-test .taken)
+below c = let s = c .before .before .before in held-inside (s .args .window) (s .pre .0) (c .before .loop .i) (c .loop-test .taken)
 
 mul-cells : tie.Need-mul-cells Inv-loop μ-loop
 mul-cells c = omega (arith, below (c))
@@ -46,14 +47,14 @@ add-i c = omega (arith, c .loop-test .taken, c .before .before .before .pre .0 .
 loop-again : tie.Need-loop-again Inv-loop μ-loop
 loop-again c = let s = c .before .before .before in let a = s .args in let l = c .before .loop in (
   search needs,
-  l .inv .1 ∙ portal-step (a .window .cells) (a .window .count) (s .pre .0) (l .i) (l .cells) (c .loop-test .taken),
-  portal-listed (a .window .cells) (a .window .count) (s .pre .0) (l .i) (l .corners) (c .loop-test .taken) (l .inv .2),
+  l .inv .1 ∙ portal-step (a .window) (s .pre .0) (l .i) (l .cells) (c .loop-test .taken),
+  portal-listed (a .window) (s .pre .0) (l .i) (l .corners) (c .loop-test .taken) (l .inv .2),
 )
 
 returns : tie.Need-returns Inv-loop μ-loop
 returns c = let s = c .before .before .before in let a = s .args in let l = c .before .loop in
     let e : l .i ≡ a .window .count = omega arith in (
-      sym (l .inv .1 ∙ ap (λ (k : ℕ). withPortals (slice k (a .window .count) (a .window .cells)) (l .cells)) e ∙ portal-end (a .window .cells) (a .window .count) (s .pre .0) (l .cells)),
+      sym (l .inv .1 ∙ ap (λ (k : ℕ). withPortals (slice k (a .window .count) (a .window .cells)) (l .cells)) e ∙ portal-end (a .window) (s .pre .0) (l .cells)),
       l .inv .2 ∙ ap (λ (k : ℕ). padded (take k (a .window .cells))) e,
     )
 

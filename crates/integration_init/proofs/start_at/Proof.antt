@@ -3,7 +3,7 @@
 use mathlib.Core.Path.{ap, _∙_}
 use borrow.Author.Needs.{needs}
 use denote.Ref.{now}
-use lib.ListN.{take}
+use Rattle.route.specs.Inner.{heldCells}
 use Rattle.integration_init.proofs.Starts.{portal-started}
 use Rattle.started_field.specs.Sight.{withPortals}
 use Rattle.integration_init.proofs.start_at.Statement.{statement}
@@ -11,7 +11,7 @@ use Rattle.integration_init.proofs.start_at.Tie as tie
 
 returns : tie.Need-returns
 returns c = let s = c .before .before .before .before .before .before in let a = s .args in let w = a .window in
-    portal-started (w .cells) (w .count) (s .pre .1) (now (a .costs)) _ _ (c .mark-portals .ensures .0 ∙ ap (withPortals (take (w .count) (w .cells))) (c .before .before .before .mark-walls .ensures)) (c .mark-portals .ensures .1)
+    portal-started w (s .pre .1) (now (a .costs)) _ _ (c .mark-portals .ensures .0 ∙ ap (withPortals (heldCells w)) (c .before .before .before .mark-walls .ensures)) (c .mark-portals .ensures .1)
 
 pub start-at-spec : {M : Type 1} → statement M
 start-at-spec = tie.close (tie.spec

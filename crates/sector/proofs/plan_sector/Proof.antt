@@ -1,13 +1,17 @@
--- `sector::plan_sector` meets its contract: refused by its number, or what its four calls leave. What each call answers is stated by itself, so
--- that a call with something else in a place fails there.
+-- `sector::plan_sector` meets its contract: refused by its number, or what the run of its step's target leaves.
 -- Assumes nothing.
-use mathlib.Core.Path.{_≡_, refl, sym, _∙_}
+use mathlib.Core.Path.{_≡_, refl, sym, ap, ap₂, _∙_}
 use denote.Ref.{now}
-use Rattle.integration_field.specs.Answer.{refusal, buildAnswer}
-use Rattle.started_field.specs.Started.{initAnswer}
-use Rattle.flow_field.specs.Flow.{newSheet, buildSheet}
-use Rattle.sector.specs.Sector.{sectorNumber}
-use Rattle.sector.proofs.Planned.{refuses, runs}
+use Rattle.route.specs.declared.PortalWindow.{PortalWindow}
+use Rattle.route.specs.declared.RouteStep.{RouteStep}
+use Rattle.route.specs.Target.{Target}
+use Rattle.route.proofs.Targets.{made-target, made-held}
+use Rattle.integration_field.specs.Answer.{refusal, answerOf}
+use Rattle.started_field.specs.Started.{started}
+use Rattle.flow_field.proofs.Numbers.{fits}
+use Rattle.sector.specs.Sector.{sectorNumber, sectorBytes}
+use Rattle.sector.proofs.Numbers.{Accepted, accepted}
+use Rattle.sector.proofs.Planned.{refuses, accepts}
 use borrow.Author.Needs.{needs}
 use Rattle.sector.proofs.plan_sector.Statement.{statement}
 use Rattle.sector.proofs.plan_sector.Tie as tie
@@ -31,43 +35,47 @@ returns c =
     let answer : c .refused .result ≡ refusal (numbered .sector-number .result) = search needs in
     refuses costs step has previous sheet _ number (c .before .if1 .taken) _ answer
 
-init-requires : tie.Need-init-requires
-init-requires c κs = search needs
-
-build-requires : tie.Need-build-requires
-build-requires c κs = search needs
-
 new-requires : tie.Need-new-requires
 new-requires c κs = search needs
 
-build-requires-2 : tie.Need-build-requires-2
-build-requires-2 c κs = search needs
+as-target-requires : tie.Need-as-target-requires
+as-target-requires c κs = search needs
+
+-- from where the step's target is made: the call, which is not refused, and the target
+abbrev start : tie.After-as-target → tie.Start
+start c = c .before .before .before .before .before .before .before .before
+
+number : (c : tie.After-as-target) → let a = start c .args in sectorNumber (now (a .costs)) (now (a .step)) (a .has-previous) (now (a .previous)) (now (a .sheet)) ≡ 0
+number c = sym (c .before .before .before .sector-number .ensures (now (start c .args .sheet)) refl) ∙ c .before .before .if1 .left
+
+ok : (c : tie.After-as-target) → let a = start c .args in Accepted (now (a .costs)) (now (a .step)) (a .has-previous) (now (a .previous)) (now (a .sheet))
+ok c = let a = start c .args in accepted (now (a .costs)) (now (a .step)) (a .has-previous) (now (a .previous)) (now (a .sheet)) (number c)
+
+run-requires : tie.Need-run-requires
+run-requires c κs =
+    let t = c .before in
+    let a = start t .args in
+    record {
+      costs-hundred = ok t .costs-hundred;
+      sheet-hundred = ok t .sheet-hundred;
+      target-held = made-held (now (a .step)) (t .before .new .result) (t .as-target .result) (t .before .new .ensures) (t .as-target .ensures) (ok t .step-good);
+      previous-fits = fits (a .has-previous) (now (a .previous)) (ok t .previous-fits);
+    }
 
 same-length : tie.Need-same-length
 same-length c = search needs
 
 returns-2 : tie.Need-returns-2
 returns-2 c =
-    let filled = c .before .before in
-    let begun = filled .before .before .before .before in
-    let built = begun .before .before .before in
-    let started = built .before .before in
-    let numbered = started .before .before in
-    let a = numbered .before .before .before .before .before .args in
+    let ran = c .before .before in
+    let t = ran .before .before in
+    let a = start t .args in
     let costs = now (a .costs) in
-    let step = now (a .step) in
-    let has = a .has-previous in
-    let previous = now (a .previous) in
-    let sheet = now (a .sheet) in
-    let number : numbered .sector-number .result ≡ sectorNumber costs step has previous sheet = numbered .sector-number .ensures sheet refl in
-    let cells = built .build .result .field .field in
-    let flow = begun .new .last .1 .1 .1 .1 .0 in
-    let init : started .init .result ≡ initAnswer costs step = search needs in
-    let build : built .build .result ≡ buildAnswer costs (started .init .result .field) = search needs in
-    let new : flow ≡ newSheet step cells has previous sheet = search needs in
-    let bytes : filled .build2 .last .1 .0 ≡ buildSheet cells flow = search needs in
-    let promised = runs costs step has previous sheet (sym number ∙ started .before .if1 .left) _ _ _ _ init build new bytes in
-    (promised .0, promised .1)
+    let target = made-target (now (a .step)) (t .before .new .result) (t .as-target .result) (t .before .new .ensures) (t .as-target .ensures) in
+    let portal = ap (λ (s : RouteStep). s .portal) (t .before .new .ensures) in
+    accepts costs (now (a .step)) (a .has-previous) (now (a .previous)) (now (a .sheet)) (number t) _ _
+    (ran .run .ensures .0 ∙ ap (λ (u : Target). answerOf 0 costs (started costs u)) target)
+    (ran .run .ensures .1 ∙ ap₂ (λ (u : Target) (p : PortalWindow). sectorBytes costs u p (a .has-previous) (now (a .previous))) target portal)
 
 pub plan-sector-spec : {M : Type 1} → statement M
 plan-sector-spec =
@@ -76,9 +84,8 @@ plan-sector-spec =
     sector-number-requires
     refused-requires
     returns
-    init-requires
-    build-requires
     new-requires
-    build-requires-2
+    as-target-requires
+    run-requires
     same-length
     returns-2)

@@ -1,0 +1,93 @@
+-- Moves by the bits of an arrow.
+--     away         where a step in a direction arrives, by that direction's bits
+--     reads-so     the direction that a byte reads as goes where its bits point
+--     away-once    an arrow points at one cell
+-- Assumes nothing.
+use mathlib.Core.Path.{_≡_, refl, sym, subst, _∙_}
+use mathlib.Core.Bool.{Bool, true, false, not, _&&_, _||_}
+use Prim.Native.Nat.{ℕ, _+_, _/_, _%_, _<_}
+use native.Mathlib.Omega.{arith}
+use lib.Dec.{ltb, leb, eqb}
+use borrow.Author.Tests.{ltb-true, lt-ltb, le-leb, eqb-true}
+use Rattle.utilities.specs.declared.Differences.{Differences}
+use Rattle.utilities.specs.declared.CompassDir.{CompassDir}
+use Rattle.utilities.specs.declared.CompassDir.the-variants.{North, East, South, West, NorthEast, SouthEast, SouthWest, NorthWest, Zero}
+use Rattle.utilities.specs.Compass.{differences, all}
+use Rattle.utilities.proofs.Compass.{Small, small}
+use Rattle.fields.specs.declared.Stepped.the-variants.{Cell}
+use Rattle.fields.specs.Cell.{cellAt, stepped}
+use Rattle.fields.proofs.Steps.{Arrives, steps-to, cell-inside}
+use Rattle.route.proofs.Below.{holds-at}
+use Rattle.flow_byte.specs.Byte.{bitsOf, dirWith, dirOf}
+use Rattle.arrows.specs.Arrows.{northward, eastward, southward, westward, Away}
+
+-- a direction's bits, one by one
+record Bits (d : CompassDir) : Type 0 where
+  north-is : northward (bitsOf d) ≡ differences d .north
+  east-is : eastward (bitsOf d) ≡ differences d .east
+  south-is : southward (bitsOf d) ≡ differences d .south
+  west-is : westward (bitsOf d) ≡ differences d .west
+
+bits : (d : CompassDir) → Bits d
+bits North = record { north-is = refl; east-is = refl; south-is = refl; west-is = refl }
+bits East = record { north-is = refl; east-is = refl; south-is = refl; west-is = refl }
+bits South = record { north-is = refl; east-is = refl; south-is = refl; west-is = refl }
+bits West = record { north-is = refl; east-is = refl; south-is = refl; west-is = refl }
+bits NorthEast = record { north-is = refl; east-is = refl; south-is = refl; west-is = refl }
+bits SouthEast = record { north-is = refl; east-is = refl; south-is = refl; west-is = refl }
+bits SouthWest = record { north-is = refl; east-is = refl; south-is = refl; west-is = refl }
+bits NorthWest = record { north-is = refl; east-is = refl; south-is = refl; west-is = refl }
+bits Zero = record { north-is = refl; east-is = refl; south-is = refl; west-is = refl }
+
+module _ (d : CompassDir) (x y : ℕ) where
+  abbrev δ : Differences
+  δ = differences d
+
+  b : Bits d
+  b = bits d
+
+  s : Small δ
+  s = small d refl
+
+  pub away : Arrives (cellAt x) d (cellAt y) → Away (bitsOf d) x y
+  away a = record {
+    rows = rw (b .north-is, b .south-is) (omega (arith, a .row-from, a .row-at));
+    columns = rw (b .east-is, b .west-is) (omega (arith, a .column-from, a .column-at));
+    somewhere = omega (arith, ltb-true 0 (δ .east + δ .west + δ .south + δ .north) (a .pointing));
+    not-north-south = rw (b .north-is, b .south-is) (omega (arith, s .rows));
+    not-east-west = rw (b .east-is, b .west-is) (omega (arith, s .columns));
+  }
+
+  arrives : y < 100 → Away (bitsOf d) x y → Arrives (cellAt x) d (cellAt y)
+  arrives h w =
+      let rows : y / 10 + δ .north ≡ x / 10 + δ .south = rw (b .north-is, b .south-is) at (w .rows) in
+      let columns : y % 10 + δ .west ≡ x % 10 + δ .east = rw (b .east-is, b .west-is) at (w .columns) in
+      record {
+        pointing = lt-ltb 0 (δ .east + δ .west + δ .south + δ .north) (omega (arith, w .somewhere));
+        column-from = omega (arith, columns);
+        row-from = omega (arith, rows);
+        column-at = omega (arith, columns);
+        row-at = omega (arith, rows);
+        within = cell-inside y h;
+      }
+
+-- bits that point somewhere, to no two opposite sides, are those of the direction that they read as: computed once, for all sixteen
+abbrev isArrow : ℕ → Bool
+isArrow a = ltb 0 a && leb (northward a + southward a) 1 && leb (eastward a + westward a) 1
+
+unless : (a b : Bool) → a ≡ true → (not a || b) ≡ true → b ≡ true
+unless true b t e = e
+unless false b t e = let z : _≡_ {A = ℕ} 0 1 = cc in absurd (omega arith)
+
+bits-read : (a : ℕ) → a < 16 → isArrow a ≡ true → bitsOf (dirWith all a) ≡ a
+bits-read a h e = eqb-true _ a (unless (isArrow a) _ e (holds-at 16 (λ a. not (isArrow a) || eqb (bitsOf (dirWith all a)) a) refl a h))
+
+pub reads-so : (byte x y : ℕ) → y < 100 → Away (byte % 16) x y → stepped (cellAt x) (dirOf byte) ≡ Cell (cellAt y)
+unfolding dirOf
+reads-so byte x y h w =
+    let a = byte % 16 in
+    let e = bits-read a (omega arith) (rw (lt-ltb 0 a (w .somewhere), le-leb (northward a + southward a) 1 (w .not-north-south), le-leb (eastward a + westward a) 1 (w .not-east-west))) in
+    steps-to (cellAt x) (dirWith all a) (cellAt y) (arrives (dirWith all a) x y h (subst (λ (b : ℕ). Away b x y) (sym e) w))
+
+pub away-once : (a x y z : ℕ) → Away a x y → Away a x z → y ≡ z
+away-once a x y z v w = omega (arith, v .rows, v .columns, w .rows, w .columns)

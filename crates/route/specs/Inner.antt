@@ -1,0 +1,39 @@
+-- A target as the program holds it, for the contracts of functions beneath the calls.
+-- Assumes nothing.
+use mathlib.Core.Path.{_≡_}
+use mathlib.Core.Bool.{true, false, cond}
+use mathlib.Core.List.{List, []}
+use Prim.Native.Nat.{ℕ, _<_, _≤_}
+use lib.ListN.{length, take}
+use Rattle.route.specs.declared.RouteStep.{RouteStep}
+use Rattle.route.specs.declared.WindowCells.{WindowCells}
+use Rattle.route.specs.declared.Target as program
+use Rattle.route.specs.Window.{cellsBetween, listed}
+use Rattle.route.specs.Target.{Target, to-goal, to-window, WindowIn}
+
+-- the target of a step taken apart
+abbrev pub routeTarget : RouteStep → Target
+routeTarget s = cond (s .«has_portal») (to-window (cellsBetween (s .portal .boundary) (s .portal .start) (s .portal .end))) (to-goal (s .goal))
+
+-- a target in the program: window cells in an array, with their count
+abbrev pub listedTarget : Target → program.Target
+listedTarget (to-goal n) = record { «has_window» = false; goal = n; window = listed [] }
+listedTarget (to-window cells) = record { «has_window» = true; goal = 0; window = listed cells }
+
+-- and what it stands for
+abbrev pub heldCells : WindowCells → List ℕ
+heldCells w = take (w .count) (w .cells)
+
+abbrev pub heldTarget : program.Target → Target
+heldTarget t = cond (t .«has_window») (to-window (heldCells (t .window))) (to-goal (t .goal))
+
+-- it stands for a target inside the sector
+pub record WindowHeld (w : WindowCells) : Type 0 where
+  pub full : length (w .cells) ≡ 10
+  pub count-in : w .count ≤ 10
+  pub window-in : WindowIn (heldCells w)
+
+pub record TargetHeld (t : program.Target) : Type 0 where
+  pub window-held : WindowHeld (t .window)
+  pub goal-in : t .«has_window» ≡ false → t .goal < 100
+  pub no-window : t .«has_window» ≡ false → t .window .count ≡ 0

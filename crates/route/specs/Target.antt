@@ -1,0 +1,68 @@
+-- A target: the goal cell, or the window cells, that a sector's field starts from (01, "Integration: init"). Starting, walks, arrows and flow
+-- bytes are told by it, and a step by its target.
+-- Assumes nothing.
+use mathlib.Core.Path.{_≡_}
+use mathlib.Core.Bool.{Bool, true, false, cond}
+use mathlib.Core.List.{List, [], List·Memᴰ}
+use Prim.Native.Nat.{ℕ, _/_, _%_, _<_, _≤_}
+use lib.ListN.{length, getD}
+use Rattle.route.specs.Step.{goalOf, markOf, firstOf, lastOf, boundaryByte, isWindow, windowCells}
+
+-- a goal cell; or window cells in order, which need not lie side by side
+pub data Target : Type 0 where
+  to-goal : ℕ → Target
+  to-window : List ℕ → Target
+
+-- the window cells; beside a goal there are none
+abbrev pub windowOf : Target → List ℕ
+windowOf (to-goal n) = []
+windowOf (to-window cells) = cells
+
+-- the sector is left by a window
+abbrev pub byWindow : Target → Bool
+byWindow (to-goal n) = false
+byWindow (to-window cells) = true
+
+-- a cell is the goal; a cell is a window cell
+abbrev pub GoalCell : Target → ℕ → Type 0
+GoalCell (to-goal n) x = x ≡ n
+GoalCell (to-window cells) x = ⊥
+
+abbrev pub WindowCell : Target → ℕ → Type 0
+WindowCell target x = List·Memᴰ x (windowOf target)
+
+-- cells of the sector, no cell twice, at most 10
+pub record WindowIn (cells : List ℕ) : Type 0 where
+  pub inside : (i : ℕ) → i < length cells → getD cells i 0 < 100
+  pub once : (i j : ℕ) → i < j → j < length cells → getD cells i 0 ≡ getD cells j 0 → ⊥
+  pub few : length cells ≤ 10
+
+-- a target inside the sector: that of a step that is not refused is one (`proofs/Targets.antt`, `target-in`)
+abbrev pub TargetIn : Target → Type 0
+TargetIn (to-goal n) = n < 100
+TargetIn (to-window cells) = WindowIn cells
+
+-- a step's target (01, "A leg"): with mark 1 the cells of its window, else its goal
+unfoldable pub targetOf : List ℕ → Target
+targetOf step = cond (isWindow step) (to-window (windowCells step)) (to-goal (goalOf step))
+
+-- The same cells of a step that is not refused, by its bytes, rows and columns, and by nothing that makes the list (01, "A leg"); that they are
+-- the same is `goal-told` and `window-told`, `proofs/Targets.antt`.
+pub record StepGoal (step : List ℕ) (x : ℕ) : Type 0 where
+  pub mark : markOf step ≡ 0
+  pub is : x ≡ goalOf step
+
+-- on the named edge: North row 0, East column 9, South row 9, West column 0
+pub data OnNamedEdge (boundary x : ℕ) : Type 0 where
+  north : boundary ≡ 0 → x / 10 ≡ 0 → OnNamedEdge boundary x
+  east : boundary ≡ 1 → x % 10 ≡ 9 → OnNamedEdge boundary x
+  south : boundary ≡ 2 → x / 10 ≡ 9 → OnNamedEdge boundary x
+  west : boundary ≡ 3 → x % 10 ≡ 0 → OnNamedEdge boundary x
+
+-- a window cell lies on the named edge, from the first to the last
+pub record StepWindow (step : List ℕ) (x : ℕ) : Type 0 where
+  pub mark : markOf step ≡ 1
+  pub inside : x < 100
+  pub on-edge : OnNamedEdge (boundaryByte step) x
+  pub from : firstOf step ≤ x
+  pub to : x ≤ lastOf step
