@@ -7,7 +7,7 @@
 -- Assumes nothing.
 use mathlib.Core.Path.{_≡_, refl, sym, ap, subst, _∙_}
 use mathlib.Core.Bool.{Bool, true, false, true≢false, _||_}
-use mathlib.Core.Logic.{_⊎_, inl, inr}
+use mathlib.Core.Logic.{_⊎_, inl, inr, Iff·symm}
 use mathlib.Core.List.{List, List·Memᴰ}
 use Prim.Native.Nat.{ℕ, zero, suc, _+_, _*_, _/_, _%_, _^_, _≤_, _<_}
 use native.Mathlib.Omega.{arith}
@@ -223,7 +223,7 @@ module _ (costs window cells corners built : List ℕ) (s : Sector costs window 
         (let few = rank-few s x h in
         let l = lead 100 x h (omega arith) (omega arith) in
         (l .0, omega (arith, l .1), l .2));
-    marked = λ x h. (marked-cell x h, cell-marked x h);
+    marked = λ x h. Iff·symm (cell-marked x h, marked-cell x h);
   }
 
 -- ---- a sector left by a window

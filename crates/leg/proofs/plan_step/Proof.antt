@@ -3,7 +3,10 @@
 use mathlib.Core.Path.{_≡_}
 use Prim.Native.Nat.{_+_, _-_, _*_}
 use native.Mathlib.Omega.{arith}
+use denote.Ref.{now}
+use lib.ListN.{take, drop}
 use Rattle.route.proofs.Accepted.{accepted-step}
+use Rattle.sector.specs.Sector.{sectorAnswer, sectorSheet}
 use Rattle.leg.proofs.Step.{in-floor, plans-step}
 use borrow.Author.Needs.{needs}
 use Rattle.leg.proofs.plan_step.Statement.{statement}
@@ -60,10 +63,15 @@ returns c =
     let planned = c .before .before .before .before in
     let widened = planned .before .before .before in
     let start = widened .before .before .before .before .before .before in
+    let a = start .args in
     let w = widened .wide .result in
-    let n : w * 100 + 100 - w * 100 ≡ 100 = omega arith in
-    plans-step (start .pre) w (widened .wide .ensures) (w * 100 + 100 - w * 100) n
-    (planned .plan-sector .result) (planned .plan-sector .last .1 .1 .1 .1 .0) (planned .plan-sector .ensures .0) (planned .plan-sector .ensures .1 .0)
+    let n = w * 100 + 100 - w * 100 in
+    let costs = take n (drop (w * 100) (now (a .floor))) in
+    let lent = take n (drop (w * 100) (now (a .sheet))) in
+    let bytes = planned .plan-sector .last .1 .1 .1 .1 .0 in
+    let answer : planned .plan-sector .result ≡ sectorAnswer costs (now (a .step)) (a .has-previous) (now (a .previous)) lent = search needs in
+    let wrote : bytes ≡ sectorSheet costs (now (a .step)) (a .has-previous) (now (a .previous)) lent = search needs in
+    plans-step (start .pre) w (widened .wide .ensures) n (omega arith) (planned .plan-sector .result) bytes answer wrote
 
 pub plan-step-spec : {M : Type 1} → statement M
 plan-step-spec =

@@ -2,15 +2,16 @@
 -- the sheet of the planned leg.
 -- Assumes nothing.
 use mathlib.Core.Path.{_≡_, ap, _∙_}
-use Prim.Native.Nat.{_-_, _/_, _≤_}
+use Prim.Native.Nat.{_+_, _-_, _*_, _/_, _≤_}
 use native.Mathlib.Omega.{arith}
 use denote.Ref.{now}
-use lib.ListN.{length}
+use lib.ListN.{length, take, drop}
 use lib.Dec.{ltb}
 use borrow.Author.Needs.{needs}
 use Rattle.route.specs.Step.{stepNumber}
 use Rattle.leg_plan.specs.Leg.{stepsOf, plannedFrom, planned}
 use Rattle.leg_plan.proofs.Steps.{stepsFrom, from-done, lent-step}
+use Rattle.leg.specs.Inner.{StepPlanned}
 use Rattle.leg.proofs.Step.{from-first, from-more}
 use Rattle.leg.proofs.plan_steps.Statement.{statement}
 use Rattle.leg.proofs.plan_steps.Tie as tie
@@ -68,16 +69,14 @@ loop-again : tie.Need-loop-again Inv-loop μ-loop
 loop-again c =
     let planned = c .before .before in
     let at = planned .before .before .before .before .before in
-    let steps = now (at .before .before .before .before .args .steps) in (
-      omega arith,
-      (
-        omega arith,
-        (
-          search needs,
-          at .loop .inv .1 .1 .1 ∙ from-more steps (at .loop .k) (omega arith) (lent-step steps (at .loop .k)) (planned .plan-step .ensures),
-        ),
-      ),
-    )
+    let a = at .before .before .before .before .args in
+    let steps = now (a .steps) in
+    let k = at .loop .k in
+    let step = take (k * 8 + 8 - k * 8) (drop (k * 8) steps) in
+    let built = planned .plan-step .result in
+    let after = planned .plan-step .last .1 .1 .1 .1 .0 in
+    let run : StepPlanned (now (a .floor)) step (ltb 0 k) (at .loop .previous) (at .loop .sheet) built after = search needs in
+    (omega arith, (omega arith, (search needs, at .loop .inv .1 .1 .1 ∙ from-more steps k (omega arith) (lent-step steps k) run)))
 
 same-length : tie.Need-same-length Inv-loop μ-loop
 same-length c = omega arith

@@ -63,7 +63,7 @@ loop-less c = omega arith
 
 loop-again : tie.Need-loop-again Inv-loop μ-loop
 loop-again c = let l = c .before .before .before .before .before .loop in
-    (omega arith, below-more _ (l .i) (l .inv .1) (c .before .before .if2 .left ∙ c .before .before .before .size-at2 .ensures .0, c .if3 .left ∙ c .before .word-at .ensures))
+    (omega arith, below-more _ (l .i) (l .inv .1) (omega (arith, c .before .before .before .size-at2 .ensures .0), omega (arith, c .before .word-at .ensures)))
 
 returns-4 : tie.Need-returns-4 Inv-loop μ-loop
 returns-4 c = let k : c .before .loop .i ≡ 100 = omega arith in
