@@ -2,8 +2,8 @@
 --     by-kind     a cell's built word is a window cell's, a wall's, or a cost alone
 --     falls       beside a reached cell that is no window cell lies one of lower cost, from which its own cost is made
 --     rank        how many cells cost less than a cell: at most 99
---     bounded     a reached cell costs at most 254 for each cell of lower cost, so 25,146 at most
---     spreads     beside a reached cell every cell but a wall is reached: the sum stays below 65535
+--     bounded     a reached cell costs at most 254 for each of the at most 99 moves of a walk into it, so 25,146 at most
+--     spreads     beside a reached cell every cell but a wall is reached: the sum stays below 65535. It asks for no cost from 1 on
 -- Assumes nothing.
 use mathlib.Core.Path.{_≡_, refl, sym, ap, _∙_}
 use mathlib.Core.Bool.{Bool, true, false, true≢false, _||_, or-true}
@@ -45,8 +45,6 @@ in-among x (y ∷ l) e = go (eqb y x) refl e (λ t. in-among x l t)
 pub record Sector (costs window cells corners built : List ℕ) : Type 0 where
   pub started : WindowStarted costs window cells corners
   pub least : LeastWalks costs cells corners built
-  -- no cost 0
-  pub cost-from : (x : ℕ) → x < 100 → 1 ≤ getD costs x 0
   pub cost-to : (x : ℕ) → x < 100 → getD costs x 0 ≤ 255
 
 module _ {costs window cells corners built : List ℕ} (s : Sector costs window cells corners built) where
@@ -103,20 +101,20 @@ module _ {costs window cells corners built : List ℕ} (s : Sector costs window 
 
   -- ---- walks into reached cells
 
-  -- a permitted walk comes to what the cell holds
+  -- a permitted walk of at most 99 moves comes to what the cell holds
   abbrev Arrived : ℕ → Type 0
-  Arrived x = (k : ℕ) × Permitted costs cells corners k x (value x)
+  Arrived x = (k : ℕ) × Permitted costs cells corners k x (value x) × (k ≤ 99)
 
   walk-into : (x : ℕ) → x < 100 → value x < 65535 → Arrived x
   walk-into x h r =
       by-kind x h
-      (λ a e. (zero, start {x = x} {s = value x} (rw (s .started .list) (among-mem x window a)) (omega (arith, ap low e, ap low (s .started .portal-cell x a)))))
+      (λ a e. (zero, start {x = x} {s = value x} (rw (s .started .list) (among-mem x window a)) (omega (arith, ap low e, ap low (s .started .portal-cell x a))), omega arith))
       (λ c a e. absurd (omega (arith, ap low e)))
       (λ p l. plain p l (s .least .attained x))
     where
       plain : Plain x → getD built x 0 < 2 ^ 16 → (getD built x 0 ≡ getD cells x 0) ⊎ Walked costs cells corners x (getD built x 0) → Arrived x
       plain p l (inl e) = absurd (omega (arith, ap low e, ap low (plain-word x p)))
-      plain p l (inr w) = let e : value x ≡ getD built x 0 = omega arith in (w .moves, rw e (w .walk))
+      plain p l (inr w) = let e : value x ≡ getD built x 0 = omega arith in (w .moves, rw e (w .walk), w .few)
 
   -- one move more
   enters : (y x : ℕ) → Arrived y → BesideAt y x → Plain x → value y + getD costs x 0 < 65535 → value x ≤ value y + getD costs x 0
@@ -138,14 +136,15 @@ module _ {costs window cells corners built : List ℕ} (s : Sector costs window 
     pub lower : value cell < value x
     pub exact : value x ≤ value cell + getD costs x 0
 
-  pub falls : (x : ℕ) → Plain x → value x < 65535 → Lower x
-  falls x p r = go (walk-into x (p .inside) r)
+  -- with no cost 0
+  pub falls : ((x : ℕ) → x < 100 → 1 ≤ getD costs x 0) → (x : ℕ) → Plain x → value x < 65535 → Lower x
+  falls cost-from x p r = go (walk-into x (p .inside) r)
     where
       back : {k : ℕ} → (t : ℕ) → t ≡ value x → Permitted costs cells corners k x t → Lower x
       back t q (start c e) = absurd (p .no-window (mem-among x window (rw (s .started .list) at c)))
       back t q (move {k = j} {y = y} {t = u} w b m e) =
           let least = s .least .none-below j y u w in
-          let c = s .cost-from x (p .inside) in
+          let c = cost-from x (p .inside) in
           let i = beside-below y x b .0 in
           let l : value y < value x = omega arith in
           record {
@@ -185,16 +184,17 @@ module _ {costs window cells corners built : List ℕ} (s : Sector costs window 
 
   -- ---- spreading
 
-  bounded : (r x : ℕ) → x < 100 → rank x < r → value x < 65535 → value x ≤ 254 * rank x
-  bounded zero x h l v = absurd (omega arith)
-  bounded (suc r) x h l v =
-      by-kind x h (λ a e. omega (arith, ap low e)) (λ c a e. absurd (omega (arith, ap low e)))
-      (λ p q.
-      let f = falls x p v in
-      let less = rank-less x (f .cell) (f .inside) (f .lower) in
-      let b = bounded r (f .cell) (f .inside) (omega arith) (omega (arith, f .lower)) in
-      let c : getD costs x 0 ≤ 254 = omega (arith, s .cost-to x h, p .no-wall) in
-      omega (arith, f .exact))
+  -- what a walk enters is no wall, so that it costs at most 254
+  entered-cost : (x : ℕ) → x < 100 → isImpassable (getD cells x 0) ≡ false → (Among x window → ⊥) → getD costs x 0 ≤ 254
+  entered-cost x h f a =
+      let no-wall : getD costs x 0 ≡ 255 → ⊥ = λ c. true≢false (sym (ap isImpassable (s .started .wall-cell x h c a)) ∙ f) in
+      omega (arith, s .cost-to x h, no-wall)
+
+  bounded : (k x t : ℕ) → Permitted costs cells corners k x t → t ≤ 254 * k
+  bounded k x t (start c e) = omega (arith, ap low (s .started .portal-cell x (mem-among x window (rw (s .started .list) at c))))
+  bounded k x t (move {k = i} {y = y} {t = u} w b m e) =
+      let at-window : Among x window → ⊥ = λ a. absurd (omega (arith, m .below, ap low (s .started .portal-cell x a))) in
+      omega (arith, bounded i y u w, entered-cost x (beside-below y x b .1) (m .no-wall) at-window)
 
   -- a cell that is no wall
   abbrev pub NoWall : ℕ → Type 0
@@ -206,6 +206,6 @@ module _ {costs window cells corners built : List ℕ} (s : Sector costs window 
       by-kind x (beside-below y x b .1) (λ a e. omega (arith, ap low e)) (λ c a e. absurd (true≢false (sym (ap isImpassable e) ∙ n)))
       (λ p q.
       let c : getD costs x 0 ≤ 254 = omega (arith, s .cost-to x (p .inside), p .no-wall) in
-      let few = rank-few y y-in in
-      let m = bounded 100 y y-in (omega arith) v in
-      omega (arith, enters y x (walk-into y y-in v) b p (omega arith)))
+      let w = walk-into y y-in v in
+      let m = bounded (w .0) y (value y) (w .1) in
+      omega (arith, enters y x w b p (omega (arith, w .2))))

@@ -54,7 +54,8 @@ small-start w h = rw (small-flag w 17 (omega arith), small-flag w 19 (omega arit
 small-untaken : (w : ℕ) → w < 2 ^ 16 → (isGoal w || isPortal w) ≡ false
 small-untaken w h = rw (small-flag w 17 (omega arith), small-flag w 19 (omega arith))
 
-module _ (costs window cells corners built : List ℕ) (s : Sector costs window cells corners built) (portal : PortalWindow) (has : Bool) (previous : List ℕ) where
+module _ (costs window cells corners built : List ℕ) (s : Sector costs window cells corners built) (cost-from : (x : ℕ) → x < 100 → 1 ≤ getD costs x 0)
+    (portal : PortalWindow) (has : Bool) (previous : List ℕ) where
   abbrev target : Target
   target = to-window window
 
@@ -144,7 +145,7 @@ module _ (costs window cells corners built : List ℕ) (s : Sector costs window 
   next-of x p l r = go (lookAround built x) (plain-byte x p l) (found built x (p .inside) reached (value s x) (f .cell) (d .0) (d .1) (d .2) (f .lower))
     where
       f : Lower s x
-      f = falls s x p r
+      f = falls s cost-from x p r
 
       reached : (d : CompassDir) (n : ℕ) → Sees built x d n → low (getD built n 0) < 65535
       reached d n e = reached-there s x d n e r
@@ -242,14 +243,15 @@ module _ (costs window : List ℕ) (w : WindowSector costs (to-window window)) w
   inside x m = let a = mem-among x corners m in omega (arith, told .corner-in (a .0) (a .1), a .2)
 
   sector : Sector costs window cells corners (builtCells costs (to-window window))
-  sector = record { started = told; least = least-walks costs cells corners (told .full) inside; cost-from = λ x h. omega (arith, w .no-zero x h); cost-to = w .byte }
+  sector = record { started = told; least = least-walks costs cells corners (told .full) inside; cost-to = w .byte }
 
 pub arrows-lead : (costs : List ℕ) (target : Target) → WindowSector costs target → (portal : PortalWindow) (has : Bool) (previous : List ℕ)
     → ArrowsLead costs target (builtCells costs target)
     (flowBuild (builtCells costs target) (newBytes portal (windowOf target) (builtCells costs target) has previous))
 arrows-lead costs (to-goal goal) w portal has previous = absurd (true≢false (sym (w .by-window)))
 arrows-lead costs (to-window window) w portal has previous =
-    sector-arrows costs window (cells costs window w) (corners costs window w) (builtCells costs (to-window window)) (sector costs window w) portal has previous
+    sector-arrows costs window (cells costs window w) (corners costs window w) (builtCells costs (to-window window)) (sector costs window w)
+    (λ x h. w .no-zero x h) portal has previous
 
 -- for a call that writes what building makes of a sheet of 100 bytes
 pub build-arrows : (cells entry exit : List ℕ) → (length entry ≡ 100 → exit ≡ flowBuild cells entry) → BuildArrows cells entry exit
