@@ -2,6 +2,7 @@
 -- Assumes nothing.
 use mathlib.Core.Path.{_≡_, sym, ap, ap₂, _∙_}
 use Prim.Native.Nat.{ℕ}
+use native.Mathlib.Omega.{arith}
 use borrow.Author.Needs.{needs}
 use denote.Ref.{now}
 use Rattle.integration_field.specs.declared.IntegrationField.{IntegrationField}
@@ -13,7 +14,8 @@ use Rattle.integration_init.proofs.init.Statement.{statement}
 use Rattle.integration_init.proofs.init.Tie as tie
 
 returns : tie.Need-returns
-returns c = let a = c .before .before .before .before .args in promised (now (a .costs)) (now (a .step)) _ (c .refused .ensures ∙ costs-refused (now (a .costs)) (now (a .step)) (c .before .if1 .taken))
+returns c = let a = c .before .before .before .before .args in
+    promised (now (a .costs)) (now (a .step)) _ (c .refused .ensures ∙ costs-refused (now (a .costs)) (now (a .step)) (λ e. omega (arith, c .before .if1 .taken)))
 
 returns-2 : tie.Need-returns-2
 returns-2 c = let a = c .before .before .before .before .before .before .args in

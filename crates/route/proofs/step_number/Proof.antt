@@ -1,3 +1,7 @@
+use native.Mathlib.Omega.{arith}
+use denote.Ref.{now}
+use lib.ListN.{length}
+use borrow.Author.Tests.{ne-eqb}
 use Rattle.route.specs.Step.{eachStep, stepNumber}
 use Rattle.route.proofs.Rows.{tests}
 use borrow.Author.Needs.{needs}
@@ -6,7 +10,7 @@ use Rattle.route.proofs.step_number.Tie as tie
 
 returns : tie.Need-returns
 unfolding stepNumber
-returns c = search tests
+returns c = rw (ne-eqb (length (now (c .before .before .args .step))) 8 (λ e. omega (arith, c .if1 .taken)))
 
 shared-slice-read-each-step : tie.Need-shared-slice-read-each-step
 shared-slice-read-each-step c = search needs
