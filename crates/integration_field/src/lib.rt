@@ -1,7 +1,8 @@
 // The integration field: 100 cells of 32 bits, the cost in the low 16 and flags above, and the list of its corners.
 use fields::FieldCell;
 ghost use mathlib.Core.Path.{_≡_};
-ghost use Rattle.fields.specs.Cell.{indexOr};
+ghost use Prim.Native.Nat.{_<_};
+ghost use Rattle.fields.specs.Cell.{Inside, indexOf};
 ghost use Rattle.integration_field.specs.Word.{low, isLos, isGoal, isBlocked, isPortal, isImpassable};
 ghost use Rattle.integration_field.specs.Diagonal.{wallAt, betweenWalls};
 ghost use Rattle.integration_field.specs.Listed.{zeroField};
@@ -81,28 +82,20 @@ pub fn low_bits(cost: u32) -> u32
     cost & INT_FILTER_BITS_COST
 }
 
-// Whether the cell at an index is a wall, of cells that are lent as a slice; there is no wall beyond the last.
-fn is_wall_of(cells: &[u32], n: usize) -> bool
-    ensures { λ r. ⌜ r ≡ wallAt (now (cells .entry)) n ⌝ }
-{
-    if n < cells.len() {
-        return is_impassable(cells[n]);
-    }
-    false
-}
-
-// Whether the cell at an index is a wall; an index over 99 has none.
+// Whether the cell at an index is a wall.
 pub fn is_wall_at(cells: &[u32; 100], n: usize) -> bool
+    requires { ⌜ n < 100 ⌝ }
     ensures { λ r. ⌜ r ≡ wallAt (now (cells .entry)) n ⌝ }
 {
-    is_wall_of(cells, n)
+    let value = cells[n];
+    is_impassable(value)
 }
 
-// Whether a move between two cells is diagonal, with both cells beside it walls; a move from or to a cell outside the sector is not.
+// Whether a move between two cells is diagonal, with both cells beside it walls.
 pub fn is_between_walls(cells: &[u32; 100], from: FieldCell, to: FieldCell) -> bool
-    ensures { λ r. ⌜ r ≡ betweenWalls (now (cells .entry)) (indexOr 100 from) (indexOr 100 to) ⌝ }
+    requires { ⌜ Inside from × Inside to ⌝ }
+    ensures { λ r. ⌜ r ≡ betweenWalls (now (cells .entry)) (indexOf from) (indexOf to) ⌝ }
 {
-    let lent: &[u32] = cells;
     let from_column = from.column;
     let from_row = from.row;
     let to_column = to.column;
@@ -113,18 +106,10 @@ pub fn is_between_walls(cells: &[u32; 100], from: FieldCell, to: FieldCell) -> b
     if from_column == to_column {
         return false;
     }
-    let in_row = FieldCell {
-        column: to_column,
-        row: from_row,
-    };
-    if !is_wall_of(lent, in_row.as_1d_index()) {
+    if !is_wall_at(cells, from_row * 10 + to_column) {
         return false;
     }
-    let in_column = FieldCell {
-        column: from_column,
-        row: to_row,
-    };
-    is_wall_of(lent, in_column.as_1d_index())
+    is_wall_at(cells, to_row * 10 + from_column)
 }
 
 impl IntegrationField {
