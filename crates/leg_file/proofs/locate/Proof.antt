@@ -1,0 +1,39 @@
+-- `leg_file::locate` meets its contract: what `number` and `read` answer, and where that part stands.
+-- Assumes nothing.
+use denote.Ref.{now}
+use mathlib.Core.Path.{_≡_, refl, sym, _∙_}
+use borrow.Author.Needs.{needs}
+use borrow.Author.Tests.{ne-eqb}
+use Rattle.leg_file.specs.File.{fileAnswer, fileNumber}
+use Rattle.leg_file.proofs.Laws.{place-read, place-refused, written-same}
+use Rattle.leg_file.proofs.locate.Statement.{statement}
+use Rattle.leg_file.proofs.locate.Tie as tie
+
+number-requires : tie.Need-number-requires
+number-requires c κs = search needs
+
+read-requires : tie.Need-read-requires
+read-requires c κs = search needs
+
+returns : tie.Need-returns
+unfolding fileAnswer
+returns c =
+    let judged = c .before .before in
+    let file = now (judged .before .before .args .file) in
+    let n = judged .number .ensures in
+    let part = c .before .read .ensures .0 in
+    let z = sym n ∙ c .if1 .taken in
+    rw (n, part, place-read file z) (rw z, (refl, written-same file))
+
+returns-2 : tie.Need-returns-2
+unfolding fileAnswer
+returns-2 c =
+    let judged = c .before .before in
+    let file = now (judged .before .before .args .file) in
+    let n = judged .number .ensures in
+    let part = c .before .read .ensures .0 in
+    let bad : fileNumber file ≡ 0 → ⊥ = λ z. c .if1 .left (n ∙ z) in
+    rw (n, part, place-refused file bad) (rw (ne-eqb (fileNumber file) 0 bad), (refl, written-same file))
+
+pub locate-spec : {M : Type 1} → statement M
+locate-spec = tie.close (tie.spec number-requires read-requires returns returns-2)

@@ -1,0 +1,44 @@
+-- `leg_file::put_head` meets its contract: six bytes, one behind the other.
+-- Assumes nothing.
+use native.Mathlib.Omega.{arith}
+use lib.ListN.{length-set}
+use borrow.Author.Needs.{needs}
+use Rattle.leg_file.proofs.put_head.Statement.{statement}
+use Rattle.leg_file.proofs.put_head.Tie as tie
+
+slice-write-file : tie.Need-slice-write-file
+slice-write-file c = search needs
+
+slice-write-file-2 : tie.Need-slice-write-file-2
+slice-write-file-2 c = simp length-set (omega arith)
+
+slice-write-file-3 : tie.Need-slice-write-file-3
+slice-write-file-3 c = simp length-set (omega arith)
+
+slice-write-file-4 : tie.Need-slice-write-file-4
+slice-write-file-4 c = simp length-set (omega arith)
+
+slice-write-file-5 : tie.Need-slice-write-file-5
+slice-write-file-5 c = simp length-set (omega arith)
+
+slice-write-file-6 : tie.Need-slice-write-file-6
+slice-write-file-6 c = simp length-set (omega arith)
+
+same-length : tie.Need-same-length
+same-length c = search needs
+
+returns : tie.Need-returns
+returns c = search needs
+
+pub put-head-spec : {M : Type 1} → statement M
+put-head-spec =
+    tie.close
+    (tie.spec
+    slice-write-file
+    slice-write-file-2
+    slice-write-file-3
+    slice-write-file-4
+    slice-write-file-5
+    slice-write-file-6
+    same-length
+    returns)

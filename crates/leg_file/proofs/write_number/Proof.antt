@@ -1,0 +1,39 @@
+-- `leg_file::write_number` meets its contract: a line of the table at each return.
+-- Assumes nothing.
+use denote.Ref.{now}
+use mathlib.Core.Path.{sym, _∙_}
+use native.Mathlib.Omega.{arith}
+use lib.ListN.{length}
+use borrow.Author.Needs.{needs}
+use borrow.Author.Tests.{eq-eqb, ne-eqb}
+use Rattle.leg_file.specs.File.{fileOf, writeNumber}
+use Rattle.leg_file.proofs.write_number.Statement.{statement}
+use Rattle.leg_file.proofs.write_number.Tie as tie
+
+is-no-step-list-requires : tie.Need-is-no-step-list-requires
+is-no-step-list-requires c κs = search needs
+
+returns : tie.Need-returns
+unfolding writeNumber
+returns c file e = rw (sym (c .before .is-no-step-list .ensures) ∙ c .if1 .taken)
+
+add-if2 : tie.Need-add-if2
+add-if2 c = search needs
+
+returns-2 : tie.Need-returns-2
+unfolding writeNumber
+returns-2 c file e =
+    let listed = c .before .before in
+    let steps = now (listed .before .before .args .steps) in
+    rw (sym (listed .is-no-step-list .ensures) ∙ c .before .if1 .left, ne-eqb (length file) (length (fileOf steps)) (λ h. omega arith))
+
+returns-3 : tie.Need-returns-3
+unfolding writeNumber
+returns-3 c file e =
+    let listed = c .before .before in
+    let steps = now (listed .before .before .args .steps) in
+    rw (sym (listed .is-no-step-list .ensures) ∙ c .before .if1 .left, eq-eqb (length file) (length (fileOf steps)) (omega arith))
+
+pub write-number-spec : {M : Type 1} → statement M
+write-number-spec =
+    tie.close (tie.spec is-no-step-list-requires returns add-if2 returns-2 returns-3)
