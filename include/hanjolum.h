@@ -7,7 +7,7 @@
  * Memory.  All memory is the caller's and is lent for the time of the call: no pointer is kept, nothing is allocated,
  * there are no globals. Every function may be called from several threads at once, each with a sheet of its own.
  * Read-only memory (`const`) may be shared between arguments and between threads; it must not change during the call.
- * A sheet must not overlap any other argument.
+ * A sheet, and the buffer that a leg's file is written to, must not overlap any other argument.
  *
  * Slices.  A pointer and behind it its length, in elements. A length other than the one that a function asks for is
  * refused, never read past; that of previous is judged only with has_previous, and without it previous may be NULL. Where
@@ -32,8 +32,12 @@
  *     5      boundary that the window leads across: 0 North, 1 East, 2 South, 3 West (not read where the mark is 0)
  *     6, 7   0
  *
+ * Leg files.  A leg's steps as a file, for carrying: the mark `LEG`, a 16-bit version 1 (low byte first), a byte for the
+ * step count 1 to 16, the steps, and nothing after; 14 to 134 bytes. No byte of a step is judged where a file is written
+ * or read: that is done when the leg is planned.
+ *
  * Refusals.  An accepted call's number is 0. A refused one answers the number of the first line below that holds, of
- * those that its function names, writes not one byte of the sheet, and has every other part of its answer zero.
+ * those that its function names, writes not one byte of what it is lent, and has every other part of its answer zero.
  *     1   cost bytes not 100 (leg: 6,400)
  *     2   sheet not 100 bytes (leg: 6,400)
  *     3   step not 8 bytes (leg: none, over 128, or no multiple of 8)
@@ -47,7 +51,9 @@
  *     11  building by hand: corner count over 100, or a listed corner over 99
  *     12  a previous field lent as other than 100 numbers
  *     13  a column or row outside 0 to 9
- * In a leg 4 to 8 are judged for one step before the next.
+ *     14  leg file: mark, version, count or length wrong
+ * In a leg 4 to 8 are judged for one step before the next. The writer of a leg file judges 3 as a leg does, and then 2
+ * for a buffer that is not exactly as long as the file.
  *
  * Time and stack.  Every call ends, on all input. Each wave is one call on the stack, of 1,280 bytes in the compiled
  * archive, and there are at most 101 at a time: no call needs as much as 150,000 bytes (read off the archive, not proved).
@@ -74,6 +80,8 @@ enum {
     HANJOLUM_STEPS = 16,       /* steps of a leg, at most */
     HANJOLUM_SECTORS = 64,     /* sectors of a floor */
     HANJOLUM_FLOOR = 6400,     /* bytes of a floor, and of its sheet */
+    HANJOLUM_FILE_HEAD = 6,    /* bytes of a leg file before its steps */
+    HANJOLUM_FILE = 134,       /* bytes of a leg file, at most */
     HANJOLUM_WALL = 255        /* the cost byte of a wall */
 };
 
@@ -144,6 +152,13 @@ typedef struct {
     HanjolumFieldCell cell;
 } HanjolumLineEnd;
 
+/* The steps of a leg file: its `length` bytes from byte `start` on. */
+typedef struct {
+    uint8_t number;
+    size_t start;
+    size_t length;
+} HanjolumLegFile;
+
 /*
  * Plans one sector: starts the field of a step on 100 cost bytes, builds it, and writes its 100 flow bytes to the sheet,
  * whatever they were before. Answers the built field and its wave count.
@@ -172,6 +187,22 @@ uint8_t hanjolum_leg(
     const uint8_t *floor, size_t floor_length,
     const uint8_t *steps, size_t steps_length,
     uint8_t *sheet, size_t sheet_length);
+
+/*
+ * Writes the file of a list of 1 to 16 steps to a buffer of HANJOLUM_FILE_HEAD + steps_length bytes. What is written is
+ * read back the same.
+ * Answers its number: 0, or 3, or 2 for a buffer that is shorter or longer.
+ */
+uint8_t hanjolum_leg_file_write(
+    const uint8_t *steps, size_t steps_length,
+    uint8_t *file, size_t file_length);
+
+/*
+ * Finds the steps in a leg file: they are the bytes of the file itself, from start on. A file that is read is what
+ * hanjolum_leg_file_write gives for its steps.
+ * Number 14.
+ */
+HanjolumLegFile hanjolum_leg_file_read(const uint8_t *file, size_t file_length);
 
 /*
  * The field that a step starts on 100 cost bytes: walls, and the goal with what is in its sight, or the window cells.

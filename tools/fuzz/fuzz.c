@@ -144,9 +144,30 @@ static void kept(uint8_t number, const Fenced *sheet)
         fail("a refusal wrote");
 }
 
+/* A leg's file: steps written to a buffer of any length and read back, then the file with a byte spoiled read again. */
+static void file_calls(Fenced *route, Fenced *file)
+{
+    place(route, near(8 * (1 + below(17))));
+    steps(route);
+    place(file, near(HANJOLUM_FILE_HEAD + route->length));
+    fill(file);
+    memcpy(before, file->at, file->length);
+    uint8_t number = hanjolum_leg_file_write(route->at, route->length, file->at, file->length);
+    kept(number, file);
+    HanjolumLegFile read = hanjolum_leg_file_read(file->at, file->length);
+    if (number == 0 && (read.number != 0 || read.length != route->length || memcmp(file->at + read.start, route->at, read.length) != 0))
+        fail("a file is not read back the same");
+    if (file->length != 0)
+        file->at[below((uint32_t)file->length)] = (uint8_t)draw();
+    read = hanjolum_leg_file_read(file->at, file->length);
+    if (read.number != 0 ? read.start != 0 || read.length != 0 : read.start + read.length != file->length)
+        fail("the steps of a file are not where they must be");
+}
+
 /* One call of each kind that writes a sheet, and one of each that does not. */
 static void round_of_calls(Fenced *costs, Fenced *route, Fenced *previous, Fenced *sheet)
 {
+    file_calls(route, sheet);
     int leg = below(4) == 0;
     place(costs, near(leg ? 6400 : 100));
     place(route, near(leg ? 8 * (1 + below(17)) : 8));

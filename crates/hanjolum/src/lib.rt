@@ -3,9 +3,11 @@ use bresenham::Line;
 use fields::FieldCell;
 use integration_field::BuildAnswer;
 use integration_field::IntegrationField;
+use leg_file::LegFile;
 use line_end::LineEnd;
 use started_field::InitAnswer;
 ghost use mathlib.Core.Path.{_≡_};
+ghost use lib.ListN.{take, drop};
 ghost use Rattle.utilities.specs.Compass.{numberOf};
 ghost use Rattle.fields.specs.Cell.{cell};
 ghost use Rattle.bresenham.specs.Line.{lineCall, shallowCall, steepCall};
@@ -24,6 +26,8 @@ ghost use Rattle.sector.specs.Sector.{sectorAnswer, sectorSheet};
 ghost use Rattle.sector.specs.Promise.{Planned};
 ghost use Rattle.leg_plan.specs.Leg.{stepsOf, legNumber, legSheet};
 ghost use Rattle.leg_plan.specs.Promise.{LegPlanned};
+ghost use Rattle.leg_file.specs.File.{writeNumber, writtenFile, fileSteps, fileAnswer};
+ghost use Rattle.leg_file.specs.Promise.{ReadBack, WrittenSame};
 
 // The sector call: the field that a step starts, built, and its flow bytes, or number 1, 2, 3, 4 to 8, or 12.
 #[no_mangle]
@@ -49,6 +53,26 @@ pub extern "C" fn hanjolum_leg(floor: &[u8], steps: &[u8], sheet: &mut [u8]) -> 
     ensures planned { λ r. ⌜ (r ≡ 0 → LegPlanned (now (floor .entry)) (stepsOf (now (steps .entry))) (now (sheet .entry)) (now (sheet .exit))) ⌝ }
 {
     leg::plan_leg(floor, steps, sheet)
+}
+
+// A list of steps, written as a file to a buffer exactly as long: 0, or number 3 or 2.
+#[no_mangle]
+pub extern "C" fn hanjolum_leg_file_write(steps: &[u8], file: &mut [u8]) -> u8
+    ensures number { λ r. ⌜ r ≡ writeNumber (now (steps .entry)) (now (file .entry)) ⌝ }
+    ensures file { λ _. ⌜ now (file .exit) ≡ writtenFile (now (steps .entry)) (now (file .entry)) ⌝ }
+    ensures back { λ r. ⌜ ReadBack (now (steps .entry)) (now (file .entry)) (now (file .exit)) r ⌝ }
+{
+    leg_file::write(steps, file)
+}
+
+// The place of the steps in a file, or number 14.
+#[no_mangle]
+pub extern "C" fn hanjolum_leg_file_read(file: &[u8]) -> LegFile
+    ensures answer { λ r. ⌜ r ≡ fileAnswer (now (file .entry)) ⌝ }
+    ensures part { λ r. ⌜ take (r .length) (drop (r .start) (now (file .entry))) ≡ fileSteps (now (file .entry)) ⌝ }
+    ensures same { λ r. ⌜ WrittenSame (now (file .entry)) (take (r .length) (drop (r .start) (now (file .entry)))) ⌝ }
+{
+    leg_file::locate(file)
 }
 
 // The field that a step starts on a sector's costs, or number 1, 3, or 4 to 8.
