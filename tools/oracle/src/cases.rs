@@ -12,7 +12,8 @@ pub enum Ask {
     FlowBoth,
 }
 
-/// An input. A call reads the parts that it has, the others stay as `Case::of` leaves them.
+/// An input. A call reads the parts that it has, the others stay as `Case::of` leaves them. A leg's file is lent as
+/// `steps` to be read, and as `sheet` to be written.
 #[derive(Clone, PartialEq, Debug)]
 pub struct Case {
     pub ask: Ask,
@@ -36,6 +37,8 @@ pub struct Outcome {
     pub readings: Option<Readings>,
     pub field: IntegrationField,
     pub waves: usize,
+    /// Start and length of the steps in a leg's file.
+    pub part: [usize; 2],
     pub sheet: Vec<u8>,
     /// What is lent to be read is unchanged, and no guard beside lent memory is.
     pub memory_kept: bool,
@@ -104,6 +107,11 @@ impl Case {
             Ask::One(Call::FlowBuild) => Outcome::of_number(side.flow_build(self.field, sheet)),
             Ask::One(Call::Sector) => Outcome::of_build(side.sector(costs, steps, previous, sheet)),
             Ask::One(Call::Leg) => Outcome::of_number(side.leg(costs, steps, sheet)),
+            Ask::One(Call::LegFileWrite) => Outcome::of_number(side.leg_file_write(steps, sheet)),
+            Ask::One(Call::LegFileRead) => {
+                let found = side.leg_file_read(steps);
+                Outcome { part: [found.start, found.length], ..Outcome::of_number(found.number) }
+            }
             Ask::FlowBoth => {
                 let number = side.flow_new(steps, self.field, previous, sheet);
                 let second = if number == 0 { side.flow_build(self.field, sheet) } else { 0 };
@@ -156,6 +164,7 @@ impl Outcome {
             readings: None,
             field: IntegrationField::ZERO,
             waves: 0,
+            part: [0; 2],
             sheet: Vec::new(),
             memory_kept: true,
         }
@@ -180,6 +189,7 @@ impl Outcome {
         differ(&mut found, "corner count", &[self.field.count], &[other.field.count]);
         differ(&mut found, "los_corners", &self.field.los_corners, &other.field.los_corners);
         differ(&mut found, "waves", &[self.waves], &[other.waves]);
+        differ(&mut found, "part", &self.part, &other.part);
         let bytes = |sheet: &[u8]| sheet.iter().map(|byte| Hex(u32::from(*byte))).collect::<Vec<_>>();
         differ(&mut found, "sheet", &bytes(&self.sheet), &bytes(&other.sheet));
         differ(&mut found, "memory kept", &[self.memory_kept], &[other.memory_kept]);

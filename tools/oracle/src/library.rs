@@ -102,6 +102,8 @@ unsafe extern "C" {
         sheet: *mut u8,
         sheet_length: usize,
     ) -> u8;
+    fn hanjolum_leg_file_write(steps: *const u8, steps_length: usize, file: *mut u8, file_length: usize) -> u8;
+    fn hanjolum_leg_file_read(file: *const u8, file_length: usize) -> LegFile;
 }
 
 #[allow(unused_variables)]
@@ -126,6 +128,8 @@ impl Subject for Library {
             Call::FlowBuild => cfg!(export = "hanjolum_flow_build"),
             Call::Sector => cfg!(export = "hanjolum_sector"),
             Call::Leg => cfg!(export = "hanjolum_leg"),
+            Call::LegFileWrite => cfg!(export = "hanjolum_leg_file_write"),
+            Call::LegFileRead => cfg!(export = "hanjolum_leg_file_read"),
         }
     }
 
@@ -211,5 +215,16 @@ impl Subject for Library {
             "hanjolum_leg",
             hanjolum_leg(floor.as_ptr(), floor.len(), steps.as_ptr(), steps.len(), sheet.as_mut_ptr(), sheet.len())
         )
+    }
+
+    fn leg_file_write(&self, steps: &[u8], file: &mut [u8]) -> u8 {
+        exported!(
+            "hanjolum_leg_file_write",
+            hanjolum_leg_file_write(steps.as_ptr(), steps.len(), file.as_mut_ptr(), file.len())
+        )
+    }
+
+    fn leg_file_read(&self, file: &[u8]) -> LegFile {
+        exported!("hanjolum_leg_file_read", hanjolum_leg_file_read(file.as_ptr(), file.len()))
     }
 }

@@ -8,6 +8,7 @@ use reference::flowfields::fields::{Field, flow_field};
 use reference::flowfields::utilities::CompassDir;
 
 use crate::judges::{Judge, decides};
+use crate::model::Model;
 use crate::refusals::{self, Given};
 use crate::subject::*;
 
@@ -17,6 +18,7 @@ pub struct Oracle;
 pub fn judges(call: Call) -> &'static [Judge] {
     match call {
         Call::Build | Call::Sector => &[Judge::Published, Judge::Counted],
+        Call::LegFileWrite | Call::LegFileRead => &[Judge::Model],
         _ => &[Judge::Published],
     }
 }
@@ -256,5 +258,17 @@ impl Subject for Oracle {
             before = Some(field);
         }
         0
+    }
+
+    // What has no Rust is answered by the model of document 02.
+
+    fn leg_file_write(&self, steps: &[u8], file: &mut [u8]) -> u8 {
+        decides(Judge::Model);
+        Model::PLAIN.write_file(steps, file)
+    }
+
+    fn leg_file_read(&self, file: &[u8]) -> LegFile {
+        decides(Judge::Model);
+        Model::PLAIN.read_file(file)
     }
 }

@@ -356,6 +356,7 @@ fn refusal(case: &Case) -> Vec<u8> {
         Call::LineEnd => 7,
         Call::Readers => unreachable!("the readers refuse nothing"),
         Call::WalkShallow | Call::WalkSteep => unreachable!("the walks alone are not recorded"),
+        Call::LegFileWrite | Call::LegFileRead => unreachable!("a leg's file is not recorded"),
     };
     let short = |value: usize| (value as u16).to_le_bytes();
     let place = case.field.los_corners.iter().position(|corner| *corner != 0).unwrap_or(0);

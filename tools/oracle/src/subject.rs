@@ -79,6 +79,15 @@ pub struct LineEnd {
     pub cell: FieldCell,
 }
 
+/// Where the steps stand in a leg's file.
+#[repr(C)]
+#[derive(Clone, Copy, PartialEq, Eq, Debug, Default)]
+pub struct LegFile {
+    pub number: u8,
+    pub start: usize,
+    pub length: usize,
+}
+
 /// A yes or no, and the numbers lent beside it.
 #[derive(Clone, Copy, Debug)]
 pub struct Previous<'a> {
@@ -111,6 +120,8 @@ pub enum Call {
     FlowBuild,
     Sector,
     Leg,
+    LegFileWrite,
+    LegFileRead,
 }
 
 /// A side of the comparison. A refusal answers its number, zeros else, and writes nothing.
@@ -128,6 +139,8 @@ pub trait Subject {
     fn flow_build(&self, field: IntegrationField, sheet: &mut [u8]) -> u8;
     fn sector(&self, costs: &[u8], step: &[u8], previous: Previous, sheet: &mut [u8]) -> BuildAnswer;
     fn leg(&self, floor: &[u8], steps: &[u8], sheet: &mut [u8]) -> u8;
+    fn leg_file_write(&self, steps: &[u8], file: &mut [u8]) -> u8;
+    fn leg_file_read(&self, file: &[u8]) -> LegFile;
 }
 
 /// The answers of a refusal.

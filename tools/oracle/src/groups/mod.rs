@@ -4,6 +4,7 @@
 
 mod bad;
 mod good;
+mod leg_files;
 
 use crate::cases::{Case, Outcome};
 use crate::floors::Rng;
@@ -46,6 +47,8 @@ pub const GROUPS: &[Group] = &[
     Group { name: "sector", needs: &[Call::Sector], cases: good::sectors, reaches: &[0] },
     Group { name: "sector, two walls", needs: &[Call::Sector], cases: good::two_walls, reaches: &[0] },
     Group { name: "leg", needs: &[Call::Leg], cases: good::legs, reaches: &[0] },
+    Group { name: "file write", needs: &[Call::LegFileWrite], cases: leg_files::writes, reaches: &[0, 2, 3] },
+    Group { name: "file read", needs: &[Call::LegFileRead], cases: leg_files::reads, reaches: &[0, 14] },
     Group { name: "line refusals", needs: &[Call::Line], cases: bad::lines, reaches: &[0, 13] },
     Group { name: "walk shallow refusals", needs: &[Call::WalkShallow], cases: bad::shallow_walks, reaches: &[0, 13] },
     Group { name: "walk steep refusals", needs: &[Call::WalkSteep], cases: bad::steep_walks, reaches: &[0, 13] },
@@ -73,7 +76,7 @@ pub const GROUPS: &[Group] = &[
 pub struct Clean {
     pub inputs: usize,
     /// How often each number was due.
-    pub numbers: [usize; 14],
+    pub numbers: [usize; 21],
     /// How many inputs each judge decided, by its place in `Judge::ALL`. A build has two: fields and waves.
     pub judged: [usize; 4],
 }

@@ -177,4 +177,12 @@ impl Subject for Model {
         self.plan(floor, steps, sheet);
         0
     }
+
+    fn leg_file_write(&self, steps: &[u8], file: &mut [u8]) -> u8 {
+        self.write_file(steps, file)
+    }
+
+    fn leg_file_read(&self, file: &[u8]) -> LegFile {
+        self.read_file(file)
+    }
 }

@@ -1,9 +1,10 @@
-//! A model of document 01, written from that page and not from the Rust, and the same model with one
-//! slip planted (`Slip`), to see that the groups find it.
+//! A model of document 01, and of what document 02 adds, written from those pages and not from the Rust or the library,
+//! and the same model with one slip planted (`Slip`), to see that the groups find it.
 
 mod answers;
 mod flow;
 mod integration;
+mod leg_file;
 mod line;
 mod numbers;
 mod slips;
