@@ -1,6 +1,7 @@
 // Compares our calls with recorded answers, a file for each section: prints how many records agree and a sum of all
 // their bytes, or the first record that differs. The answers are the Rust's; a file that has another judge has its name
 // behind a dot.
+mod files;
 mod flow;
 mod integration;
 mod legs;
@@ -27,6 +28,8 @@ fn agrees(section: u8, record: &[u8]) -> bool {
         7 => integration::sector_agrees(record),
         8 => legs::leg_agrees(record),
         9 => refusals::refusal_agrees(record),
+        10 => files::write_agrees(record),
+        11 => files::read_agrees(record),
         _ => false,
     }
 }
@@ -93,4 +96,6 @@ fn main() {
     replay(7, b"sector", 1112);
     replay(8, b"leg", 3330);
     replay(9, b"refusals.table", 160);
+    replay(10, b"leg_file_write.model", 314);
+    replay(11, b"leg_file_read.model", 154);
 }

@@ -1,5 +1,6 @@
 //! The recorded sample: a file for each section, each a sequence of records of one length, input
-//! bytes first and expected bytes after them. Numbers of 16 and 32 bits stand lowest byte first.
+//! bytes first and expected bytes after them (in records of a leg's files as told below). Numbers of
+//! 16 and 32 bits stand lowest byte first.
 //!
 //! | file | bytes | input | expected |
 //! |---|---|---|---|
@@ -13,6 +14,8 @@
 //! | sector | 1112 | 100 costs, 8 step, has_previous, 100 previous of 32 bits | number, waves, count, 100 corners, 100 cells of 32 bits, 100 sheet |
 //! | leg | 3330 | step count, 128 steps, 16 times 100 costs | number, 16 times 100 sheet |
 //! | refusals.table | 160 | see below | number, 4 zeros |
+//! | leg_file_write.model | 314 | list length, buffer length, buffer's byte, list in 150 places | number, buffer in 160 places |
+//! | leg_file_read.model | 154 | file length, file in 150 places | number, start, length of the part |
 //!
 //! A file whose name has no dot holds answers of the Rust; its wave counts are those of the counted copy. Behind a dot
 //! stands the judge of a file that has no Rust: `table`, the reading of document 01's table of refusals, or `model`, the
@@ -31,6 +34,11 @@
 //! corner is 0); 4 coordinates; 136 step bytes. What a call does not have is not read. All lent costs
 //! are 1, sheet bytes 0x55, previous numbers and cells 0. Where the number is 0 the call is accepted,
 //! and only its number is recorded.
+//!
+//! leg_file_write.model: list length, buffer length, the byte that fills the buffer before the call,
+//! number, 150 places for the list, 160 for the buffer after the call. leg_file_read.model: file length,
+//! number, start and length of the part that holds the steps, 150 places for the file. Places beyond a
+//! length are 0.
 //!
 //! Nothing here comes from the program that replays it.
 
@@ -64,6 +72,13 @@ impl Section {
             None => &[Judge::Published],
         }
     }
+
+    /// The line that `replay` has to print: how many records agree, all of them, and a sum of their bytes.
+    pub fn agreed(&self) -> String {
+        let bytes = self.records.iter().flatten();
+        let sum = bytes.fold(0, |sum: u64, byte| (sum * 257 + u64::from(*byte)) % 4_294_967_291);
+        format!("{}: records that agree: {}, sum of the bytes: {sum}", self.name, self.records.len())
+    }
 }
 
 /// All sections, in the order of the layers.
@@ -80,6 +95,8 @@ pub fn sections() -> Vec<Section> {
         Section { name: "sector", length: 1112, records: sectors(rng()) },
         Section { name: "leg", length: 3330, records: legs(rng()) },
         Section { name: "refusals.table", length: 160, records: refusals() },
+        Section { name: "leg_file_write.model", length: 314, records: file_writes(rng()) },
+        Section { name: "leg_file_read.model", length: 154, records: file_reads(rng()) },
     ]
 }
 
@@ -356,7 +373,7 @@ fn refusal(case: &Case) -> Vec<u8> {
         Call::LineEnd => 7,
         Call::Readers => unreachable!("the readers refuse nothing"),
         Call::WalkShallow | Call::WalkSteep => unreachable!("the walks alone are not recorded"),
-        Call::LegFileWrite | Call::LegFileRead => unreachable!("a leg's file is not recorded"),
+        Call::LegFileWrite | Call::LegFileRead => unreachable!("a leg's files have sections of their own"),
     };
     let short = |value: usize| (value as u16).to_le_bytes();
     let place = case.field.los_corners.iter().position(|corner| *corner != 0).unwrap_or(0);
@@ -506,4 +523,105 @@ fn previous_at_limits() -> Vec<Case> {
         }
     }
     cases
+}
+
+/// Some bytes, and zeros in the places beyond them.
+fn placed(bytes: &[u8], places: usize) -> impl Iterator<Item = u8> + '_ {
+    assert!(bytes.len() <= places, "{} bytes have no room in {places} places", bytes.len());
+    bytes.iter().copied().chain(std::iter::repeat(0)).take(places)
+}
+
+fn any_bytes(rng: &mut Rng, length: usize) -> Vec<u8> {
+    (0..length).map(|_| rng.draw() as u8).collect()
+}
+
+fn file_write(steps: &[u8], room: usize, old: u8) -> Vec<u8> {
+    let mut file = vec![old; room];
+    let number = Oracle.leg_file_write(steps, &mut file);
+    let mut record = vec![steps.len() as u8, room as u8, old, number];
+    record.extend(placed(steps, 150));
+    record.extend(placed(&file, 160));
+    record
+}
+
+/// Lists at the limits of 3, each with a buffer as long as the file, a byte shorter and a byte longer, and with an empty
+/// one; steps whose every byte is 255; then any lists and buffers.
+fn file_writes(mut rng: Rng) -> Vec<Vec<u8>> {
+    let mut records = Vec::new();
+    for length in [0, 1, 7, 8, 9, 16, 64, 120, 127, 128, 129, 136] {
+        for room in [length + 6, length + 5, length + 7, 0] {
+            records.push(file_write(&any_bytes(&mut rng, length), room, rng.pick(&[0x55, 0, 255])));
+        }
+    }
+    records.extend([8, 128].map(|length| file_write(&vec![255; length], length + 6, 0)));
+    for most in [1, 2, 3, 5, 8, 12, 16] {
+        let steps = floors::any_leg(&mut rng, most);
+        records.push(file_write(&steps, steps.len() + 6, rng.draw() as u8));
+    }
+    for _ in 0..8 {
+        let length = rng.below(151);
+        records.push(file_write(&any_bytes(&mut rng, length), rng.below(161), rng.draw() as u8));
+    }
+    records
+}
+
+fn file_read(file: &[u8]) -> Vec<u8> {
+    let found = Oracle.leg_file_read(file);
+    let mut record = vec![file.len() as u8, found.number, found.start as u8, found.length as u8];
+    record.extend(placed(file, 150));
+    record
+}
+
+/// A file of any steps, whose version, count byte and bytes of steps are these.
+fn file_with(rng: &mut Rng, version: [u8; 2], count: u8, length: usize) -> Vec<u8> {
+    [b"LEG", &version[..], &[count], &any_bytes(rng, length)].concat()
+}
+
+/// Count bytes and bytes of steps that do not fit: 0 and 17 steps, another count's length, a byte too few or too many.
+const MISCOUNTED: [(u8, usize); 19] = [
+    (0, 0),
+    (0, 8),
+    (17, 136),
+    (17, 128),
+    (255, 128),
+    (1, 16),
+    (2, 8),
+    (15, 128),
+    (16, 120),
+    (16, 136),
+    (8, 8),
+    (128, 128),
+    (1, 7),
+    (1, 9),
+    (2, 15),
+    (2, 17),
+    (16, 127),
+    (16, 129),
+    (17, 135),
+];
+
+/// Every count; files cut short; each byte of the mark wrong; versions; what `MISCOUNTED` has; steps whose every byte is
+/// 255; then any bytes, and good files with a byte of the head or of the steps made another.
+fn file_reads(mut rng: Rng) -> Vec<Vec<u8>> {
+    let mut files: Vec<Vec<u8>> =
+        (1..=16).map(|count| file_with(&mut rng, [1, 0], count, 8 * usize::from(count))).collect();
+    let one = files[0].clone();
+    files.extend((0..=6).map(|length| one[..length].to_vec()));
+    for (at, byte) in [(0, b'l'), (1, b'e'), (2, b'g'), (0, 0), (1, b'L'), (2, 255)] {
+        let mut file = file_with(&mut rng, [1, 0], 1, 8);
+        file[at] = byte;
+        files.push(file);
+    }
+    let versions = [[0, 1], [0, 0], [2, 0], [1, 1], [1, 255], [255, 255]];
+    files.extend(versions.map(|version| file_with(&mut rng, version, 1, 8)));
+    files.extend(MISCOUNTED.map(|(count, length)| file_with(&mut rng, [1, 0], count, length)));
+    files.extend([1, 16].map(|count| [b"LEG\x01\0", &[count as u8][..], &vec![255; 8 * count]].concat()));
+    for most in [6, 6, 14, 134] {
+        let mut file = file_with(&mut rng, [1, 0], 16, 128);
+        file[rng.below(most)] = rng.draw() as u8;
+        files.push(file);
+        let length = rng.below(151);
+        files.push(any_bytes(&mut rng, length));
+    }
+    files.iter().map(|file| file_read(file)).collect()
 }

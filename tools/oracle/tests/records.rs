@@ -2,7 +2,7 @@
 //! of the sample says.
 
 use oracle::judges::Judge;
-use oracle::model::Model;
+use oracle::model::{Model, Slip};
 use oracle::records::sections;
 use oracle::subject::*;
 
@@ -66,8 +66,16 @@ fn a_file_without_a_rust_judge_says_so_in_its_name() {
         .filter(|section| !section.judges().contains(&Judge::Published))
         .map(|section| section.name)
         .collect();
-    assert_eq!(without, ["refusals.table"]);
+    assert_eq!(without, ["refusals.table", "leg_file_write.model", "leg_file_read.model"]);
     assert!(sections.iter().all(|section| section.name.contains('.') == without.contains(&section.name)));
+}
+
+/// The sums are made from the records here, not by the program that replays them.
+#[test]
+fn replay_has_to_print_what_the_records_say() {
+    let printed = include_str!("../../../crates/replay/stdout");
+    let due: Vec<String> = sections().iter().map(|section| section.agreed()).collect();
+    assert_eq!(printed.lines().collect::<Vec<&str>>(), due);
 }
 
 #[test]
@@ -175,4 +183,43 @@ fn refusals() {
         assert_eq!(answered, number);
         assert!(number == 0 || sheet.iter().all(|byte| *byte == 0x55));
     });
+}
+
+/// Whether a model answers what a record of a leg's file written says.
+fn writes_so(model: &Model, r: &mut Reader) -> bool {
+    let (length, room, old, number) = (usize::from(r.byte()), usize::from(r.byte()), r.byte(), r.byte());
+    let (steps, due) = (r.bytes(150), r.bytes(160));
+    assert!(steps[length..].iter().chain(&due[room..]).all(|byte| *byte == 0), "zeros beyond the lengths");
+    let mut file = vec![old; room];
+    model.leg_file_write(&steps[..length], &mut file) == number && file == due[..room]
+}
+
+/// The same of one read.
+fn reads_so(model: &Model, r: &mut Reader) -> bool {
+    let [length, number, start, part] = [(); 4].map(|()| r.byte());
+    let file = r.bytes(150);
+    assert!(file[usize::from(length)..].iter().all(|byte| *byte == 0), "zeros beyond the length");
+    let due = LegFile { number, start: usize::from(start), length: usize::from(part) };
+    model.leg_file_read(&file[..usize::from(length)]) == due
+}
+
+#[test]
+fn leg_files() {
+    each("leg_file_write.model", |r| assert!(writes_so(&MODEL, r)));
+    each("leg_file_read.model", |r| assert!(reads_so(&MODEL, r)));
+}
+
+/// The model alone made these records, so they are also asked to tell it from each wrong one.
+#[test]
+fn leg_files_show_every_slip() {
+    let found = |slip: Slip, name: &str, agrees: fn(&Model, &mut Reader) -> bool| {
+        let section = sections().into_iter().find(|section| section.name == name).expect("a section of that name");
+        section.records.iter().any(|record| !agrees(&Model { slip }, &mut Reader(record)))
+    };
+    let slips: Vec<_> = Slip::ALL.iter().filter(|(_, text)| text.starts_with("file: ")).collect();
+    assert!(!slips.is_empty());
+    for (slip, text) in slips {
+        let written = found(*slip, "leg_file_write.model", writes_so);
+        assert!(written || found(*slip, "leg_file_read.model", reads_so), "not shown: {text}");
+    }
 }

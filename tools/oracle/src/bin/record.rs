@@ -1,5 +1,5 @@
-//! Writes the recorded sample, a file for each section and a README that says how it was made; with
-//! `--check`, compares the files that are there with what it would write.
+//! Writes the recorded sample, a file for each section and a README that says how it was made, and prints the lines that
+//! `replay` has to print of it; with `--check`, compares the files that are there with what it would write.
 
 use std::fs;
 use std::path::{Path, PathBuf};
@@ -34,13 +34,12 @@ fn readme(sections: &[Section]) -> String {
 }
 
 /// The files and what they hold.
-fn files() -> Vec<(String, Vec<u8>)> {
-    let sections = sections();
-    for section in &sections {
+fn files(sections: &[Section]) -> Vec<(String, Vec<u8>)> {
+    for section in sections {
         assert!(section.records.iter().all(|record| record.len() == section.length), "{}: a length", section.name);
     }
-    let mut files = vec![("README.md".to_string(), readme(&sections).into_bytes())];
-    files.extend(sections.into_iter().map(|section| (section.name.to_string(), section.records.concat())));
+    let mut files = vec![("README.md".to_string(), readme(sections).into_bytes())];
+    files.extend(sections.iter().map(|section| (section.name.to_string(), section.records.concat())));
     files
 }
 
@@ -62,7 +61,7 @@ fn arguments(words: Vec<String>) -> Result<(bool, PathBuf), String> {
 /// Holds the files of a folder to what would be written.
 fn check(folder: &Path) -> Result<(), String> {
     let mut otherwise = Vec::new();
-    for (name, bytes) in files() {
+    for (name, bytes) in files(&sections()) {
         let same = fs::read(folder.join(&name)).is_ok_and(|there| there == bytes);
         println!("{name}: {}", if same { "as recorded" } else { "OTHERWISE" });
         if !same {
@@ -77,11 +76,14 @@ fn check(folder: &Path) -> Result<(), String> {
 
 fn write(folder: &Path) -> Result<(), String> {
     fs::create_dir_all(folder).map_err(|e| format!("{}: {e}", folder.display()))?;
-    for (name, bytes) in files() {
+    let sections = sections();
+    for (name, bytes) in files(&sections) {
         let path = folder.join(&name);
         fs::write(&path, &bytes).map_err(|e| format!("{}: {e}", path.display()))?;
         println!("{name}: {} bytes", bytes.len());
     }
+    println!("\nWhat `replay` has to print, crates/replay/stdout:");
+    sections.iter().for_each(|section| println!("{}", section.agreed()));
     Ok(())
 }
 

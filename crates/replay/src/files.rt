@@ -1,0 +1,29 @@
+// The records of a leg's files.
+use records::byte_at;
+use records::front;
+use records::part;
+use records::size_at;
+
+// A record: lengths of list and buffer, the byte that fills the buffer; number; 150 bytes of list; 160 of the buffer.
+pub fn write_agrees(record: &[u8]) -> bool {
+    let length = size_at(record, 0);
+    let room = size_at(record, 1);
+    if length > 150 || room > 160 {
+        return false;
+    }
+    let mut file = [byte_at(record, 2); 160];
+    let number = leg_file::write(part(record, 4, 4 + length), front(&mut file, room));
+    number == byte_at(record, 3) && check::same(part(&file, 0, room), part(record, 154, 154 + room))
+}
+
+// A record: length of the file; number, start and length of the part; 150 bytes of file.
+pub fn read_agrees(record: &[u8]) -> bool {
+    let length = size_at(record, 0);
+    if length > 150 {
+        return false;
+    }
+    let found = leg_file::locate(part(record, 4, 4 + length));
+    found.number == byte_at(record, 1)
+        && found.start == size_at(record, 2)
+        && found.length == size_at(record, 3)
+}
