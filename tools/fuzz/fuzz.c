@@ -159,7 +159,9 @@ static void file_calls(Fenced *route, Fenced *file)
         fail("a file is not read back the same");
     if (file->length != 0)
         file->at[below((uint32_t)file->length)] = (uint8_t)draw();
+    counted(read.number);
     read = hanjolum_leg_file_read(file->at, file->length);
+    counted(read.number);
     if (read.number != 0 ? read.start != 0 || read.length != 0 : read.start + read.length != file->length)
         fail("the steps of a file are not where they must be");
 }
