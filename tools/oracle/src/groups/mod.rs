@@ -114,11 +114,12 @@ fn compared(case: &Case, side: &dyn Subject) -> Compared {
 }
 
 impl Group {
-    /// The judges of the group: those of its calls, and the table where it must have reached a refusal.
+    /// The judges of the group: those of its calls, and the table where it must have reached a refusal that the model
+    /// does not judge.
     pub fn judges(&self) -> Vec<Judge> {
         let accepted = self.needs.iter().filter(|_| self.reaches.contains(&0)).flat_map(|call| oracle::judges(*call));
         let named: Vec<Judge> = accepted.copied().collect();
-        let table = self.reaches.iter().any(|number| *number != 0);
+        let table = self.reaches.iter().any(|number| *number != 0) && !named.contains(&Judge::Model);
         let named = |judge: &Judge| named.contains(judge) || (*judge == Judge::Table && table);
         Judge::ALL.into_iter().filter(named).collect()
     }
