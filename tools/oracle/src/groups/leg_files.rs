@@ -65,6 +65,34 @@ fn in_full() -> impl Iterator<Item = Case> {
     short.chain(long).map(read_case)
 }
 
+/// The bytes that are tried at each place of a short file: two, and three for the count.
+fn tried(at: usize) -> &'static [u8] {
+    const HEAD: [&[u8]; 6] = [b"LG", b"EL", b"GE", &[1, 0], &[0, 1], &[1, 2, 0]];
+    HEAD.get(at).copied().unwrap_or(&[0, 255])
+}
+
+/// The k-th file of this length.
+fn short_file(length: usize, mut k: usize) -> Vec<u8> {
+    let byte = |at| {
+        let bytes = tried(at);
+        let byte = bytes[k % bytes.len()];
+        k /= bytes.len();
+        byte
+    };
+    (0..length).map(byte).collect()
+}
+
+fn short_files(length: usize) -> usize {
+    (0..length).map(|at| tried(at).len()).product()
+}
+
+/// Every file of 0 to 20 bytes of those above, or every n-th of them where fewer inputs are asked for.
+fn short(inputs: usize) -> impl Iterator<Item = Case> {
+    let total: usize = (0..=20).map(short_files).sum();
+    let all = (0..=20).flat_map(|length| (0..short_files(length)).map(move |k| read_case(short_file(length, k))));
+    all.step_by((total / inputs.max(1)).max(1))
+}
+
 /// A good file, with up to two bytes spoiled and now and then another length.
 fn nearly_good(rng: &mut Rng) -> Vec<u8> {
     let count = 1 + rng.below(17);
@@ -82,7 +110,7 @@ fn nearly_good(rng: &mut Rng) -> Vec<u8> {
 }
 
 pub fn reads(rng: Rng, inputs: usize) -> Cases {
-    Box::new(in_full().chain(drawn(rng, inputs, |rng| {
+    Box::new(in_full().chain(short(inputs)).chain(drawn(rng, inputs, |rng| {
         let any = |rng: &mut Rng| (0..rng.below(200)).map(|_| rng.draw() as u8).collect();
         read_case(if rng.one_in(8) { any(rng) } else { nearly_good(rng) })
     })))
