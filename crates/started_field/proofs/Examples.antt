@@ -23,7 +23,8 @@ use Rattle.started_field.specs.Sight.{
   waveLooked,
   sightAfter,
 }
-use Rattle.started_field.specs.Started.{sightFrom, startedAt}
+use Rattle.started_field.specs.CornerLine.{cornerLine}
+use Rattle.started_field.specs.Started.{startedAt}
 
 -- the words of an open cell and of a wall
 abbrev free : ℕ
@@ -98,7 +99,7 @@ cell-seen = refl
 
 -- Three open cells in a row, walls around, the goal at the left end: wave 1 costs 1, wave 2 looks from one cell and leaves one, and it is
 -- the second wave that comes to the right end.
-abbrev row : List ℕ
+abbrev pub row : List ℕ
 row = replicate 3 1 ++ replicate 11 255
 
 pub first-wave : getD (sightAfter itself (walls row) 0 1 .cells) 1 0 ≡ 1 + 0x10000
@@ -109,6 +110,11 @@ pub second-queue : sightAfter itself (walls row) 0 2 .queue ≡ 2 ∷ []
 unfolding walls withGoal seen wallMet sideTried neighbourLooked lookedAround waveLooked sightAfter stepped
 second-queue = refl
 
-pub whole-row : getD (sightFrom row 0 .cells) 2 0 ≡ 2 + 0x10000
-unfolding sightFrom walls withGoal seen wallMet sideTried neighbourLooked lookedAround waveLooked sightAfter stepped
-whole-row = refl
+-- with the lines of corners: the third wave leaves no cell to look from; `Whole.antt` goes on from here to the end of sight
+pub third-queue : sightAfter (cornerLine 0) (walls row) 0 3 .queue ≡ []
+unfolding walls withGoal seen wallMet sideTried neighbourLooked lookedAround waveLooked sightAfter stepped
+third-queue = refl
+
+pub third-wave : getD (sightAfter (cornerLine 0) (walls row) 0 3 .cells) 2 0 ≡ 2 + 0x10000
+unfolding walls withGoal seen wallMet sideTried neighbourLooked lookedAround waveLooked sightAfter stepped
+third-wave = refl

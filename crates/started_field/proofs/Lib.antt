@@ -8,6 +8,7 @@ pub mod Room
 pub mod Wave
 pub mod FirstWave
 pub mod Waves
+pub mod Whole
 pub mod Window
 pub mod Lines
 pub mod Started
