@@ -21,7 +21,8 @@ ghost use Rattle.started_field.specs.Started.{initAnswer, StartedField};
 ghost use Rattle.least_walks.specs.Promise.{OnceBuilt, BuildsStarted};
 ghost use Rattle.flow_byte.specs.Byte.{dirOf, isPathable, hasLineOfSight, isGoal, isPortalGoal, isWall};
 ghost use Rattle.arrows.specs.Promise.{BuildArrows};
-ghost use Rattle.flow_field.specs.Flow.{newNumber, newSheet, buildNumber, buildSheet};
+ghost use Rattle.flow_new.specs.Flow.{newNumber, newSheet};
+ghost use Rattle.flow_build.specs.Flow.{buildNumber, buildSheet};
 ghost use Rattle.sector.specs.Sector.{sectorAnswer, sectorSheet};
 ghost use Rattle.sector.specs.Promise.{Planned};
 ghost use Rattle.leg_plan.specs.Leg.{stepsOf, legNumber, legSheet};
@@ -108,7 +109,7 @@ pub extern "C" fn hanjolum_flow_new(
     ensures number { λ r. ⌜ r ≡ newNumber (now (step .entry)) «has_previous» (now (previous .entry)) (now (sheet .entry)) ⌝ }
     ensures sheet { λ _. ⌜ now (sheet .exit) ≡ newSheet (now (step .entry)) (field .field) «has_previous» (now (previous .entry)) (now (sheet .entry)) ⌝ }
 {
-    flow_field::new(step, field, has_previous, previous, sheet)
+    flow_new::new(step, field, has_previous, previous, sheet)
 }
 
 // The flow field of an integration field, by hand, from the bytes of the sheet, or number 2.
@@ -118,7 +119,7 @@ pub extern "C" fn hanjolum_flow_build(field: IntegrationField, sheet: &mut [u8])
     ensures sheet { λ _. ⌜ now (sheet .exit) ≡ buildSheet (field .field) (now (sheet .entry)) ⌝ }
     ensures arrows { λ _. ⌜ BuildArrows (field .field) (now (sheet .entry)) (now (sheet .exit)) ⌝ }
 {
-    flow_field::build(field, sheet)
+    flow_build::build(field, sheet)
 }
 
 // The line from one cell to another: its cells and their count, or number 13.

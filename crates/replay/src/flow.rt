@@ -10,7 +10,7 @@ pub fn new_agrees(record: &[u8]) -> bool {
     let previous = given.field;
     let has_previous = byte_at(record, 408) == 1;
     let mut sheet = [0x55u8; 100];
-    let number = flow_field::new(
+    let number = flow_new::new(
         part(record, 0, 8),
         field,
         has_previous,
@@ -25,7 +25,7 @@ pub fn build_agrees(record: &[u8]) -> bool {
     let mut sheet = [0u8; 100];
     bytes::copy(part(record, 400, 500), &mut sheet);
     let field = field_of(part(record, 0, 400));
-    let number = flow_field::build(field, &mut sheet);
+    let number = flow_build::build(field, &mut sheet);
     number == byte_at(record, 500) && check::same(&sheet, part(record, 501, 601))
 }
 

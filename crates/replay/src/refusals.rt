@@ -59,8 +59,8 @@ fn call_number(record: &[u8], costs: &[u8], step: &[u8], previous: &[u32], sheet
     match byte_at(record, 0) {
         0 => init_number(record, costs, step),
         1 => build_number(record, integration_build::build(costs, field)),
-        2 => flow_field::new(step, field, has_previous, previous, sheet),
-        3 => flow_field::build(field, sheet),
+        2 => flow_new::new(step, field, has_previous, previous, sheet),
+        3 => flow_build::build(field, sheet),
         4 => build_number(
             record,
             sector::plan_sector(costs, step, has_previous, previous, sheet),

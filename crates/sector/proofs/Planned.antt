@@ -24,8 +24,8 @@ use Rattle.started_field.specs.Started.{started}
 use Rattle.least_walks.proofs.Promise.{built, demand3}
 use Rattle.flow_byte.specs.New.{windowBits, newByte, newBytes}
 use Rattle.flow_byte.specs.Look.{builtByte, flowBuild}
-use Rattle.flow_field.specs.Flow.{buildNumber, buildSheet}
-use Rattle.flow_field.proofs.Sheets.{bytes-length}
+use Rattle.flow_build.specs.Flow.{buildNumber, buildSheet}
+use Rattle.flow_byte.proofs.Sheets.{bytes-length}
 use Rattle.arrows.proofs.Bytes.{new-length}
 use Rattle.arrows.proofs.Lead.{arrows-lead}
 use Rattle.sector.specs.Sector.{sectorNumber, sectorField, sectorBytes, sectorAnswer, sectorSheet}

@@ -59,8 +59,8 @@ pub fn run(
     let field = integration_init::start(costs, target);
     let answer = integration_build::build(costs, field);
     let built = answer.field;
-    flow_field::new_cells(portal, target.window, built, has_previous, previous, sheet);
-    flow_field::build(built, sheet);
+    flow_new::new_cells(portal, target.window, built, has_previous, previous, sheet);
+    flow_build::build(built, sheet);
     answer
 }
 

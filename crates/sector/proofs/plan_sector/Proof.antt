@@ -8,7 +8,7 @@ use Rattle.route.specs.Target.{Target}
 use Rattle.route.proofs.Targets.{made-target, made-held}
 use Rattle.integration_field.specs.Answer.{refusal, answerOf}
 use Rattle.started_field.specs.Started.{started}
-use Rattle.flow_field.proofs.Numbers.{fits}
+use Rattle.flow_new.proofs.Numbers.{fits}
 use Rattle.sector.specs.Sector.{sectorNumber, sectorBytes}
 use Rattle.sector.proofs.Numbers.{Accepted, accepted}
 use Rattle.sector.proofs.Planned.{refuses, accepts}

@@ -1,4 +1,0 @@
-pub mod Looks
-pub mod Sheets
-pub mod Starts
-pub mod Numbers
