@@ -220,7 +220,7 @@ pub fn new(
     if bytes != 100 {
         return 2;
     }
-    let number = route::step_number(step);
+    let number = step_numbers::step_number(step);
     if 0 < number {
         return number;
     }

@@ -482,7 +482,7 @@ pub fn init(costs: &[u8], step: &[u8]) -> InitAnswer
     if costs.len() != 100 {
         return refused(1);
     }
-    let number = route::step_number(step);
+    let number = step_numbers::step_number(step);
     if number != 0 {
         return refused(number);
     }

@@ -27,7 +27,7 @@ fn each_step(steps: &[u8]) -> u8
     let mut k = 0;
     while k < count {
         let at = k * 8;
-        let number = route::step_number(&steps[at..at + 8]);
+        let number = step_numbers::step_number(&steps[at..at + 8]);
         if number != 0 {
             return number;
         }
@@ -135,7 +135,7 @@ fn leg_number(floor: &[u8], steps: &[u8], sheet_length: usize) -> u8
     if sheet_length != 6400 {
         return 2;
     }
-    if route::is_no_step_list(steps) {
+    if step_numbers::is_no_step_list(steps) {
         return 3;
     }
     let number = each_step(steps);

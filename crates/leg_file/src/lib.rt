@@ -25,7 +25,7 @@ fn wide(byte: u8) -> usize
 fn write_number(steps: &[u8], file_length: usize) -> u8
     ensures { λ r. ⌜ ((file : List ℕ) → length file ≡ «file_length» → r ≡ writeNumber (now (steps .entry)) file) ⌝ }
 {
-    if route::is_no_step_list(steps) {
+    if step_numbers::is_no_step_list(steps) {
         return 3;
     }
     if file_length != 6 + steps.len() {

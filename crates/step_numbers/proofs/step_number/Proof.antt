@@ -2,11 +2,11 @@ use native.Mathlib.Omega.{arith}
 use denote.Ref.{now}
 use lib.ListN.{length}
 use borrow.Author.Tests.{ne-eqb}
 use Rattle.route.specs.Step.{eachStep, stepNumber}
 use Rattle.route.proofs.Rows.{tests}
 use borrow.Author.Needs.{needs}
-use Rattle.route.proofs.step_number.Statement.{statement}
-use Rattle.route.proofs.step_number.Tie as tie
+use Rattle.step_numbers.proofs.step_number.Statement.{statement}
+use Rattle.step_numbers.proofs.step_number.Tie as tie
 
 returns : tie.Need-returns
 unfolding stepNumber

@@ -1,13 +1,13 @@
 use mathlib.Core.Path.{ap}
 use Rattle.utilities.specs.declared.CompassDir.{CompassDir}
 use Rattle.route.specs.Window.{onEdge}
 use borrow.Author.Tests.{not-true, not-false}
 use mathlib.Core.Path.{sym, _∙_}
 use Rattle.route.specs.Step.{eachStep}
 use Rattle.route.proofs.Rows.{tests}
 use borrow.Author.Needs.{needs}
-use Rattle.route.proofs.window_number.Statement.{statement}
-use Rattle.route.proofs.window_number.Tie as tie
+use Rattle.step_numbers.proofs.window_number.Statement.{statement}
+use Rattle.step_numbers.proofs.window_number.Tie as tie
 
 returns : tie.Need-returns
 unfolding eachStep

@@ -2,10 +2,10 @@ use Prim.Native.Nat.{_+_}
 use borrow.Author.Tests.{lt-ltb, le-ltb, ne-eqb}
 use native.Mathlib.Omega.{arith}
 use Rattle.utilities.proofs.Compass.{small}
 use Rattle.route.proofs.Cells.{on-edge}
 use borrow.Author.Needs.{needs}
-use Rattle.route.proofs.on_edge.Statement.{statement}
-use Rattle.route.proofs.on_edge.Tie as tie
+use Rattle.step_numbers.proofs.on_edge.Statement.{statement}
+use Rattle.step_numbers.proofs.on_edge.Tie as tie
 
 number-requires : tie.Need-number-requires
 number-requires c κs = search needs

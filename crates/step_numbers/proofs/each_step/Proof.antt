@@ -1,11 +1,11 @@
 use native.Mathlib.Omega.{arith}
 use borrow.Author.Tests.{ne-eqb}
 use mathlib.Core.Path.{_≡_}
 use Rattle.route.specs.Step.{eachStep}
 use Rattle.route.proofs.Rows.{tests}
 use borrow.Author.Needs.{needs}
-use Rattle.route.proofs.each_step.Statement.{statement}
-use Rattle.route.proofs.each_step.Tie as tie
+use Rattle.step_numbers.proofs.each_step.Statement.{statement}
+use Rattle.step_numbers.proofs.each_step.Tie as tie
 
 returns : tie.Need-returns
 unfolding eachStep
