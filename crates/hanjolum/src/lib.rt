@@ -63,7 +63,7 @@ pub extern "C" fn hanjolum_leg_file_write(steps: &[u8], file: &mut [u8]) -> u8
     ensures file { λ _. ⌜ now (file .exit) ≡ writtenFile (now (steps .entry)) (now (file .entry)) ⌝ }
     ensures back { λ r. ⌜ ReadBack (now (steps .entry)) (now (file .entry)) (now (file .exit)) r ⌝ }
 {
-    leg_file::write(steps, file)
+    leg_writer::write(steps, file)
 }
 
 // The place of the steps in a file, or number 14.
@@ -73,7 +73,7 @@ pub extern "C" fn hanjolum_leg_file_read(file: &[u8]) -> LegFile
     ensures part { λ r. ⌜ take (r .length) (drop (r .start) (now (file .entry))) ≡ fileSteps (now (file .entry)) ⌝ }
     ensures same { λ r. ⌜ WrittenSame (now (file .entry)) (take (r .length) (drop (r .start) (now (file .entry)))) ⌝ }
 {
-    leg_file::locate(file)
+    leg_reader::locate(file)
 }
 
 // The field that a step starts on a sector's costs, or number 1, 3, or 4 to 8.

@@ -12,7 +12,7 @@ pub fn write_agrees(record: &[u8]) -> bool {
         return false;
     }
     let mut file = [byte_at(record, 2); 160];
-    let number = leg_file::write(part(record, 4, 4 + length), front(&mut file, room));
+    let number = leg_writer::write(part(record, 4, 4 + length), front(&mut file, room));
     number == byte_at(record, 3) && check::same(part(&file, 0, room), part(record, 154, 154 + room))
 }
 
@@ -22,7 +22,7 @@ pub fn read_agrees(record: &[u8]) -> bool {
     if length > 150 {
         return false;
     }
-    let found = leg_file::locate(part(record, 4, 4 + length));
+    let found = leg_reader::locate(part(record, 4, 4 + length));
     found.number == byte_at(record, 1)
         && found.start == size_at(record, 2)
         && found.length == size_at(record, 3)

@@ -1,4 +1,4 @@
--- `leg_file::number` meets its contract: a file with something wrong is not good, and what passes every test is.
+-- `leg_reader::number` meets its contract: a file with something wrong is not good, and what passes every test is.
 -- Assumes nothing.
 use denote.Ref.{now}
 use mathlib.Core.Path.{sym, _∙_}
@@ -6,9 +6,9 @@ use mathlib.Core.Bool.{true≢false}
 use native.Mathlib.Omega.{arith}
 use borrow.Author.Needs.{needs}
 use borrow.Author.Tests.{not-true, not-false}
 use Rattle.leg_file.proofs.Laws.{Good, wrong, right}
-use Rattle.leg_file.proofs.number.Statement.{statement}
-use Rattle.leg_file.proofs.number.Tie as tie
+use Rattle.leg_reader.proofs.number.Statement.{statement}
+use Rattle.leg_reader.proofs.number.Tie as tie
 
 returns : tie.Need-returns
 returns c = sym (wrong _ (λ p. omega (arith, p .long)))

@@ -1,4 +1,4 @@
--- `leg_file::write_number` meets its contract: a line of the table at each return.
+-- `leg_writer::write_number` meets its contract: a line of the table at each return.
 -- Assumes nothing.
 use denote.Ref.{now}
 use mathlib.Core.Path.{sym, _∙_}
@@ -6,9 +6,9 @@ use native.Mathlib.Omega.{arith}
 use lib.ListN.{length}
 use borrow.Author.Needs.{needs}
 use borrow.Author.Tests.{eq-eqb, ne-eqb}
 use Rattle.leg_file.specs.File.{fileOf, writeNumber}
-use Rattle.leg_file.proofs.write_number.Statement.{statement}
-use Rattle.leg_file.proofs.write_number.Tie as tie
+use Rattle.leg_writer.proofs.write_number.Statement.{statement}
+use Rattle.leg_writer.proofs.write_number.Tie as tie
 
 is-no-step-list-requires : tie.Need-is-no-step-list-requires
 is-no-step-list-requires c κs = search needs

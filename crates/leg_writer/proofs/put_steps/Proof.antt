@@ -1,10 +1,10 @@
--- `leg_file::put_steps` meets its contract: the copied part, with nothing behind it.
+-- `leg_writer::put_steps` meets its contract: the copied part, with nothing behind it.
 -- Assumes nothing.
 use denote.Ref.{now}
 use borrow.Author.Needs.{needs}
 use Rattle.leg_file.proofs.Laws.{copied}
-use Rattle.leg_file.proofs.put_steps.Statement.{statement}
-use Rattle.leg_file.proofs.put_steps.Tie as tie
+use Rattle.leg_writer.proofs.put_steps.Statement.{statement}
+use Rattle.leg_writer.proofs.put_steps.Tie as tie
 
 sub-copy : tie.Need-sub-copy
 sub-copy c = search needs

@@ -1,13 +1,13 @@
--- `leg_file::locate` meets its contract: what `number` and `read` answer, and where that part stands.
+-- `leg_reader::locate` meets its contract: what `number` and `read` answer, and where that part stands.
 -- Assumes nothing.
 use denote.Ref.{now}
 use mathlib.Core.Path.{_≡_, refl, sym, _∙_}
 use borrow.Author.Needs.{needs}
 use borrow.Author.Tests.{ne-eqb}
 use Rattle.leg_file.specs.File.{fileAnswer, fileNumber}
 use Rattle.leg_file.proofs.Laws.{place-read, place-refused, written-same}
-use Rattle.leg_file.proofs.locate.Statement.{statement}
-use Rattle.leg_file.proofs.locate.Tie as tie
+use Rattle.leg_reader.proofs.locate.Statement.{statement}
+use Rattle.leg_reader.proofs.locate.Tie as tie
 
 number-requires : tie.Need-number-requires
 number-requires c κs = search needs

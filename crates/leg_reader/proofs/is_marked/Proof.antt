@@ -1,10 +1,10 @@
--- `leg_file::is_marked` meets its contract: letter by letter.
+-- `leg_reader::is_marked` meets its contract: letter by letter.
 -- Assumes nothing.
 use borrow.Author.Needs.{needs}
 use Rattle.route.proofs.Rows.{tests}
 use Rattle.leg_file.specs.File.{isMarked}
-use Rattle.leg_file.proofs.is_marked.Statement.{statement}
-use Rattle.leg_file.proofs.is_marked.Tie as tie
+use Rattle.leg_reader.proofs.is_marked.Statement.{statement}
+use Rattle.leg_reader.proofs.is_marked.Tie as tie
 
 shared-slice-read-if1 : tie.Need-shared-slice-read-if1
 shared-slice-read-if1 c = search needs

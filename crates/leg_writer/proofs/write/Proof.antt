@@ -1,4 +1,4 @@
--- `leg_file::write` meets its contract: a number before the first write, or the head and the steps behind it.
+-- `leg_writer::write` meets its contract: a number before the first write, or the head and the steps behind it.
 -- Assumes nothing.
 use denote.Ref.{now}
 use mathlib.Core.Path.{refl, sym, ap, _∙_}
@@ -7,9 +7,9 @@ use lib.ListN.{length}
 use lib.Seq.{length-sets}
 use borrow.Author.Needs.{needs}
 use Rattle.route.proofs.Accepted.{accepted-list}
 use Rattle.leg_file.proofs.Laws.{fits, refuses, writes, stored}
-use Rattle.leg_file.proofs.write.Statement.{statement}
-use Rattle.leg_file.proofs.write.Tie as tie
+use Rattle.leg_writer.proofs.write.Statement.{statement}
+use Rattle.leg_writer.proofs.write.Tie as tie
 
 write-number-requires : tie.Need-write-number-requires
 write-number-requires c κs = search needs

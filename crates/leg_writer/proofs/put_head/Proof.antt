@@ -1,10 +1,10 @@
--- `leg_file::put_head` meets its contract: six bytes, one behind the other.
+-- `leg_writer::put_head` meets its contract: six bytes, one behind the other.
 -- Assumes nothing.
 use native.Mathlib.Omega.{arith}
 use lib.ListN.{length-set}
 use borrow.Author.Needs.{needs}
-use Rattle.leg_file.proofs.put_head.Statement.{statement}
-use Rattle.leg_file.proofs.put_head.Tie as tie
+use Rattle.leg_writer.proofs.put_head.Statement.{statement}
+use Rattle.leg_writer.proofs.put_head.Tie as tie
 
 slice-write-file : tie.Need-slice-write-file
 slice-write-file c = search needs

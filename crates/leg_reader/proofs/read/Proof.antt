@@ -1,4 +1,4 @@
--- `leg_file::read` meets its contract: no part of a file that is refused, and of any other all from byte 6 on.
+-- `leg_reader::read` meets its contract: no part of a file that is refused, and of any other all from byte 6 on.
 -- Assumes nothing.
 use denote.Ref.{now}
 use mathlib.Core.Path.{sym, _∙_}
@@ -7,9 +7,9 @@ use native.Mathlib.Omega.{arith}
 use lib.ListN.{length, drop, length-drop}
 use lib.Seq.{take-all}
 use borrow.Author.Needs.{needs}
 use Rattle.leg_file.proofs.Laws.{good, promised-refused, promised-read}
-use Rattle.leg_file.proofs.read.Statement.{statement}
-use Rattle.leg_file.proofs.read.Tie as tie
+use Rattle.leg_reader.proofs.read.Statement.{statement}
+use Rattle.leg_reader.proofs.read.Tie as tie
 
 number-requires : tie.Need-number-requires
 number-requires c κs = search needs
