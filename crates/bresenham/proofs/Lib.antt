@@ -1,7 +1,1 @@
-pub mod Lists
-pub mod Offset
-pub mod Walks
-pub mod Theorem
-pub mod Neighbours
 pub mod Places
-pub mod Calls

@@ -10,11 +10,11 @@ use lib.ListN.{length, set, replicate, replicate-append-replicate, length-replic
 use lib.Seq.{set-at}
 use Rattle.fields.specs.declared.FieldCell.{FieldCell}
 use Rattle.fields.specs.Cell.{cell}
-use Rattle.bresenham.specs.declared.Line.{Line}
-use Rattle.bresenham.specs.Table.{table}
-use Rattle.bresenham.specs.Line.{padded, answered}
+use Rattle.nearest_line.specs.declared.Line.{Line}
+use Rattle.nearest_line.specs.Table.{table}
+use Rattle.nearest_line.specs.Line.{padded, answered}
 use Rattle.bresenham.specs.Inner.{listed, placeOf}
-use Rattle.bresenham.proofs.Lists.{length-table, table-suc, table-set}
+use Rattle.nearest_line.proofs.Lists.{length-table, table-suc, table-set}
 
 abbrev pub blank : ℕ → List FieldCell
 blank n = replicate n (cell 0 0)

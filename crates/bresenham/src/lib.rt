@@ -1,20 +1,13 @@
 // The cells of a line by Bresenham's algorithm.
 use fields::FieldCell;
+use nearest_line::Line;
 ghost use mathlib.Core.Path.{_≡_};
 ghost use mathlib.Core.Bool.{_&&_};
 ghost use Prim.Native.Nat.{_≤_, _<_};
 ghost use Rattle.fields.specs.Cell.{cell, inside};
-ghost use Rattle.bresenham.specs.Line.{apart, toward, placed, walkCells, answered, refused, called, lineCall, shallowCall, steepCall};
+ghost use Rattle.nearest_line.specs.Line.{apart, toward, placed, walkCells, answered, refused, called, lineCall, shallowCall, steepCall};
 ghost use Rattle.bresenham.specs.Inner.{placeOf, listed};
-ghost use Rattle.bresenham.specs.Nearest.{columnOf, rowOf, HoldsNearestLine, HoldsNearestWalk};
-
-// The cells of a line, and how many they are; the places beyond hold 0. A refused call's number says why.
-#[repr(C)]
-pub struct Line {
-    pub number: u8,
-    pub cells: [FieldCell; 10],
-    pub count: usize,
-}
+ghost use Rattle.nearest_line.specs.Nearest.{columnOf, rowOf, HoldsNearestLine, HoldsNearestWalk};
 
 // An answer without cells.
 fn empty(number: u8) -> Line

@@ -8,8 +8,8 @@ use lib.Ieee.{add, sub, mul, div, neg, ofInt}
 use lib.ListN.{getD, set, replicate}
 use Rattle.fields.specs.declared.FieldCell.{FieldCell}
 use Rattle.fields.specs.Cell.{cell, stepped}
-use Rattle.bresenham.specs.Table.{table}
-use Rattle.bresenham.specs.Line.{toward, nearest, shallow, steep, line}
+use Rattle.nearest_line.specs.Table.{table}
+use Rattle.nearest_line.specs.Line.{toward, nearest, shallow, steep, line}
 use Rattle.line_end.specs.LineEnd.{gradient, intercept, floor, rowAt, firstEnding, slantedEnd, endBy, lineEnd}
 use Rattle.route.specs.Window.{onEdge, edge, cellsBetween}
 use Rattle.route.specs.Step.{portalOf}

@@ -1,17 +1,17 @@
 // The library that others link. Each export hands on to the call of its name, and promises the same.
-use bresenham::Line;
 use fields::FieldCell;
 use integration_field::BuildAnswer;
 use integration_field::IntegrationField;
 use leg_file::LegFile;
 use line_end::LineEnd;
+use nearest_line::Line;
 use started_field::InitAnswer;
 ghost use mathlib.Core.Path.{_≡_};
 ghost use lib.ListN.{take, drop};
 ghost use Rattle.utilities.specs.Compass.{numberOf};
 ghost use Rattle.fields.specs.Cell.{cell};
-ghost use Rattle.bresenham.specs.Line.{lineCall, shallowCall, steepCall};
-ghost use Rattle.bresenham.specs.Nearest.{columnOf, rowOf, HoldsNearestLine, HoldsNearestWalk};
+ghost use Rattle.nearest_line.specs.Line.{lineCall, shallowCall, steepCall};
+ghost use Rattle.nearest_line.specs.Nearest.{columnOf, rowOf, HoldsNearestLine, HoldsNearestWalk};
 ghost use Rattle.line_end.specs.LineEnd.{lineEndAnswer};
 ghost use Rattle.route.specs.Target.{targetOf};
 ghost use Rattle.integration_field.specs.Listed.{listOf};

@@ -13,10 +13,10 @@ use lib.ListN.{length, getD, take, replicate, length-append, length-replicate, L
 use lib.Seq.{slice, slice-cons, slice-empty, take-append-seam}
 use Rattle.fields.specs.declared.FieldCell.{FieldCell}
 use Rattle.fields.specs.Cell.{Inside, cell, indexOf}
-use Rattle.bresenham.specs.declared.Line.{Line}
-use Rattle.bresenham.specs.Line.{line, lineCall}
-use Rattle.bresenham.proofs.Calls.{in-both}
-use Rattle.bresenham.proofs.Theorem.{line-room, line-inside}
+use Rattle.nearest_line.specs.declared.Line.{Line}
+use Rattle.nearest_line.specs.Line.{line, lineCall}
+use Rattle.nearest_line.proofs.Calls.{in-both}
+use Rattle.nearest_line.proofs.Theorem.{line-room, line-inside}
 use Rattle.started_field.specs.Sight.{Sight, marked, stopped, lineMarked}
 use Rattle.started_field.specs.Room.{Room}
 use Rattle.integration_init.specs.Held.{sightOf, Ready, Leaves, Applied, Drawn}

@@ -1,5 +1,4 @@
 // Starting a field: walls, then window cells or the goal, and from a goal the sight of it.
-use bresenham::Line;
 use fields::FieldCell;
 use fields::Stepped;
 use integration_field::INT_BITS_CORNER;
@@ -9,6 +8,7 @@ use integration_field::INT_BITS_LOS;
 use integration_field::INT_BITS_PORTAL;
 use integration_field::INT_BITS_WAVE_BLOCKED;
 use integration_field::IntegrationField;
+use nearest_line::Line;
 use route::RouteStep;
 use route::Target;
 use route::WindowCells;

@@ -1,7 +1,7 @@
 // The records of the line calls.
-use bresenham::Line;
 use fields::FieldCell;
 use line_end::LineEnd;
+use nearest_line::Line;
 use records::byte_at;
 use records::part;
 use records::size_at;

@@ -8,8 +8,8 @@ use borrow.Author.Needs.{needs}
 use borrow.Author.Tests.{not-true, not-false}
 use Rattle.fields.specs.declared.FieldCell.{FieldCell}
 use Rattle.fields.specs.Cell.{inside, Inside}
-use Rattle.bresenham.specs.Line.{apart, shallow, steep, line, lineCall}
-use Rattle.bresenham.proofs.Calls.{both-in, promised, outside, shallow-forth, shallow-back, steep-forth, steep-back}
+use Rattle.nearest_line.specs.Line.{apart, shallow, steep, line, lineCall}
+use Rattle.nearest_line.proofs.Calls.{both-in, promised, outside, shallow-forth, shallow-back, steep-forth, steep-back}
 use Rattle.bresenham.proofs.get_cells_between_points.Statement.{statement}
 use Rattle.bresenham.proofs.get_cells_between_points.Tie as tie
 

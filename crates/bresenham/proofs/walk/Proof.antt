@@ -7,9 +7,9 @@ use Prim.Native.Nat.{ℕ, _+_, _-_, _*_, _≤_}
 use native.Mathlib.Omega.{arith}
 use borrow.Author.Needs.{needs}
 use Rattle.fields.specs.declared.FieldCell.{FieldCell}
-use Rattle.bresenham.specs.Line.{toward, offsetAt, placed, walkAt}
-use Rattle.bresenham.proofs.Offset.{State, start, at-step, within, up, level}
-use Rattle.bresenham.proofs.Walks.{cells-many}
+use Rattle.nearest_line.specs.Line.{toward, offsetAt, placed, walkAt}
+use Rattle.nearest_line.proofs.Offset.{State, start, at-step, within, up, level}
+use Rattle.nearest_line.proofs.Walks.{cells-many}
 use Rattle.bresenham.proofs.Places.{uncounted, written, none-written, one-more, counted}
 use Rattle.bresenham.proofs.walk.Statement.{statement}
 use Rattle.bresenham.proofs.walk.Tie as tie

@@ -7,8 +7,8 @@ use borrow.Author.Needs.{needs}
 use borrow.Author.Tests.{not-true, not-false}
 use Rattle.fields.specs.declared.FieldCell.{FieldCell}
 use Rattle.fields.specs.Cell.{inside}
-use Rattle.bresenham.specs.Line.{placed, walkCells, answered}
-use Rattle.bresenham.proofs.Calls.{both-in, outside, accepted, placed-in, none-back}
+use Rattle.nearest_line.specs.Line.{placed, walkCells, answered}
+use Rattle.nearest_line.proofs.Calls.{both-in, outside, accepted, placed-in, none-back}
 use Rattle.bresenham.proofs.walk_alone.Statement.{statement}
 use Rattle.bresenham.proofs.walk_alone.Tie as tie
 

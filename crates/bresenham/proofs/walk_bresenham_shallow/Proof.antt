@@ -2,8 +2,8 @@
 -- Assumes nothing.
 use borrow.Author.Needs.{needs}
 use Rattle.fields.specs.Cell.{cell}
-use Rattle.bresenham.specs.Line.{shallow}
-use Rattle.bresenham.proofs.Calls.{shallow-held}
+use Rattle.nearest_line.specs.Line.{shallow}
+use Rattle.nearest_line.proofs.Calls.{shallow-held}
 use Rattle.bresenham.proofs.walk_bresenham_shallow.Statement.{statement}
 use Rattle.bresenham.proofs.walk_bresenham_shallow.Tie as tie
 

@@ -9,7 +9,7 @@ use Rattle.fields.proofs.Steps.{cell-inside}
 use Rattle.line_end.specs.declared.LineEnd.{LineEnd}
 use Rattle.line_end.specs.LineEnd.{lineEnd, answer}
 use Rattle.line_end.proofs.Laws.{end-answered, end-inside}
-use Rattle.bresenham.specs.Line.{line}
+use Rattle.nearest_line.specs.Line.{line}
 use Rattle.started_field.specs.Sight.{extended}
 use Rattle.started_field.specs.CornerLine.{cornerLine}
 use Rattle.integration_init.proofs.Lines.{line-list, line-drawn}

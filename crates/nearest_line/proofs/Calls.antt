@@ -11,12 +11,12 @@ use lib.Seq.{take-append-seam}
 use borrow.Author.Tests.{ltb-true, lt-ltb, le-ltb, le-leb, lt-leb}
 use Rattle.fields.specs.declared.FieldCell.{FieldCell}
 use Rattle.fields.specs.Cell.{Inside, inside}
-use Rattle.bresenham.specs.declared.Line.{Line}
-use Rattle.bresenham.specs.Table.{table}
-use Rattle.bresenham.specs.Line.{apart, placed, walkCells, shallow, steep, line, answered, refused, called, lineCall}
-use Rattle.bresenham.specs.Nearest.{NearestLine, HoldsNearestLine, Walked, HoldsNearestWalk, columnOf, rowOf}
-use Rattle.bresenham.proofs.Walks.{shallow-walked, steep-walked}
-use Rattle.bresenham.proofs.Theorem.{nearest-line}
+use Rattle.nearest_line.specs.declared.Line.{Line}
+use Rattle.nearest_line.specs.Table.{table}
+use Rattle.nearest_line.specs.Line.{apart, placed, walkCells, shallow, steep, line, answered, refused, called, lineCall}
+use Rattle.nearest_line.specs.Nearest.{NearestLine, HoldsNearestLine, Walked, HoldsNearestWalk, columnOf, rowOf}
+use Rattle.nearest_line.proofs.Walks.{shallow-walked, steep-walked}
+use Rattle.nearest_line.proofs.Theorem.{nearest-line}
 
 and-true : (a b : Bool) → (a && b) ≡ true → (a ≡ true) × (b ≡ true)
 and-true true b e = (refl, e)

@@ -9,11 +9,11 @@ use native.Mathlib.Omega.{arith}
 use lib.ListN.{length, getD, length-reverse}
 use Rattle.fields.specs.declared.FieldCell.{FieldCell}
 use Rattle.fields.specs.Cell.{cell}
-use Rattle.bresenham.specs.Table.{table}
-use Rattle.bresenham.specs.Line.{apart, nearest, minorAt, walkAt, shallow, steep}
-use Rattle.bresenham.specs.Nearest.{Between, Neighbours, NearestCell, Walked, columnOf, rowOf}
-use Rattle.bresenham.proofs.Lists.{length-table, getD-table, getD-reverse}
-use Rattle.bresenham.proofs.Offset.{bounds, minor-between, minor-offset, minor-start, minor-end, minor-next}
+use Rattle.nearest_line.specs.Table.{table}
+use Rattle.nearest_line.specs.Line.{apart, nearest, minorAt, walkAt, shallow, steep}
+use Rattle.nearest_line.specs.Nearest.{Between, Neighbours, NearestCell, Walked, columnOf, rowOf}
+use Rattle.nearest_line.proofs.Lists.{length-table, getD-table, getD-reverse}
+use Rattle.nearest_line.proofs.Offset.{bounds, minor-between, minor-offset, minor-start, minor-end, minor-next}
 
 half-at-most : (d m k : ℕ) → k ≤ m → 2 * apart (k * d) (m * nearest d m k) ≤ m
 half-at-most d zero zero h =

@@ -6,8 +6,8 @@ use Prim.Native.Nat.{ℕ, _+_, _-_, _*_, _<_, _≤_, min, max}
 use lib.ListN.{length, getD, take}
 use Rattle.fields.specs.declared.FieldCell.{FieldCell}
 use Rattle.fields.specs.Cell.{cell, Inside}
-use Rattle.bresenham.specs.declared.Line.{Line}
-use Rattle.bresenham.specs.Line.{apart}
+use Rattle.nearest_line.specs.declared.Line.{Line}
+use Rattle.nearest_line.specs.Line.{apart}
 
 -- x lies between a and b, or is one of them
 pub record Between (a b x : ℕ) : Type 0 where
