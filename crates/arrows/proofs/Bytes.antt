@@ -20,7 +20,7 @@ use Rattle.utilities.proofs.Compass.{small}
 use Rattle.route.specs.declared.PortalWindow.{PortalWindow}
 use Rattle.route.specs.Window.{below, stride}
 use Rattle.route.proofs.Below.{holds-at, same-at}
-use Rattle.flow_byte.specs.Byte.{bitsOf, isPathable, isImpassable}
+use Rattle.flow_bits.specs.Byte.{bitsOf, isPathable, isImpassable}
 use Rattle.flow_byte.specs.New.{towardsLower, facingBits, facingValue, unlessEnd, facingChoice, windowBits, newByte, newBytes}
 use Rattle.flow_byte.specs.Look.{pointed, builtByte, flowBuild}
 

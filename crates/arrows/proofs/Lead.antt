@@ -35,7 +35,7 @@ use Rattle.least_walks.specs.Walks.{Wall}
 use Rattle.least_walks.proofs.Ground.{among-mem, mem-among}
 use Rattle.flow_byte.specs.declared.Look.{Look}
 use Rattle.flow_byte.specs.declared.Look.the-variants.{Looking, Taken, Ended}
-use Rattle.flow_byte.specs.Byte.{bitsOf, dirOf, isImpassable}
+use Rattle.flow_bits.specs.Byte.{bitsOf, dirOf, isImpassable}
 use Rattle.flow_byte.specs.New.{isIn, startOf, windowBits, newByte, newBytes}
 use Rattle.flow_byte.specs.Look.{lookedByte, lookAround, pointed, builtByte, flowBuild}
 use Rattle.arrows.specs.Arrows.{Reached, arrow, Away, Cuts, Move, Leads, ends, moves, ArrowsLead}

@@ -18,7 +18,7 @@ use Rattle.fields.specs.declared.Stepped.the-variants.{Cell}
 use Rattle.fields.specs.Cell.{cellAt, stepped}
 use Rattle.fields.proofs.Steps.{Arrives, steps-to, cell-inside}
 use Rattle.route.proofs.Below.{holds-at}
-use Rattle.flow_byte.specs.Byte.{bitsOf, dirWith, dirOf}
+use Rattle.flow_bits.specs.Byte.{bitsOf, dirWith, dirOf}
 use Rattle.arrows.specs.Arrows.{northward, eastward, southward, westward, Away}
 
 -- a direction's bits, one by one

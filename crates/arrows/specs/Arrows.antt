@@ -11,7 +11,7 @@ use Rattle.fields.specs.Cell.{cell, indexOf}
 use Rattle.route.specs.Target.{Target, WindowCell}
 use Rattle.integration_field.specs.Word.{low}
 use Rattle.least_walks.specs.Walks.{Wall}
-use Rattle.flow_byte.specs.Byte.{isImpassable}
+use Rattle.flow_bits.specs.Byte.{isImpassable}
 
 -- a cell's built cost: its low 16 bits
 abbrev pub builtCost : List ℕ → ℕ → ℕ

@@ -22,7 +22,7 @@ use Rattle.integration_field.specs.Build.{isEmpty, settle, build}
 use Rattle.started_field.specs.Sight.{walls, withPortals, withGoal, marked, lineMarked, seen, extended, sideTried, wallMet, neighbourLooked, lookedAround, waveLooked, sightAfter}
 use Rattle.started_field.specs.CornerLine.{cornerLine}
 use Rattle.started_field.specs.Started.{sightFrom, startedFrom, startedAt, started}
-use Rattle.flow_byte.specs.Byte.{isGoal, isPortalGoal, hasLineOfSight, isWall}
+use Rattle.flow_bits.specs.Byte.{isGoal, isPortalGoal, hasLineOfSight, isWall}
 use Rattle.flow_byte.specs.New.{startOf, facingBits, facingChoice, windowBits, newByte, newBytes}
 use Rattle.flow_byte.specs.Look as look
 use Rattle.flow_byte.specs.Look.{lookAround, pointed, builtByte, flowBuild}

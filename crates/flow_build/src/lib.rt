@@ -1,9 +1,9 @@
 // The flow field of an integration field: each cell looks around, and its byte gets the direction of the best neighbour.
 use fields::FieldCell;
 use fields::Stepped;
-use flow_byte::BITS_DEFAULT;
-use flow_byte::BITS_IMPASSABLE;
-use flow_byte::BITS_PATHABLE;
+use flow_bits::BITS_DEFAULT;
+use flow_bits::BITS_IMPASSABLE;
+use flow_bits::BITS_PATHABLE;
 use flow_byte::Look;
 use integration_field::IntegrationField;
 use utilities::CompassDir;
@@ -123,7 +123,7 @@ fn look_around(cells: &[u32; 100], index: usize) -> Look
 fn point(byte: u8, dir: CompassDir) -> u8
     ensures { λ r. ⌜ r ≡ pointed byte dir ⌝ }
 {
-    let bits = flow_byte::convert_compass_dir_to_bits_dir(dir);
+    let bits = flow_bits::convert_compass_dir_to_bits_dir(dir);
     if bits == BITS_DEFAULT {
         return byte | BITS_IMPASSABLE;
     }
@@ -146,10 +146,10 @@ fn calculate_flow_cell(cells: &[u32; 100], index: usize, byte: u8) -> u8
     requires { ⌜ index < 100 ⌝ }
     ensures { λ r. ⌜ r ≡ builtByte (now (cells .entry)) index byte ⌝ }
 {
-    if flow_byte::is_pathable(byte) {
+    if flow_bits::is_pathable(byte) {
         return byte;
     }
-    if flow_byte::is_impassable(byte) {
+    if flow_bits::is_impassable(byte) {
         return byte;
     }
     looked_byte(byte, look_around(cells, index))

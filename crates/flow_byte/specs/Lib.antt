@@ -1,3 +1,2 @@
-pub mod Byte
 pub mod New
 pub mod Look

@@ -17,7 +17,7 @@ use Rattle.integration_field.specs.Word.{low, isGoal, isPortal}
 use Rattle.integration_field.specs.Diagonal.{wallAt, betweenWalls}
 use Rattle.flow_byte.specs.declared.Look.{Look}
 use Rattle.flow_byte.specs.declared.Look.the-variants.{Looking, Taken, Ended}
-use Rattle.flow_byte.specs.Byte.{bitsOf, isPathable, isImpassable}
+use Rattle.flow_bits.specs.Byte.{bitsOf, isPathable, isImpassable}
 
 -- What a look from cell i makes of the neighbour at index n in direction d, with the best so far and its value.
 -- Walls and diagonals between two walls are passed over. The first GOAL or PORTAL is taken.

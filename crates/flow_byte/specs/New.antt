@@ -14,7 +14,7 @@ use Rattle.route.specs.Window.{below, stride, facing}
 use Rattle.route.specs.Step.{portalOf}
 use Rattle.route.specs.Target.{windowOf, targetOf}
 use Rattle.integration_field.specs.Word.{low, isLos, isGoal, isPortal, isImpassable}
-use Rattle.flow_byte.specs.Byte.{bitsOf}
+use Rattle.flow_bits.specs.Byte.{bitsOf}
 
 -- Start: goal 0x70, portal 0x90, LOS 0x30, wall 0xE0, tested in that order; else 0.
 unfoldable pub startOf : ℕ → ℕ

@@ -1,10 +1,10 @@
 // A new flow field: the flags that each cell starts with, and the directions of the window cells.
-use flow_byte::BITS_DEFAULT;
-use flow_byte::BITS_GOAL;
-use flow_byte::BITS_HAS_LOS;
-use flow_byte::BITS_IMPASSABLE;
-use flow_byte::BITS_PATHABLE;
-use flow_byte::BITS_PORTAL_GOAL;
+use flow_bits::BITS_DEFAULT;
+use flow_bits::BITS_GOAL;
+use flow_bits::BITS_HAS_LOS;
+use flow_bits::BITS_IMPASSABLE;
+use flow_bits::BITS_PATHABLE;
+use flow_bits::BITS_PORTAL_GOAL;
 use integration_field::IntegrationField;
 use route::PortalWindow;
 use route::RouteStep;
@@ -63,15 +63,15 @@ fn not_above(value: u32, one: u32, other: u32) -> bool
 fn facing_bits(boundary: CompassDir, lower: u32, straight: u32, higher: u32) -> u8
     ensures { λ r. ⌜ r ≡ facingBits boundary lower straight higher ⌝ }
 {
-    let bits = flow_byte::convert_compass_dir_to_bits_dir(boundary);
+    let bits = flow_bits::convert_compass_dir_to_bits_dir(boundary);
     let side = towards_lower(boundary);
     if not_above(straight, lower, higher) {
         return bits;
     }
     if not_above(lower, straight, higher) {
-        return bits + flow_byte::convert_compass_dir_to_bits_dir(side);
+        return bits + flow_bits::convert_compass_dir_to_bits_dir(side);
     }
-    bits + flow_byte::convert_compass_dir_to_bits_dir(side.inverse())
+    bits + flow_bits::convert_compass_dir_to_bits_dir(side.inverse())
 }
 
 // The cost of the cell that faces a cell.
@@ -136,10 +136,10 @@ fn portal_direction(window: PortalWindow, has_previous: bool, previous: &[u32], 
     let start = window.start;
     let end = window.end;
     if !has_previous {
-        return flow_byte::convert_compass_dir_to_bits_dir(boundary);
+        return flow_bits::convert_compass_dir_to_bits_dir(boundary);
     }
     if start == end {
-        return flow_byte::convert_compass_dir_to_bits_dir(boundary);
+        return flow_bits::convert_compass_dir_to_bits_dir(boundary);
     }
     optimise_portal_direction(window, previous, index)
 }

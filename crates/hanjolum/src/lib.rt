@@ -19,7 +19,7 @@ ghost use Rattle.integration_field.specs.Answer.{buildAnswer};
 ghost use Rattle.integration_field.specs.Promise.{LeastWalks, Counted};
 ghost use Rattle.started_field.specs.Started.{initAnswer, StartedField};
 ghost use Rattle.least_walks.specs.Promise.{OnceBuilt, BuildsStarted};
-ghost use Rattle.flow_byte.specs.Byte.{dirOf, isPathable, hasLineOfSight, isGoal, isPortalGoal, isWall};
+ghost use Rattle.flow_bits.specs.Byte.{dirOf, isPathable, hasLineOfSight, isGoal, isPortalGoal, isWall};
 ghost use Rattle.arrows.specs.Promise.{BuildArrows};
 ghost use Rattle.flow_new.specs.Flow.{newNumber, newSheet};
 ghost use Rattle.flow_build.specs.Flow.{buildNumber, buildSheet};
@@ -198,7 +198,7 @@ pub extern "C" fn hanjolum_line_end(
 pub extern "C" fn hanjolum_is_pathable(byte: u8) -> bool
     ensures { λ r. ⌜ r ≡ isPathable byte ⌝ }
 {
-    flow_byte::is_pathable(byte)
+    flow_bits::is_pathable(byte)
 }
 
 // A cell is the goal.
@@ -206,7 +206,7 @@ pub extern "C" fn hanjolum_is_pathable(byte: u8) -> bool
 pub extern "C" fn hanjolum_is_goal(byte: u8) -> bool
     ensures { λ r. ⌜ r ≡ isGoal byte ⌝ }
 {
-    flow_byte::is_goal(byte)
+    flow_bits::is_goal(byte)
 }
 
 // A cell leads into the next sector.
@@ -214,7 +214,7 @@ pub extern "C" fn hanjolum_is_goal(byte: u8) -> bool
 pub extern "C" fn hanjolum_is_portal_goal(byte: u8) -> bool
     ensures { λ r. ⌜ r ≡ isPortalGoal byte ⌝ }
 {
-    flow_byte::is_portal_goal(byte)
+    flow_bits::is_portal_goal(byte)
 }
 
 // A cell has the goal in sight.
@@ -222,7 +222,7 @@ pub extern "C" fn hanjolum_is_portal_goal(byte: u8) -> bool
 pub extern "C" fn hanjolum_has_line_of_sight(byte: u8) -> bool
     ensures { λ r. ⌜ r ≡ hasLineOfSight byte ⌝ }
 {
-    flow_byte::has_line_of_sight(byte)
+    flow_bits::has_line_of_sight(byte)
 }
 
 // A cell is a wall.
@@ -230,7 +230,7 @@ pub extern "C" fn hanjolum_has_line_of_sight(byte: u8) -> bool
 pub extern "C" fn hanjolum_is_wall(byte: u8) -> bool
     ensures { λ r. ⌜ r ≡ isWall byte ⌝ }
 {
-    flow_byte::is_wall(byte)
+    flow_bits::is_wall(byte)
 }
 
 // The number of the direction that a byte names: 0 North to 7 NorthWest, 8 none.
@@ -238,6 +238,6 @@ pub extern "C" fn hanjolum_is_wall(byte: u8) -> bool
 pub extern "C" fn hanjolum_get_compass_dir_from_bits(byte: u8) -> u8
     ensures { λ r. ⌜ r ≡ numberOf (dirOf byte) ⌝ }
 {
-    let dir = flow_byte::get_compass_dir_from_bits(byte);
+    let dir = flow_bits::get_compass_dir_from_bits(byte);
     dir.number()
 }

@@ -34,12 +34,12 @@ pub fn readers_agree(record: &[u8]) -> bool {
     let byte = byte_at(record, 0);
     let read = [
         byte,
-        flow_byte::is_pathable(byte) as u8,
-        flow_byte::is_goal(byte) as u8,
-        flow_byte::is_portal_goal(byte) as u8,
-        flow_byte::has_line_of_sight(byte) as u8,
-        flow_byte::is_wall(byte) as u8,
-        flow_byte::get_compass_dir_from_bits(byte).number(),
+        flow_bits::is_pathable(byte) as u8,
+        flow_bits::is_goal(byte) as u8,
+        flow_bits::is_portal_goal(byte) as u8,
+        flow_bits::has_line_of_sight(byte) as u8,
+        flow_bits::is_wall(byte) as u8,
+        flow_bits::get_compass_dir_from_bits(byte).number(),
         0,
     ];
     check::same(&read, record)

@@ -3,7 +3,7 @@
 use mathlib.Core.Path.{sym, _∙_}
 use native.Mathlib.Omega.{arith}
 use Rattle.flow_byte.specs.Look.{pointed}
-use Rattle.flow_byte.proofs.Bits.{points-none, points-some, bits-small}
+use Rattle.flow_bits.proofs.Bits.{points-none, points-some, bits-small}
 use borrow.Author.Needs.{needs}
 use Rattle.flow_build.proofs.point.Statement.{statement}
 use Rattle.flow_build.proofs.point.Tie as tie

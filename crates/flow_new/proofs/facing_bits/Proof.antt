@@ -4,9 +4,9 @@ use mathlib.Core.Path.{sym, ap, ap₂, _∙_}
 use Prim.Native.Nat.{ℕ, _+_}
 use native.Mathlib.Omega.{arith}
 use Rattle.utilities.specs.Compass.{opposite}
-use Rattle.flow_byte.specs.Byte.{bitsOf}
+use Rattle.flow_bits.specs.Byte.{bitsOf}
 use Rattle.flow_byte.specs.New.{facingBits}
-use Rattle.flow_byte.proofs.Bits.{bits-small}
+use Rattle.flow_bits.proofs.Bits.{bits-small}
 use borrow.Author.Needs.{needs}
 use Rattle.flow_new.proofs.facing_bits.Statement.{statement}
 use Rattle.flow_new.proofs.facing_bits.Tie as tie

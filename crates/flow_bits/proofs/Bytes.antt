@@ -12,7 +12,7 @@ use lib.Dec.{eqb}
 use lib.Bits.{bitAnd, and-high, and-mask}
 use Rattle.utilities.specs.Compass.{all}
 use Rattle.utilities.specs.declared.CompassDir.the-variants.{Zero}
-use Rattle.flow_byte.specs.Byte.{dirWith, dirOf, isImpassable}
+use Rattle.flow_bits.specs.Byte.{dirWith, dirOf, isImpassable}
 
 -- `a == p && b`, where the first test is t: it holds, and the second decides; or it fails, and is the answer
 module _ (a p : ℕ) (t b : Bool) (test : eqb a p ≡ t) where

@@ -1,14 +1,14 @@
--- `flow_byte::is_portal_goal` meets its contract: a mask of one bit is a flag.
+-- `flow_bits::is_portal_goal` meets its contract: a mask of one bit is a flag.
 -- Assumes nothing.
 use Prim.Native.Nat.{_^_}
 use lib.Bits.{bitAnd}
 use Rattle.integration_field.specs.Word.{flag}
 use Rattle.integration_field.proofs.Flags.{mask-flag}
-use Rattle.flow_byte.specs.Byte.{isPathable}
-use Rattle.flow_byte.proofs.Bytes.{and-taken, and-left}
+use Rattle.flow_bits.specs.Byte.{isPathable}
+use Rattle.flow_bits.proofs.Bytes.{and-taken, and-left}
 use borrow.Author.Needs.{needs}
-use Rattle.flow_byte.proofs.is_portal_goal.Statement.{statement}
-use Rattle.flow_byte.proofs.is_portal_goal.Tie as tie
+use Rattle.flow_bits.proofs.is_portal_goal.Statement.{statement}
+use Rattle.flow_bits.proofs.is_portal_goal.Tie as tie
 
 is-pathable-requires : tie.Need-is-pathable-requires
 is-pathable-requires c κs = search needs

@@ -1,8 +1,8 @@
--- `flow_byte::is_pathable` meets its contract: a mask of one bit is a flag.
+-- `flow_bits::is_pathable` meets its contract: a mask of one bit is a flag.
 -- Assumes nothing.
 use Rattle.integration_field.proofs.Flags.{mask-flag}
-use Rattle.flow_byte.proofs.is_pathable.Statement.{statement}
-use Rattle.flow_byte.proofs.is_pathable.Tie as tie
+use Rattle.flow_bits.proofs.is_pathable.Statement.{statement}
+use Rattle.flow_bits.proofs.is_pathable.Tie as tie
 
 returns : tie.Need-returns
 returns c = mask-flag (c .args .byte) 4

@@ -1,8 +1,8 @@
--- `flow_byte::convert_compass_dir_to_bits_dir` meets its contract, direction by direction.
+-- `flow_bits::convert_compass_dir_to_bits_dir` meets its contract, direction by direction.
 -- Assumes nothing.
 use borrow.Author.Needs.{needs}
-use Rattle.flow_byte.proofs.convert_compass_dir_to_bits_dir.Statement.{statement}
-use Rattle.flow_byte.proofs.convert_compass_dir_to_bits_dir.Tie as tie
+use Rattle.flow_bits.proofs.convert_compass_dir_to_bits_dir.Statement.{statement}
+use Rattle.flow_bits.proofs.convert_compass_dir_to_bits_dir.Tie as tie
 
 enum-told : tie.Need-enum-told
 enum-told c = search needs

@@ -1,13 +1,13 @@
--- `flow_byte::is_wall` meets its contract: all of a mask's bits are set, and one is not.
+-- `flow_bits::is_wall` meets its contract: all of a mask's bits are set, and one is not.
 -- Assumes nothing.
 use mathlib.Core.Path.{ap}
 use mathlib.Core.Bool.{not}
 use lib.Bits.{bitAnd}
-use Rattle.flow_byte.specs.Byte.{isPathable, isImpassable}
-use Rattle.flow_byte.proofs.Bytes.{and-taken, and-left, all-mask}
+use Rattle.flow_bits.specs.Byte.{isPathable, isImpassable}
+use Rattle.flow_bits.proofs.Bytes.{and-taken, and-left, all-mask}
 use borrow.Author.Needs.{needs}
-use Rattle.flow_byte.proofs.is_wall.Statement.{statement}
-use Rattle.flow_byte.proofs.is_wall.Tie as tie
+use Rattle.flow_bits.proofs.is_wall.Statement.{statement}
+use Rattle.flow_bits.proofs.is_wall.Tie as tie
 
 is-pathable-requires : tie.Need-is-pathable-requires
 is-pathable-requires c κs = search needs

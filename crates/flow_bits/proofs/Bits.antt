@@ -10,7 +10,7 @@ use borrow.Author.Tests.{lt-ltb, le-ltb}
 use Rattle.utilities.specs.declared.CompassDir.{CompassDir}
 use Rattle.utilities.specs.Compass.{differences, points}
 use Rattle.utilities.proofs.Compass.{small}
-use Rattle.flow_byte.specs.Byte.{bitsOf}
+use Rattle.flow_bits.specs.Byte.{bitsOf}
 
 module _ (d : CompassDir) where
   pub points-none : bitsOf d ≡ 0 → points d ≡ false

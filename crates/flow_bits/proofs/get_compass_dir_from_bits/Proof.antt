@@ -1,12 +1,12 @@
--- `flow_byte::get_compass_dir_from_bits` meets its contract: the masked low half names the direction, or none.
+-- `flow_bits::get_compass_dir_from_bits` meets its contract: the masked low half names the direction, or none.
 -- Assumes nothing.
 use mathlib.Core.Path.{ap, sym, _∙_}
 use lib.Bits.{bitAnd}
 use Rattle.utilities.specs.Compass.{all}
-use Rattle.flow_byte.specs.Byte.{dirWith}
-use Rattle.flow_byte.proofs.Bytes.{dir-mask, dir-none}
-use Rattle.flow_byte.proofs.get_compass_dir_from_bits.Statement.{statement}
-use Rattle.flow_byte.proofs.get_compass_dir_from_bits.Tie as tie
+use Rattle.flow_bits.specs.Byte.{dirWith}
+use Rattle.flow_bits.proofs.Bytes.{dir-mask, dir-none}
+use Rattle.flow_bits.proofs.get_compass_dir_from_bits.Statement.{statement}
+use Rattle.flow_bits.proofs.get_compass_dir_from_bits.Tie as tie
 
 returns : tie.Need-returns
 returns c = ap (dirWith all) (sym (c .match .keys1)) ∙ dir-mask (c .before .args .byte)
