@@ -135,7 +135,7 @@ fn leg_number(floor: &[u8], steps: &[u8], sheet_length: usize) -> u8
     if sheet_length != 6400 {
         return 2;
     }
-    if step_numbers::is_no_step_list(steps) {
+    if step_list::is_no_step_list(steps) {
         return 3;
     }
     let number = each_step(steps);

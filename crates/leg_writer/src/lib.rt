@@ -11,7 +11,7 @@ ghost use Rattle.leg_file.specs.Promise.{ReadBack};
 fn write_number(steps: &[u8], file_length: usize) -> u8
     ensures { λ r. ⌜ ((file : List ℕ) → length file ≡ «file_length» → r ≡ writeNumber (now (steps .entry)) file) ⌝ }
 {
-    if step_numbers::is_no_step_list(steps) {
+    if step_list::is_no_step_list(steps) {
         return 3;
     }
     if file_length != 6 + steps.len() {

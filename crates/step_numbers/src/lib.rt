@@ -1,9 +1,9 @@
-// The numbers 3 to 8 with which a step of a route is refused, and number 3 of a list of steps.
+// The numbers 3 to 8 with which a step of a route is refused.
 use utilities::CompassDir;
 ghost use mathlib.Core.Path.{_≡_};
 ghost use mathlib.Core.List.{[], _∷_};
 ghost use Rattle.route.specs.Window.{onEdge};
-ghost use Rattle.route.specs.Step.{eachStep, stepNumber, noStepList};
+ghost use Rattle.route.specs.Step.{eachStep, stepNumber};
 
 // Whether a cell lies on a side's edge.
 fn on_edge(boundary: CompassDir, index: usize) -> bool
@@ -96,18 +96,4 @@ pub fn step_number(step: &[u8]) -> u8
         step[6],
         step[7],
     )
-}
-
-// Number 3's condition for a list of steps: none, more than 16, or bytes that make no whole step.
-pub fn is_no_step_list(steps: &[u8]) -> bool
-    ensures { λ r. ⌜ r ≡ noStepList (now (steps .entry)) ⌝ }
-{
-    let length = steps.len();
-    if length == 0 {
-        return true;
-    }
-    if 128 < length {
-        return true;
-    }
-    length % 8 != 0
 }

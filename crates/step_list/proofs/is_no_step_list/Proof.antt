@@ -1,9 +1,9 @@
--- `step_numbers::is_no_step_list` meets its contract: the table's words one after the other.
+-- `step_list::is_no_step_list` meets its contract: the table's words one after the other.
 -- Assumes nothing.
 use Rattle.route.specs.Step.{noStepList}
 use Rattle.route.proofs.Rows.{tests}
-use Rattle.step_numbers.proofs.is_no_step_list.Statement.{statement}
-use Rattle.step_numbers.proofs.is_no_step_list.Tie as tie
+use Rattle.step_list.proofs.is_no_step_list.Statement.{statement}
+use Rattle.step_list.proofs.is_no_step_list.Tie as tie
 
 returns : tie.Need-returns
 unfolding noStepList
