@@ -29,19 +29,19 @@ fn see(
     ensures { λ r. ⌜ r ≡ seen (now (cells .entry)) (indexOf from) dir (indexOf to) best value ⌝ }
 {
     let cost = cells[to.row * 10 + to.column];
-    if integration_field::is_impassable(cost) {
+    if integration_bits::is_impassable(cost) {
         return Look::Looking(best, value);
     }
-    if integration_field::is_between_walls(cells, from, to) {
+    if integration_bits::is_between_walls(cells, from, to) {
         return Look::Looking(best, value);
     }
-    if integration_field::is_goal(cost) {
+    if integration_bits::is_goal(cost) {
         return Look::Taken(dir);
     }
-    if integration_field::is_portal(cost) {
+    if integration_bits::is_portal(cost) {
         return Look::Taken(dir);
     }
-    let low = integration_field::low_bits(cost);
+    let low = integration_bits::low_bits(cost);
     if low == 65535 {
         return Look::Ended(best);
     }

@@ -27,16 +27,16 @@ const UNSEEN: u32 = 0x10000;
 fn starting_flags(value: u32) -> u8
     ensures { λ r. ⌜ r ≡ startOf value ⌝ }
 {
-    if integration_field::is_goal(value) {
+    if integration_bits::is_goal(value) {
         return BITS_GOAL | BITS_PATHABLE | BITS_HAS_LOS;
     }
-    if integration_field::is_portal(value) {
+    if integration_bits::is_portal(value) {
         return BITS_PORTAL_GOAL | BITS_PATHABLE;
     }
-    if integration_field::is_los(value) {
+    if integration_bits::is_los(value) {
         return BITS_HAS_LOS | BITS_PATHABLE;
     }
-    if integration_field::is_impassable(value) {
+    if integration_bits::is_impassable(value) {
         return BITS_IMPASSABLE;
     }
     BITS_DEFAULT
@@ -80,7 +80,7 @@ fn facing_value(previous: &[u32], boundary: CompassDir, index: usize) -> u32
     ensures { λ r. ⌜ r ≡ facingValue (now (previous .entry)) boundary index ⌝ }
 {
     let cell = route::facing_cell(boundary, index);
-    integration_field::low_bits(previous[cell])
+    integration_bits::low_bits(previous[cell])
 }
 
 // The cost beside it, which the window's end cell does not see.

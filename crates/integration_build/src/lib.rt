@@ -27,13 +27,13 @@ fn wide(cost: u8) -> u32
 fn is_written(old: u32, sum: u32) -> bool
     ensures { λ r. ⌜ r ≡ isWritten old sum ⌝ }
 {
-    if integration_field::is_impassable(old) {
+    if integration_bits::is_impassable(old) {
         return false;
     }
-    if integration_field::is_los(old) {
+    if integration_bits::is_los(old) {
         return false;
     }
-    sum < integration_field::low_bits(old)
+    sum < integration_bits::low_bits(old)
 }
 
 // A sum offered to a cell.
@@ -87,7 +87,7 @@ fn offer_wave(
     let mut i = 0;
     while i < count {
         let cell = wave[i];
-        let value = integration_field::low_bits(before[cell]);
+        let value = integration_bits::low_bits(before[cell]);
         offer_around(cells, costs, value, cell);
         i += 1;
     }

@@ -1,12 +1,12 @@
 // Starting a field: walls, then window cells or the goal, and from a goal the sight of it.
 use fields::FieldCell;
 use fields::Stepped;
-use integration_field::INT_BITS_CORNER;
-use integration_field::INT_BITS_GOAL;
-use integration_field::INT_BITS_IMPASSABLE;
-use integration_field::INT_BITS_LOS;
-use integration_field::INT_BITS_PORTAL;
-use integration_field::INT_BITS_WAVE_BLOCKED;
+use integration_bits::INT_BITS_CORNER;
+use integration_bits::INT_BITS_GOAL;
+use integration_bits::INT_BITS_IMPASSABLE;
+use integration_bits::INT_BITS_LOS;
+use integration_bits::INT_BITS_PORTAL;
+use integration_bits::INT_BITS_WAVE_BLOCKED;
 use integration_field::IntegrationField;
 use nearest_line::Line;
 use route::RouteStep;
@@ -40,12 +40,12 @@ fn is_stopped(cells: &[u32; 100], previous: usize, n: usize) -> bool
     requires { ⌜ (previous < 100) × (n < 100) ⌝ }
     ensures { λ r. ⌜ r ≡ stopped (now (cells .entry)) previous n ⌝ }
 {
-    if integration_field::is_wall_at(cells, n) {
+    if integration_bits::is_wall_at(cells, n) {
         return true;
     }
     let from = FieldCell::from_index(previous);
     let to = FieldCell::from_index(n);
-    integration_field::is_between_walls(cells, from, to)
+    integration_bits::is_between_walls(cells, from, to)
 }
 
 // Marks and lists a cell of a line, if it is not blocked yet. Answers how many are listed.
@@ -60,7 +60,7 @@ fn mark(
     ensures { λ r. ⌜ Applied (marked value n) (now (cells .entry)) (now (corners .entry)) count (now (cells .exit)) (now (corners .exit)) r ⌝ }
 {
     let old = cells[n];
-    if integration_field::is_blocked(old) {
+    if integration_bits::is_blocked(old) {
         return count;
     }
     corners[count] = n;
@@ -76,7 +76,7 @@ fn open_side(cells: &[u32; 100], from: usize, side: CompassDir) -> Stepped
     let Stepped::Cell(n) = FieldCell::from_index(from).get_in_compass_direction(side) else {
         return Stepped::Outside;
     };
-    if integration_field::is_wall_at(cells, n.as_1d_index()) {
+    if integration_bits::is_wall_at(cells, n.as_1d_index()) {
         return Stepped::Outside;
     }
     Stepped::Cell(n)
@@ -222,17 +222,17 @@ fn look_at(
     let listed = counts.corners;
     let queued = counts.queued;
     let cost = cells[n];
-    if integration_field::is_blocked(cost) {
+    if integration_bits::is_blocked(cost) {
         return counts;
     }
-    if integration_field::is_goal(cost) {
+    if integration_bits::is_goal(cost) {
         return counts;
     }
-    if integration_field::is_impassable(cost) {
+    if integration_bits::is_impassable(cost) {
         let corners = meet_wall(cells, corners, listed, from, n, dir, goal, wavefront_cost);
         return Counts { corners, queued };
     }
-    if integration_field::is_los(cost) {
+    if integration_bits::is_los(cost) {
         return counts;
     }
     cells[n] = wavefront_cost + INT_BITS_LOS;

@@ -1,12 +1,12 @@
--- `integration_field::is_between_walls` meets its contract: the diagonal rule by columns and rows.
+-- `integration_bits::is_between_walls` meets its contract: the diagonal rule by columns and rows.
 -- Assumes nothing.
 use borrow.Author.Tests.{not-true, not-false}
 use denote.Ref.{now}
 use mathlib.Core.Path.{sym, _∙_}
 use Rattle.integration_field.proofs.Diagonal.{same-row, same-column, one-free, other-decides}
 use borrow.Author.Needs.{needs}
-use Rattle.integration_field.proofs.is_between_walls.Statement.{statement}
-use Rattle.integration_field.proofs.is_between_walls.Tie as tie
+use Rattle.integration_bits.proofs.is_between_walls.Statement.{statement}
+use Rattle.integration_bits.proofs.is_between_walls.Tie as tie
 
 returns : tie.Need-returns
 returns c = same-row (now (c .before .args .cells)) (c .before .args .from) (c .before .args .to) (c .before .pre .0) (c .before .pre .1) (c .if1 .taken)

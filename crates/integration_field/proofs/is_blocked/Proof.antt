@@ -1,8 +1,0 @@
--- `integration_field::is_blocked` meets its contract: a mask of one bit is a flag.
--- Assumes nothing.
-use Rattle.integration_field.proofs.Flags.{mask-flag}
-use Rattle.integration_field.proofs.is_blocked.Statement.{statement}
-use Rattle.integration_field.proofs.is_blocked.Tie as tie
-
-pub is-blocked-spec : {M : Type 1} → statement M
-is-blocked-spec = tie.close (tie.spec (λ c. mask-flag (c .args .cost) 18))
