@@ -28,79 +28,80 @@ record Close (a b x y : ℕ) : Type 0 where
 close : (a b x y : ℕ) → max (apart a b) (apart x y) ≡ 1 → Close a b x y
 close a b x y h = record { up = omega arith; down = omega arith; right = omega arith; left = omega arith; other = λ p q. omega arith }
 
+-- which of the eight: by the sides that the one lies to of the other
+led : (c n : FieldCell) → Inside n → (w e u d : Bool) → ltb (n .column) (c .column) ≡ w → ltb (c .column) (n .column) ≡ e → ltb (n .row) (c .row) ≡ u
+    → ltb (c .row) (n .row) ≡ d → Close (c .column) (n .column) (c .row) (n .row) → (d : CompassDir) × (stepped c d ≡ Cell n)
+led c n i true e true d p q r s k =
+    let x = ltb-true (n .column) (c .column) p in
+    let y = ltb-true (n .row) (c .row) r in (
+      NorthWest,
+      steps-to c NorthWest n
+          (record { pointing = refl; column-from = omega arith; row-from = omega arith; column-at = omega arith; row-at = omega arith; within = i }),
+    )
+led c n i true e false true p q r s k =
+    let x = ltb-true (n .column) (c .column) p in
+    let y = ltb-true (c .row) (n .row) s in (
+      SouthWest,
+      steps-to c SouthWest n
+          (record { pointing = refl; column-from = omega arith; row-from = omega arith; column-at = omega arith; row-at = omega arith; within = i }),
+    )
+led c n i true e false false p q r s k =
+    let x = ltb-true (n .column) (c .column) p in
+    let y = ltb-false (n .row) (c .row) r in
+    let y′ = ltb-false (c .row) (n .row) s in (
+      West,
+      steps-to c West n
+          (record { pointing = refl; column-from = omega arith; row-from = omega arith; column-at = omega arith; row-at = omega arith; within = i }),
+    )
+led c n i false true true d p q r s k =
+    let x = ltb-true (c .column) (n .column) q in
+    let y = ltb-true (n .row) (c .row) r in (
+      NorthEast,
+      steps-to c NorthEast n
+          (record { pointing = refl; column-from = omega arith; row-from = omega arith; column-at = omega arith; row-at = omega arith; within = i }),
+    )
+led c n i false true false true p q r s k =
+    let x = ltb-true (c .column) (n .column) q in
+    let y = ltb-true (c .row) (n .row) s in (
+      SouthEast,
+      steps-to c SouthEast n
+          (record { pointing = refl; column-from = omega arith; row-from = omega arith; column-at = omega arith; row-at = omega arith; within = i }),
+    )
+led c n i false true false false p q r s k =
+    let x = ltb-true (c .column) (n .column) q in
+    let y = ltb-false (n .row) (c .row) r in
+    let y′ = ltb-false (c .row) (n .row) s in (
+      East,
+      steps-to c East n
+          (record { pointing = refl; column-from = omega arith; row-from = omega arith; column-at = omega arith; row-at = omega arith; within = i }),
+    )
+led c n i false false true d p q r s k =
+    let x = ltb-false (n .column) (c .column) p in
+    let x′ = ltb-false (c .column) (n .column) q in
+    let y = ltb-true (n .row) (c .row) r in (
+      North,
+      steps-to c North n
+          (record { pointing = refl; column-from = omega arith; row-from = omega arith; column-at = omega arith; row-at = omega arith; within = i }),
+    )
+led c n i false false false true p q r s k =
+    let x = ltb-false (n .column) (c .column) p in
+    let x′ = ltb-false (c .column) (n .column) q in
+    let y = ltb-true (c .row) (n .row) s in (
+      South,
+      steps-to c South n
+          (record { pointing = refl; column-from = omega arith; row-from = omega arith; column-at = omega arith; row-at = omega arith; within = i }),
+    )
+led c n i false false false false p q r s k =
+    let x = ltb-false (n .column) (c .column) p in
+    let x′ = ltb-false (c .column) (n .column) q in
+    let y = ltb-false (n .row) (c .row) r in
+    let y′ = ltb-false (c .row) (n .row) s in
+    absurd (k .other (omega arith) (omega arith))
+
 pub neighbours-stepped : (c n : FieldCell) → Inside n → Neighbours c n → (d : CompassDir) × (stepped c d ≡ Cell n)
 neighbours-stepped c n i h =
-    go (ltb (n .column) (c .column)) (ltb (c .column) (n .column)) (ltb (n .row) (c .row)) (ltb (c .row) (n .row)) refl refl refl refl
+    led c n i (ltb (n .column) (c .column)) (ltb (c .column) (n .column)) (ltb (n .row) (c .row)) (ltb (c .row) (n .row)) refl refl refl refl
     (close (c .column) (n .column) (c .row) (n .row) h)
-  where
-    go : (w e u d : Bool) → ltb (n .column) (c .column) ≡ w → ltb (c .column) (n .column) ≡ e → ltb (n .row) (c .row) ≡ u → ltb (c .row) (n .row) ≡ d
-        → Close (c .column) (n .column) (c .row) (n .row) → (d : CompassDir) × (stepped c d ≡ Cell n)
-    go true e true d p q r s k =
-        let x = ltb-true (n .column) (c .column) p in
-        let y = ltb-true (n .row) (c .row) r in (
-          NorthWest,
-          steps-to c NorthWest n
-              (record { pointing = refl; column-from = omega arith; row-from = omega arith; column-at = omega arith; row-at = omega arith; within = i }),
-        )
-    go true e false true p q r s k =
-        let x = ltb-true (n .column) (c .column) p in
-        let y = ltb-true (c .row) (n .row) s in (
-          SouthWest,
-          steps-to c SouthWest n
-              (record { pointing = refl; column-from = omega arith; row-from = omega arith; column-at = omega arith; row-at = omega arith; within = i }),
-        )
-    go true e false false p q r s k =
-        let x = ltb-true (n .column) (c .column) p in
-        let y = ltb-false (n .row) (c .row) r in
-        let y′ = ltb-false (c .row) (n .row) s in (
-          West,
-          steps-to c West n
-              (record { pointing = refl; column-from = omega arith; row-from = omega arith; column-at = omega arith; row-at = omega arith; within = i }),
-        )
-    go false true true d p q r s k =
-        let x = ltb-true (c .column) (n .column) q in
-        let y = ltb-true (n .row) (c .row) r in (
-          NorthEast,
-          steps-to c NorthEast n
-              (record { pointing = refl; column-from = omega arith; row-from = omega arith; column-at = omega arith; row-at = omega arith; within = i }),
-        )
-    go false true false true p q r s k =
-        let x = ltb-true (c .column) (n .column) q in
-        let y = ltb-true (c .row) (n .row) s in (
-          SouthEast,
-          steps-to c SouthEast n
-              (record { pointing = refl; column-from = omega arith; row-from = omega arith; column-at = omega arith; row-at = omega arith; within = i }),
-        )
-    go false true false false p q r s k =
-        let x = ltb-true (c .column) (n .column) q in
-        let y = ltb-false (n .row) (c .row) r in
-        let y′ = ltb-false (c .row) (n .row) s in (
-          East,
-          steps-to c East n
-              (record { pointing = refl; column-from = omega arith; row-from = omega arith; column-at = omega arith; row-at = omega arith; within = i }),
-        )
-    go false false true d p q r s k =
-        let x = ltb-false (n .column) (c .column) p in
-        let x′ = ltb-false (c .column) (n .column) q in
-        let y = ltb-true (n .row) (c .row) r in (
-          North,
-          steps-to c North n
-              (record { pointing = refl; column-from = omega arith; row-from = omega arith; column-at = omega arith; row-at = omega arith; within = i }),
-        )
-    go false false false true p q r s k =
-        let x = ltb-false (n .column) (c .column) p in
-        let x′ = ltb-false (c .column) (n .column) q in
-        let y = ltb-true (c .row) (n .row) s in (
-          South,
-          steps-to c South n
-              (record { pointing = refl; column-from = omega arith; row-from = omega arith; column-at = omega arith; row-at = omega arith; within = i }),
-        )
-    go false false false false p q r s k =
-        let x = ltb-false (n .column) (c .column) p in
-        let x′ = ltb-false (c .column) (n .column) q in
-        let y = ltb-false (n .row) (c .row) r in
-        let y′ = ltb-false (c .row) (n .row) s in
-        absurd (k .other (omega arith) (omega arith))
 
 -- a direction moves by one at most in each coordinate, and by one in some
 record One (δ : Differences) : Type 0 where
