@@ -15,6 +15,7 @@ use Rattle.route.specs.Step.{portalOf}
 use Rattle.route.specs.Target.{windowOf, targetOf}
 use Rattle.integration_field.specs.Word.{low, isLos, isGoal, isPortal, isImpassable}
 use Rattle.flow_bits.specs.Byte.{bitsOf}
+use Rattle.flow_byte.specs.declared.SeenValues.{SeenValues}
 
 -- Start: goal 0x70, portal 0x90, LOS 0x30, wall 0xE0, tested in that order; else 0.
 unfoldable pub startOf : ℕ → ℕ
@@ -39,14 +40,21 @@ facingValue previous side i = low (getD previous (facing side i) 0)
 abbrev pub unlessEnd : Bool → ℕ → ℕ
 unlessEnd end value = cond end (2 ^ 16) value
 
--- The facing choice of window cell i: it sees the cell that faces it, and those that face its neighbours in the step's window.
+-- What window cell i compares: the values of the cell that faces it, and of those that face its neighbours in the step's window.
+abbrev pub seenValues : PortalWindow → List ℕ → ℕ → SeenValues
+seenValues portal previous i =
+    let side = portal .boundary in
+    record {
+      lower = unlessEnd (eqb i (portal .start)) (facingValue previous side (i - stride side));
+      straight = facingValue previous side i;
+      higher = unlessEnd (eqb i (portal .end)) (facingValue previous side (i + stride side));
+    }
+
+-- the facing choice of window cell i
 unfoldable pub facingChoice : PortalWindow → List ℕ → ℕ → ℕ
 facingChoice portal previous i =
-    let side = portal .boundary in
-    facingBits side
-    (unlessEnd (eqb i (portal .start)) (facingValue previous side (i - stride side)))
-    (facingValue previous side i)
-    (unlessEnd (eqb i (portal .end)) (facingValue previous side (i + stride side)))
+    let seen = seenValues portal previous i in
+    facingBits (portal .boundary) (seen .lower) (seen .straight) (seen .higher)
 
 -- The bits of window cell i: without a previous field, or with one window cell, the boundary's; else the facing choice.
 unfoldable pub windowBits : PortalWindow → Bool → List ℕ → ℕ → ℕ

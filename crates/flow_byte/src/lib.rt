@@ -8,3 +8,10 @@ pub enum Look {
     Taken(CompassDir),
     Ended(CompassDir),
 }
+
+// The costs that a window cell compares: of the cell that faces it, and of those that face its neighbours in the window.
+pub struct SeenValues {
+    pub lower: u32,
+    pub straight: u32,
+    pub higher: u32,
+}

@@ -5,6 +5,7 @@ use flow_bits::BITS_HAS_LOS;
 use flow_bits::BITS_IMPASSABLE;
 use flow_bits::BITS_PATHABLE;
 use flow_bits::BITS_PORTAL_GOAL;
+use flow_byte::SeenValues;
 use integration_field::IntegrationField;
 use route::PortalWindow;
 use route::RouteStep;
@@ -16,7 +17,7 @@ ghost use Prim.Native.Nat.{_-_, _<_};
 ghost use lib.Dec.{eqb, leb};
 ghost use lib.ListN.{length};
 ghost use Rattle.route.specs.Inner.{heldCells, WindowHeld};
-ghost use Rattle.flow_byte.specs.New.{startOf, towardsLower, facingBits, facingValue, unlessEnd, facingChoice, windowBits, newBytes};
+ghost use Rattle.flow_byte.specs.New.{startOf, towardsLower, facingBits, facingValue, unlessEnd, seenValues, facingChoice, windowBits, newBytes};
 ghost use Rattle.flow_new.specs.Flow.{newNumber, newSheet};
 ghost use Rattle.flow_new.specs.Inner.{startBytes, withBits};
 
@@ -110,10 +111,10 @@ fn lower_by(index: usize, stride: usize) -> usize
     index - stride
 }
 
-// The bits of a window cell, by the costs of the cells that it faces.
-fn optimise_portal_direction(window: PortalWindow, previous: &[u32], index: usize) -> u8
+// The costs that a window cell compares.
+pub fn seen_values(window: PortalWindow, previous: &[u32], index: usize) -> SeenValues
     requires { ⌜ (length (now previous) ≡ 100) × (index < 100) ⌝ }
-    ensures { λ r. ⌜ r ≡ facingChoice window (now (previous .entry)) index ⌝ }
+    ensures { λ r. ⌜ r ≡ seenValues window (now (previous .entry)) index ⌝ }
 {
     let boundary = window.boundary;
     let start = window.start;
@@ -124,7 +125,21 @@ fn optimise_portal_direction(window: PortalWindow, previous: &[u32], index: usiz
     let lower = side_value(previous, boundary, index, start, before);
     let straight = facing_value(previous, boundary, index);
     let higher = side_value(previous, boundary, index, end, after);
-    facing_bits(boundary, lower, straight, higher)
+    SeenValues {
+        lower,
+        straight,
+        higher,
+    }
+}
+
+// The bits of a window cell, by the costs of the cells that it faces.
+fn optimise_portal_direction(window: PortalWindow, previous: &[u32], index: usize) -> u8
+    requires { ⌜ (length (now previous) ≡ 100) × (index < 100) ⌝ }
+    ensures { λ r. ⌜ r ≡ facingChoice window (now (previous .entry)) index ⌝ }
+{
+    let boundary = window.boundary;
+    let seen = seen_values(window, previous, index);
+    facing_bits(boundary, seen.lower, seen.straight, seen.higher)
 }
 
 // The bits of a window cell.
