@@ -2,6 +2,8 @@
 --     edge-run                  a side's edge is a run of ten cells; edge-length, edge-at and edge-at-most follow
 --     stride-within             a stride is 1 to 10
 --     by-edge                   what holds of each of the four sides holds of one on whose edge a cell lies
+--     cells-in                  whatever its side, its first and its last: a window's cells are cells of the sector, no cell twice, at most 10
+--     listed-at                 a cell by its place in the array
 --     taken, passed             the loop goes on to the next cell
 --     collected-all             and has them all in the end
 -- Assumes nothing.
@@ -9,11 +11,11 @@ use mathlib.Core.Path.{_≡_, refl, ap}
 use mathlib.Core.Bool.{Bool, true, false, cond, false≢true}
 use mathlib.Core.List.{List, [], _∷_, _++_, append-nil}
 use Prim.Native.Nat.{ℕ, _+_, _*_, _/_, _%_, _<_, _≤_}
-use native.Mathlib.Nat.{mul-le-mul-left}
+use native.Mathlib.Nat.{mul-le-mul-left, mul-lt-mul-of-pos-right}
 use native.Mathlib.Numerals.{add-one}
 use native.Mathlib.Omega.{arith}
 use lib.Dec.{ltb, eqb}
-use lib.ListN.{length, getD, take, set, length-append}
+use lib.ListN.{length, getD, take, set, length-append, List·getD-append}
 use lib.Seq.{take-suc, take-all}
 use borrow.Author.Tests.{eqb-true}
 use Rattle.utilities.specs.declared.CompassDir.{CompassDir}
@@ -22,8 +24,10 @@ use Rattle.utilities.specs.Compass.{differences, numberOf}
 use Rattle.utilities.specs.Padded.{padded}
 use Rattle.utilities.proofs.Padded.{padded-push}
 use Rattle.utilities.specs.Lists.{consIf}
-use Rattle.route.specs.Window.{select, onEdge, edge, stride, listed}
+use Rattle.route.specs.Window.{select, onEdge, edge, stride, between, cellsBetween, listed}
+use Rattle.route.specs.Target.{WindowIn}
 use Rattle.route.proofs.Runs.{run, run-length, run-at}
+use Rattle.route.proofs.Selected.{select-in}
 
 -- how many cells an edge has, and its first; a direction that is no side has none
 abbrev pub edgeCount : CompassDir → ℕ
@@ -93,6 +97,35 @@ by-edge Q SouthEast i p n e s w = absurd (false≢true p)
 by-edge Q SouthWest i p n e s w = absurd (false≢true p)
 by-edge Q NorthWest i p n e s w = absurd (false≢true p)
 by-edge Q Zero i p n e s w = absurd (false≢true p)
+
+-- ---- cells of the sector
+
+below-hundred : (side : CompassDir) (k : ℕ) → k < length (edge side) → edgeFirst side + k * stride side < 100
+below-hundred North k h = omega (arith, edge-length North)
+below-hundred East k h = omega (arith, edge-length East)
+below-hundred South k h = omega (arith, edge-length South)
+below-hundred West k h = omega (arith, edge-length West)
+below-hundred NorthEast k h = omega (arith, edge-length NorthEast)
+below-hundred SouthEast k h = omega (arith, edge-length SouthEast)
+below-hundred SouthWest k h = omega (arith, edge-length SouthWest)
+below-hundred NorthWest k h = omega (arith, edge-length NorthWest)
+below-hundred Zero k h = omega (arith, edge-length Zero)
+
+edge-in : (side : CompassDir) → WindowIn (edge side)
+edge-in side = record {
+  inside = λ i h. omega (arith, edge-at side i h, below-hundred side i h);
+  once = λ i j h k e. omega (arith, edge-at side i (omega arith), edge-at side j k, mul-lt-mul-of-pos-right h (stride-within side .0));
+  few = edge-at-most side;
+}
+
+pub cells-in : (side : CompassDir) (first last : ℕ) → WindowIn (cellsBetween side first last)
+unfolding cellsBetween
+cells-in side first last = select-in (between first last) (edge side) (edge-in side)
+
+pub listed-at : (l : List ℕ) (k : ℕ) → k < length l → getD (listed l .cells) k 0 ≡ getD l k 0
+listed-at l k h = List·getD-append l _ 0 k h
+
+-- ---- collected
 
 module _ (p : ℕ → Bool) where
   pub select-append : (a b : List ℕ) → select p (a ++ b) ≡ select p a ++ select p b

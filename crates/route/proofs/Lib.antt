@@ -6,3 +6,4 @@ pub mod Runs
 pub mod Windows
 pub mod Facing
 pub mod Targets
+pub mod Selected

@@ -1,6 +1,7 @@
 -- Laws of targets.
 --     at-place, place-of            a list has an entry, and a place has it
 --     target-goal, target-window    a step's target, by its kind
+--     named-edge, edge-named        the named edge, by the boundary's byte, is the side's
 --     target-in                     that of a step that is not refused lies inside the sector
 --     goal-told, window-told        and its cells are those that the step's bytes say by rows and columns
 --     held-listed, listed-held      in the program: what a target becomes there stands for that target
@@ -22,7 +23,7 @@ use Rattle.route.specs.declared.RouteStep.{RouteStep}
 use Rattle.route.specs.declared.WindowCells.{WindowCells}
 use Rattle.route.specs.declared.Target as program
 use Rattle.route.specs.Window.{onEdge, listed}
-use Rattle.route.specs.Step.{goalOf, markOf, boundaryByte, isWindow, windowCells, routeStep, stepNumber}
+use Rattle.route.specs.Step.{goalOf, markOf, firstOf, lastOf, boundaryByte, boundaryOf, isWindow, windowCells, routeStep, stepNumber}
 use Rattle.route.specs.Target.{
   Target,
   to-goal,
@@ -43,7 +44,8 @@ use Rattle.route.specs.Target.{
 }
 use Rattle.route.specs.Inner.{routeTarget, listedTarget, heldCells, heldTarget, WindowHeld, TargetHeld}
 use Rattle.route.proofs.Accepted.{Window, accepted-step, accepted-goal, accepted-window}
-use Rattle.route.proofs.Windows.{window-few, window-at, window-increases, window-all}
+use Rattle.route.proofs.Cells.{cells-in}
+use Rattle.route.proofs.Windows.{window-at, window-all}
 
 -- ---- a step's target
 
@@ -66,15 +68,15 @@ place-of l x (List·Memᴰ·head e) = (0, omega arith, sym e)
 place-of l x (List·Memᴰ·tail {xs = ys} m) = let r = place-of ys x m in (suc (r .0), omega (arith, r .1), r .2)
 
 -- the named edge, by the boundary's byte
-named : (boundary x : ℕ) → onEdge (sideOf boundary) x ≡ true → OnNamedEdge boundary x
+pub named-edge : (boundary x : ℕ) → onEdge (sideOf boundary) x ≡ true → OnNamedEdge boundary x
 unfolding onEdge
-named zero x e = north refl (eqb-true (x / 10) 0 e)
-named (suc zero) x e = east refl (eqb-true (x % 10) 9 e)
-named (suc (suc zero)) x e = south refl (eqb-true (x / 10) 9 e)
-named (suc (suc (suc zero))) x e = west refl (eqb-true (x % 10) 0 e)
-named (suc (suc (suc (suc n)))) x e = absurd (true≢false (sym e))
+named-edge zero x e = north refl (eqb-true (x / 10) 0 e)
+named-edge (suc zero) x e = east refl (eqb-true (x % 10) 9 e)
+named-edge (suc (suc zero)) x e = south refl (eqb-true (x / 10) 9 e)
+named-edge (suc (suc (suc zero))) x e = west refl (eqb-true (x % 10) 0 e)
+named-edge (suc (suc (suc (suc n)))) x e = absurd (true≢false (sym e))
 
-edge-named : (boundary x : ℕ) → OnNamedEdge boundary x → onEdge (sideOf boundary) x ≡ true
+pub edge-named : (boundary x : ℕ) → OnNamedEdge boundary x → onEdge (sideOf boundary) x ≡ true
 unfolding onEdge
 edge-named boundary x (north b e) = rw b (eq-eqb (x / 10) 0 e)
 edge-named boundary x (east b e) = rw b (eq-eqb (x % 10) 9 e)
@@ -82,7 +84,8 @@ edge-named boundary x (south b e) = rw b (eq-eqb (x / 10) 9 e)
 edge-named boundary x (west b e) = rw b (eq-eqb (x % 10) 0 e)
 
 module _ (step : List ℕ) (good : stepNumber step ≡ 0) where
-  by-kind : (P : Target → Type 0) → (isWindow step ≡ false → P (to-goal (goalOf step))) → (isWindow step ≡ true → P (to-window (windowCells step))) → P (targetOf step)
+  by-kind : (P : Target → Type 0) → (isWindow step ≡ false → P (to-goal (goalOf step)))
+      → (isWindow step ≡ true → P (to-window (windowCells step))) → P (targetOf step)
   by-kind P g w = go (isWindow step) refl
     where
       go : (b : Bool) → isWindow step ≡ b → P (targetOf step)
@@ -91,12 +94,7 @@ module _ (step : List ℕ) (good : stepNumber step ≡ 0) where
 
   pub target-in : TargetIn (targetOf step)
   target-in =
-      by-kind TargetIn (accepted-goal step good)
-      (λ e. let w = accepted-window step good e in record {
-        inside = λ i h. window-at step w i h .below;
-        once = λ i j h k q. omega (arith, window-increases step w i j h k);
-        few = window-few step w;
-      })
+      by-kind TargetIn (accepted-goal step good) (λ e. cells-in (boundaryOf step) (firstOf step) (lastOf step))
 
   no-window : isWindow step ≡ false → markOf step ≡ 0
   no-window e = omega (arith, accepted-step step good .mark-in, eqb-false (markOf step) 1 e)
@@ -120,7 +118,7 @@ module _ (step : List ℕ) (good : stepNumber step ≡ 0) where
           subst (StepWindow step) (p .2) (record {
             mark = eqb-true (markOf step) 1 e;
             inside = a .below;
-            on-edge = named (boundaryByte step) _ (a .on);
+            on-edge = named-edge (boundaryByte step) _ (a .on);
             from = a .from;
             to = a .to;
           })

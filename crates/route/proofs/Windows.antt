@@ -1,15 +1,13 @@
 -- The cells of an accepted window: first, first + stride, .. to the last.
 --     window-run        a window's cells are a run from the first cell to the last
---     window-count      how many there are: 1 to 10
+--     window-count      how many there are, and that there are some
 --     window-at         the k-th: first + k * stride, a cell of the named edge, at most the last
---     window-increases  each after the one before, so no cell comes twice
 --     window-all        and every cell of the edge from the first to the last is one
 -- Assumes nothing.
 use mathlib.Core.Path.{_≡_, refl, ap, ap₂, _∙_}
 use mathlib.Core.Bool.{Bool, true, false, not, _&&_, _||_, false≢true, and-eq-true-iff}
 use mathlib.Core.List.{List, [], _∷_}
 use Prim.Native.Nat.{ℕ, _+_, _-_, _*_, _/_, _%_, _<_, _≤_}
-use native.Mathlib.Nat.{mul-lt-mul-of-pos-right}
 use native.Mathlib.Omega.{arith}
 use lib.Dec.{leb, eqb}
 use lib.ListN.{length, getD}
@@ -20,7 +18,7 @@ use Rattle.route.specs.Window.{onEdge, edge, between, cellsBetween, sele
 use Rattle.route.specs.Step.{firstOf, lastOf, boundaryOf, windowCells}
 use Rattle.route.proofs.Below.{holds, holds-at}
 use Rattle.route.proofs.Runs.{run, run-length, run-at}
-use Rattle.route.proofs.Cells.{edge-run, stride-within, by-edge}
+use Rattle.route.proofs.Cells.{edge-run, by-edge}
 use Rattle.route.proofs.Accepted.{Window}
 
 same : List ℕ → List ℕ → Bool
@@ -69,7 +67,6 @@ module _ (f l : ℕ) (fi : f < 100) (li : l < 100) (o : f ≤ l) where
 
 -- a place k of a run along an edge
 record Along (side : CompassDir) (f l k : ℕ) : Type 0 where
-  few : (l - f) / stride side + 1 ≤ 10
   on : onEdge side (f + k * stride side) ≡ true
   to : f + k * stride side ≤ l
 
@@ -78,10 +75,10 @@ module _ (f l : ℕ) (fi : f < 100) (li : l < 100) (o : f ≤ l) where
   unfolding onEdge
   along side k p =
       by-edge (λ s. onEdge s l ≡ true → k < (l - f) / stride s + 1 → Along s f l k) side f p
-      (λ u q h. let v = eqb-true (l / 10) 0 q in record { few = omega arith; on = eq-eqb ((f + k * 1) / 10) 0 (omega arith); to = omega arith })
-      (λ u q h. let v = eqb-true (l % 10) 9 q in record { few = omega arith; on = eq-eqb ((f + k * 10) % 10) 9 (omega arith); to = omega arith })
-      (λ u q h. let v = eqb-true (l / 10) 9 q in record { few = omega arith; on = eq-eqb ((f + k * 1) / 10) 9 (omega arith); to = omega arith })
-      (λ u q h. let v = eqb-true (l % 10) 0 q in record { few = omega arith; on = eq-eqb ((f + k * 10) % 10) 0 (omega arith); to = omega arith })
+      (λ u q h. let v = eqb-true (l / 10) 0 q in record { on = eq-eqb ((f + k * 1) / 10) 0 (omega arith); to = omega arith })
+      (λ u q h. let v = eqb-true (l % 10) 9 q in record { on = eq-eqb ((f + k * 10) % 10) 9 (omega arith); to = omega arith })
+      (λ u q h. let v = eqb-true (l / 10) 9 q in record { on = eq-eqb ((f + k * 1) / 10) 9 (omega arith); to = omega arith })
+      (λ u q h. let v = eqb-true (l % 10) 0 q in record { on = eq-eqb ((f + k * 10) % 10) 0 (omega arith); to = omega arith })
 
   place-of : (side : CompassDir) (i : ℕ) → onEdge side f ≡ true → onEdge side l ≡ true → onEdge side i ≡ true → i < 100 → f ≤ i → i ≤ l
       → ((i - f) / stride side < (l - f) / stride side + 1) × (f + (i - f) / stride side * stride side ≡ i)
@@ -113,11 +110,6 @@ module _ (s : List ℕ) (w : Window s) where
   pub window-some : 0 < length (windowCells s)
   window-some = omega (arith, window-count)
 
-  pub window-few : length (windowCells s) ≤ 10
-  window-few =
-      let a = along (firstOf s) (lastOf s) (w .first-in) (w .last-in) (w .in-order) (boundaryOf s) 0 (w .first-on) (w .last-on) (omega arith) in
-      omega (arith, window-count, a .few)
-
   pub window-at : (k : ℕ) → k < length (windowCells s) → At s k (getD (windowCells s) k 0)
   window-at k h =
       let n = (lastOf s - firstOf s) / stride (boundaryOf s) + 1 in
@@ -132,12 +124,6 @@ module _ (s : List ℕ) (w : Window s) where
         from = omega (arith, e);
         to = omega (arith, e, a .to);
       }
-
-  pub window-increases : (j k : ℕ) → j < k → k < length (windowCells s) → getD (windowCells s) j 0 < getD (windowCells s) k 0
-  window-increases j k h m =
-      let a = window-at j (omega arith) in
-      let b = window-at k m in
-      omega (arith, a .is, b .is, mul-lt-mul-of-pos-right h (stride-within (boundaryOf s) .0))
 
   pub window-all : (i : ℕ) → i < 100 → onEdge (boundaryOf s) i ≡ true → firstOf s ≤ i → i ≤ lastOf s
       → (k : ℕ) × (k < length (windowCells s)) × (getD (windowCells s) k 0 ≡ i)

@@ -1,0 +1,14 @@
+-- A step's target in a leg, of the step taken apart: for the contracts of this crate's functions.
+-- Assumes nothing.
+use mathlib.Core.Bool.{Bool, true, false}
+use mathlib.Core.List.{List}
+use Prim.Native.Nat.{ℕ}
+use Rattle.route.specs.declared.RouteStep.{RouteStep}
+use Rattle.route.specs.Window.{select, cellsBetween}
+use Rattle.route.specs.Target.{Target, to-window}
+use Rattle.route.specs.Inner.{routeTarget}
+use Rattle.counting.specs.Counting.{counts}
+
+abbrev pub routeLegTarget : RouteStep → Bool → List ℕ → Target
+routeLegTarget s false previous = routeTarget s
+routeLegTarget s true previous = to-window (select (counts (s .portal) previous) (cellsBetween (s .portal .boundary) (s .portal .start) (s .portal .end)))
