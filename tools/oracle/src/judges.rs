@@ -47,3 +47,11 @@ pub fn during<T>(answer: impl FnOnce() -> T) -> (T, Judges) {
     DECIDED.set([false; 4]);
     (answer(), DECIDED.get())
 }
+
+/// What is worked out without deciding anything.
+pub fn aside<T>(work: impl FnOnce() -> T) -> T {
+    let decided = DECIDED.get();
+    let worked = work();
+    DECIDED.set(decided);
+    worked
+}

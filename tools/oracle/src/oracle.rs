@@ -1,13 +1,13 @@
-//! The oracle: refusal numbers by the table of document 01, everything else by the Rust. Wave counts
-//! come from the counted copy, whose fields are asserted equal to the published one's. Each judge is noted where it
-//! is asked.
+//! The oracle: refusal numbers by the table of document 01, everything else by the Rust, but for what has no Rust, leg
+//! files and legs in which some window cell does not count (02, Jobs 1 and 2), which the model answers. Wave counts come
+//! from the counted copy, whose fields are asserted equal to the published one's. Each judge is noted where it is asked.
 
 use reference::flowfields as rust;
 use reference::flowfields::fields::bresenham::{walk_bresenham_shallow, walk_bresenham_steep};
 use reference::flowfields::fields::{Field, flow_field};
 use reference::flowfields::utilities::CompassDir;
 
-use crate::judges::{Judge, decides};
+use crate::judges::{Judge, aside, decides};
 use crate::model::Model;
 use crate::refusals::{self, Given};
 use crate::subject::*;
@@ -18,6 +18,7 @@ pub struct Oracle;
 pub fn judges(call: Call) -> &'static [Judge] {
     match call {
         Call::Build | Call::Sector => &[Judge::Published, Judge::Counted],
+        Call::Leg => &[Judge::Published, Judge::Model],
         Call::LegFileWrite | Call::LegFileRead => &[Judge::Model],
         _ => &[Judge::Published],
     }
@@ -139,6 +140,41 @@ impl Oracle {
         flow.build(&rust_cells(field.field));
         (field, waves, *flow.get())
     }
+
+    /// The flow bytes of each step of a leg, the calls chained as document 01 says; none where a window has a cell that
+    /// does not count.
+    fn chained(&self, floor: &[u8], steps: &[u8]) -> Option<Vec<[u8; CELLS]>> {
+        let mut before: Option<IntegrationField> = None;
+        let mut planned = Vec::new();
+        for step in steps.chunks(8) {
+            if before.is_some_and(|field| !every_cell_counts(step, &field.field)) {
+                return None;
+            }
+            let previous = before.as_ref().map(|field| &field.field[..]);
+            let (field, _, bytes) = self.planned(&floor[part(step)], step, previous);
+            planned.push(bytes);
+            before = Some(field);
+        }
+        Some(planned)
+    }
+}
+
+/// Where a step's sector stands in a floor and in a sheet.
+fn part(step: &[u8]) -> std::ops::Range<usize> {
+    usize::from(step[0]) * CELLS..(usize::from(step[0]) + 1) * CELLS
+}
+
+/// Whether every cell of a step's window counts: faces a cell below 65535, or has a cell beside it in the window that does.
+pub fn every_cell_counts(step: &[u8], before: &[u32; CELLS]) -> bool {
+    let across = |cell: usize| match step[5] {
+        0 => cell + 90,
+        1 => cell - 9,
+        2 => cell - 90,
+        _ => cell + 9,
+    };
+    let window = route_step(step).portal().map_or(Vec::new(), |window| window.get_all_window_cells());
+    let reached: Vec<bool> = window.iter().map(|cell| before[across(*cell)] as u16 != u16::MAX).collect();
+    (0..reached.len()).all(|k: usize| reached[k.saturating_sub(1)..(k + 2).min(reached.len())].contains(&true))
 }
 
 fn lent(previous: Previous<'_>) -> Option<&[u32]> {
@@ -249,18 +285,18 @@ impl Subject for Oracle {
         if number != 0 {
             return number;
         }
-        let mut before: Option<IntegrationField> = None;
-        for step in steps.chunks(8) {
-            let part = usize::from(step[0]) * CELLS..(usize::from(step[0]) + 1) * CELLS;
-            let previous = before.as_ref().map(|field| &field.field[..]);
-            let (field, _, bytes) = self.planned(&floor[part.clone()], step, previous);
-            sheet[part].copy_from_slice(&bytes);
-            before = Some(field);
+        let Some(planned) = aside(|| self.chained(floor, steps)) else {
+            decides(Judge::Model);
+            return Model::PLAIN.leg(floor, steps, sheet);
+        };
+        decides(Judge::Published);
+        for (step, bytes) in steps.chunks(8).zip(planned) {
+            sheet[part(step)].copy_from_slice(&bytes);
         }
         0
     }
 
-    // What has no Rust is answered by the model of document 02.
+    // A leg file has no Rust.
 
     fn leg_file_write(&self, steps: &[u8], file: &mut [u8]) -> u8 {
         decides(Judge::Model);

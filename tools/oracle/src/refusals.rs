@@ -1,5 +1,5 @@
 //! The table of document 01 ("A leg, the added entry"), read from that page alone: each row a number
-//! and a condition, in the page's order.
+//! and a condition, in the page's order. 15 (02, Job 2) comes after 10 and is found by planning: the model has it.
 
 use std::ops::Index;
 

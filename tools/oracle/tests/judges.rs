@@ -2,7 +2,7 @@
 
 use oracle::groups::{Clean, GROUPS, Group};
 use oracle::judges::Judge;
-use oracle::model::Model;
+use oracle::model::{CLOSED, Model};
 
 fn group(name: &str) -> &'static Group {
     GROUPS.iter().find(|group| group.name == name).expect("a group of that name")
@@ -16,7 +16,8 @@ fn names(name: &str) -> Vec<&'static str> {
 fn groups_name_their_judges() {
     assert_eq!(names("line"), ["published Rust"]);
     assert_eq!(names("sector"), ["published Rust", "counted copy"]);
-    assert_eq!(names("leg refusals"), ["published Rust", "table of refusals"]);
+    assert_eq!(names("leg"), ["published Rust", "model"]);
+    assert_eq!(names("leg refusals"), ["published Rust", "table of refusals", "model"]);
     assert_eq!(names("build refusals"), ["published Rust", "counted copy", "table of refusals"]);
 }
 
@@ -25,9 +26,12 @@ fn the_judges_that_decide_are_those_that_are_named() {
     for group in GROUPS.iter().filter(|group| group.name.ends_with("refusals") || group.name == "readers") {
         let clean = group.run(&Model::PLAIN, 5, 20_000).unwrap_or_else(|_| panic!("{} differs", group.name));
         assert_eq!(group.unmet(&clean), None);
-        // The table or the Rust decides each input, and never both.
-        assert_eq!(clean.judged[Judge::Published as usize] + clean.judged[Judge::Table as usize], clean.inputs);
-        assert_eq!(clean.judged[Judge::Table as usize], clean.inputs - clean.numbers[0]);
+        // The table, the Rust or the model decides each input, and never two of them. 15 is the model's.
+        let judged = |judge: Judge| clean.judged[judge as usize];
+        assert_eq!(judged(Judge::Published) + judged(Judge::Table) + judged(Judge::Model), clean.inputs);
+        let closed = clean.numbers[usize::from(CLOSED)];
+        assert_eq!(judged(Judge::Table), clean.inputs - clean.numbers[0] - closed);
+        assert!(judged(Judge::Model) >= closed);
     }
 }
 

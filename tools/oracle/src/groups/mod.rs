@@ -9,6 +9,7 @@ mod leg_files;
 use crate::cases::{Case, Outcome};
 use crate::floors::Rng;
 use crate::judges::{self, Judge, Judges};
+use crate::model::CLOSED;
 use crate::oracle::{self, Oracle};
 use crate::shrink;
 use crate::subject::{Call, Subject};
@@ -114,12 +115,13 @@ fn compared(case: &Case, side: &dyn Subject) -> Compared {
 }
 
 impl Group {
-    /// The judges of the group: those of its calls, and the table where it must have reached a refusal that the model
-    /// does not judge.
+    /// The judges of the group: those of its calls, and the table where it must have reached a refusal of the table's,
+    /// which has neither 15 nor the numbers of a call that has no Rust.
     pub fn judges(&self) -> Vec<Judge> {
         let accepted = self.needs.iter().filter(|_| self.reaches.contains(&0)).flat_map(|call| oracle::judges(*call));
         let named: Vec<Judge> = accepted.copied().collect();
-        let table = self.reaches.iter().any(|number| *number != 0) && !named.contains(&Judge::Model);
+        let refused = self.reaches.iter().any(|number| ![0, CLOSED].contains(number));
+        let table = refused && named.contains(&Judge::Published);
         let named = |judge: &Judge| named.contains(judge) || (*judge == Judge::Table && table);
         Judge::ALL.into_iter().filter(named).collect()
     }

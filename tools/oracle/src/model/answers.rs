@@ -1,5 +1,6 @@
 //! The calls, answered by the model.
 
+use super::integration::window_cells;
 use super::numbers::Verdict;
 use super::{Model, Slip};
 use crate::refusals::Given;
@@ -20,15 +21,18 @@ fn lent(previous: Previous<'_>) -> Option<&[u32]> {
 impl Model {
     /// The built field, its waves and the flow bytes of a sector.
     fn planned(&self, costs: &[u8], step: &[u8], previous: Option<&[u32]>) -> (IntegrationField, usize, [u8; CELLS]) {
-        let (field, waves) = self.built(costs, &self.started(costs, step));
-        let mut bytes = self.starting_bytes(step, &field.field, previous);
-        for (cell, byte) in bytes.iter_mut().enumerate() {
-            *byte = self.looked(&field.field, cell, *byte);
-        }
+        let window = window_cells(step);
+        let (field, waves) = self.built(costs, &self.started(costs, step, &window));
+        let starting = self.starting_bytes(step, &window, &field.field, previous);
+        (field, waves, self.flow_bytes(&field.field, starting))
+    }
+
+    /// What `build` leaves of the starting bytes.
+    pub(super) fn flow_bytes(&self, cells: &[u32; CELLS], starting: [u8; CELLS]) -> [u8; CELLS] {
         if self.slips(Slip::OneSheetForAll) {
-            bytes = [0x12; CELLS];
+            return [0x12; CELLS];
         }
-        (field, waves, bytes)
+        std::array::from_fn(|cell| self.looked(cells, cell, starting[cell]))
     }
 
     fn refused_build(&self, number: u8) -> BuildAnswer {
@@ -67,26 +71,6 @@ impl Model {
         }
         line
     }
-
-    /// Every step of an accepted leg, in its order.
-    fn plan(&self, floor: &[u8], steps: &[u8], sheet: &mut [u8]) {
-        let mut before: Option<IntegrationField> = None;
-        if self.slips(Slip::UnnamedCleared) {
-            sheet.fill(0);
-        }
-        for (k, step) in steps.chunks(8).enumerate() {
-            let part = usize::from(step[0]) * CELLS..(usize::from(step[0]) + 1) * CELLS;
-            let previous = before.as_ref().map(|field| &field.field[..]);
-            let previous = previous.filter(|_| !self.slips(Slip::PreviousForgotten));
-            let (field, _, bytes) = self.planned(&floor[part.clone()], step, previous);
-            if !self.slips(Slip::LastSectorOnly) || 8 * (k + 1) == steps.len() {
-                sheet[part].copy_from_slice(&bytes);
-            }
-            if k == 0 || !self.slips(Slip::FirstPrevious) {
-                before = Some(field);
-            }
-        }
-    }
 }
 
 impl Subject for Model {
@@ -119,7 +103,7 @@ impl Subject for Model {
         let given = Given { costs: Some(costs), steps: Some(step), ..Given::default() };
         match self.turned_away(&given, &mut []) {
             Some(number) => InitAnswer { number, field: self.refused_build(number).field },
-            None => InitAnswer { number: 0, field: self.started(costs, step) },
+            None => InitAnswer { number: 0, field: self.started(costs, step, &window_cells(step)) },
         }
     }
 
@@ -137,7 +121,7 @@ impl Subject for Model {
         if let Some(number) = self.turned_away(&given, sheet) {
             return number;
         }
-        sheet.copy_from_slice(&self.starting_bytes(step, &field.field, lent(previous)));
+        sheet.copy_from_slice(&self.starting_bytes(step, &window_cells(step), &field.field, lent(previous)));
         0
     }
 
@@ -171,11 +155,10 @@ impl Subject for Model {
     fn leg(&self, floor: &[u8], steps: &[u8], sheet: &mut [u8]) -> u8 {
         let given =
             Given { leg: true, costs: Some(floor), sheet: Some(sheet.len()), steps: Some(steps), ..Given::default() };
-        if let Some(number) = self.turned_away(&given, sheet) {
-            return number;
+        match self.turned_away(&given, sheet) {
+            Some(number) => self.refused_leg(number, floor, steps),
+            None => self.plan_and_write(floor, steps, sheet),
         }
-        self.plan(floor, steps, sheet);
-        0
     }
 
     fn leg_file_write(&self, steps: &[u8], file: &mut [u8]) -> u8 {

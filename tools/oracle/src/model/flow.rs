@@ -5,10 +5,11 @@ use super::{EAST, Model, NORTH, SOUTH, Slip, WEST, beside, walls_beside_move};
 use crate::subject::*;
 
 /// Low halves toward N, E, S, W, NE, SE, SW, NW.
-const BITS: [u8; 8] = [1, 2, 4, 8, 1 + 2, 4 + 2, 4 + 8, 1 + 8];
+pub(super) const BITS: [u8; 8] = [1, 2, 4, 8, 1 + 2, 4 + 2, 4 + 8, 1 + 8];
 
 const PATHABLE: u8 = 0x10;
 const WALL: u8 = 0xE0;
+pub(super) const PORTAL_START: u8 = 0x90;
 
 fn has(value: u32, flag: u32) -> bool {
     value / flag % 2 == 1
@@ -18,30 +19,38 @@ fn low(value: u32) -> u32 {
     value % 0x10000
 }
 
+/// The directions of a window cell's lower and higher side.
+pub(super) fn sides_along(boundary: usize) -> (usize, usize) {
+    if boundary.is_multiple_of(2) { (WEST, EAST) } else { (NORTH, SOUTH) }
+}
+
 impl Model {
-    /// The bytes that `new` leaves.
-    pub(super) fn starting_bytes(&self, step: &[u8], cells: &[u32; CELLS], previous: Option<&[u32]>) -> [u8; CELLS] {
-        let mut bytes = cells.map(|value| self.starting_byte(value));
-        if step[2] != 1 {
-            return bytes;
-        }
+    /// The bytes that `new` leaves, with bits for these of the step's window cells.
+    pub(super) fn starting_bytes(
+        &self,
+        step: &[u8],
+        cells: &[usize],
+        field: &[u32; CELLS],
+        previous: Option<&[u32]>,
+    ) -> [u8; CELLS] {
+        let mut bytes = field.map(|value| self.starting_byte(value));
         let window = window_cells(step);
         let boundary = usize::from(step[5]);
         let looks = window.len() > 1 || self.slips(Slip::OneCellLooks);
-        for cell in &window {
+        for cell in cells {
             let bits = match previous {
                 Some(facing) if looks && !self.slips(Slip::WindowByBoundary) => {
                     self.toward_least(*cell, boundary, &window, facing)
                 }
                 _ => BITS[boundary],
             };
-            bytes[*cell] = if self.slips(Slip::WindowBitsSet) { 0x90 + bits } else { bytes[*cell] | bits };
+            bytes[*cell] = if self.slips(Slip::WindowBitsSet) { PORTAL_START + bits } else { bytes[*cell] | bits };
         }
         bytes
     }
 
     fn starting_byte(&self, value: u32) -> u8 {
-        let mut starts = [(GOAL, 0x70), (PORTAL, 0x90), (LOS, 0x30), (IMPASSABLE, WALL)];
+        let mut starts = [(GOAL, 0x70), (PORTAL, PORTAL_START), (LOS, 0x30), (IMPASSABLE, WALL)];
         match self.slip {
             Slip::PortalBeforeGoal => starts.swap(0, 1),
             Slip::WallBeforeSight => starts.swap(2, 3),
@@ -52,10 +61,10 @@ impl Model {
 
     /// The bits of a window cell that looks at the cells facing it.
     fn toward_least(&self, cell: usize, boundary: usize, window: &[usize], previous: &[u32]) -> u8 {
-        let (lower, higher) = if boundary.is_multiple_of(2) { (WEST, EAST) } else { (NORTH, SOUTH) };
+        let (lower, higher) = sides_along(boundary);
         let seen = |side: Option<usize>| {
             let looked = side.filter(|x| window.contains(x) || self.slips(Slip::OneCellLooks));
-            looked.map_or(u32::MAX, |x| self.facing_value(x, boundary, previous))
+            looked.map_or(u32::MAX, |x| self.facing_value(x, boundary, previous, self.slips(Slip::FacingWithFlags)))
         };
         let straight = seen(Some(cell));
         let sides = [seen(beside(cell, lower)), seen(beside(cell, higher))];
@@ -72,8 +81,8 @@ impl Model {
         BITS[boundary] + if not_above { 0 } else { BITS[if take_lower { lower } else { higher }] }
     }
 
-    /// What the previous field holds in the cell across the boundary.
-    fn facing_value(&self, cell: usize, boundary: usize, previous: &[u32]) -> u32 {
+    /// What the previous field holds in the cell across the boundary: its low 16 bits, or all where a slip wants them.
+    pub(super) fn facing_value(&self, cell: usize, boundary: usize, previous: &[u32], flags: bool) -> u32 {
         let (column, row) = (cell % 10, cell / 10);
         let facing = match boundary {
             NORTH => 90 + column,
@@ -82,7 +91,7 @@ impl Model {
             _ => row * 10 + 9,
         };
         let at = if self.slips(Slip::FacingMirrored) { cell } else { facing };
-        if self.slips(Slip::FacingWithFlags) { previous[at] } else { low(previous[at]) }
+        if flags { previous[at] } else { low(previous[at]) }
     }
 
     /// The byte that `build` leaves where it found `old`.

@@ -23,8 +23,11 @@ fn low(value: u32) -> u32 {
     value % 0x10000
 }
 
-/// The cells of a window, in order.
+/// The cells of a step's window, in order; a goal step has none.
 pub(super) fn window_cells(step: &[u8]) -> Vec<usize> {
+    if step[2] != 1 {
+        return Vec::new();
+    }
     let between = if step[5] % 2 == 0 { 1 } else { 10 };
     (usize::from(step[3])..=usize::from(step[4])).step_by(between).collect()
 }
@@ -34,16 +37,17 @@ fn place(cell: usize) -> (i32, i32) {
 }
 
 impl Model {
-    pub(super) fn started(&self, costs: &[u8], step: &[u8]) -> IntegrationField {
+    /// A sector started from the step's goal, or from these of its window cells.
+    pub(super) fn started(&self, costs: &[u8], step: &[u8], window: &[usize]) -> IntegrationField {
         let blank = |cost: &u8| if *cost == 255 { IMPASSABLE + 65535 } else { 65535 };
         let cells: Vec<u32> = costs.iter().map(blank).collect();
         let mut sight = Sight { cells: cells.try_into().expect("a hundred costs"), corners: Vec::new() };
         if step[2] == 1 {
-            for cell in window_cells(step) {
-                if !(self.slips(Slip::WallKeptUnderWindow) && sight.wall(cell)) {
-                    sight.cells[cell] = PORTAL;
+            for cell in window {
+                if !(self.slips(Slip::WallKeptUnderWindow) && sight.wall(*cell)) {
+                    sight.cells[*cell] = PORTAL;
                 }
-                sight.corners.push(cell);
+                sight.corners.push(*cell);
             }
         } else {
             let goal = usize::from(step[1]);

@@ -4,11 +4,13 @@
 mod answers;
 mod flow;
 mod integration;
+mod leg;
 mod leg_file;
 mod line;
 mod numbers;
 mod slips;
 
+pub use leg::{CLOSED, Plan, PlannedStep};
 pub use slips::Slip;
 
 /// The model, with no slip or with one.

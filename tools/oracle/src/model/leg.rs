@@ -1,0 +1,175 @@
+//! A leg: steps planned one after the other (01, "A leg, the added entry"), each from those window cells that count
+//! (02, Job 2), and the sheet written when all are planned.
+
+use super::flow::{BITS, PORTAL_START, sides_along};
+use super::integration::window_cells;
+use super::{Model, Slip, beside};
+use crate::subject::*;
+
+/// The number of a leg with a window in which no cell counts.
+pub const CLOSED: u8 = 15;
+
+/// A step of a leg, planned.
+pub struct PlannedStep {
+    pub sector: usize,
+    /// The cells of the window, in order; a goal step has none.
+    pub window: Vec<usize>,
+    /// Those of them that count.
+    pub counting: Vec<usize>,
+    pub field: IntegrationField,
+    pub bytes: [u8; CELLS],
+}
+
+/// What of a leg is planned: every step, or those before a window in which no cell counts.
+pub struct Plan {
+    pub steps: Vec<PlannedStep>,
+    pub closed: bool,
+}
+
+/// Where the bytes of a sector stand in a floor and in a sheet.
+fn part(sector: usize) -> std::ops::Range<usize> {
+    sector * CELLS..(sector + 1) * CELLS
+}
+
+impl Model {
+    /// Plans the steps of a leg that the table takes, and writes nothing.
+    pub fn plan(&self, floor: &[u8], steps: &[u8]) -> Plan {
+        let mut plan = Plan { steps: Vec::new(), closed: false };
+        let mut before: Option<IntegrationField> = None;
+        for (k, step) in steps.chunks(8).enumerate() {
+            let sector = usize::from(step[0]);
+            let window = window_cells(step);
+            let costs = &floor[part(sector)];
+            let previous = before.as_ref().map(|field| &field.field[..]);
+            let counting = previous.map_or(Vec::new(), |field| self.counting_cells(costs, step, &window, field));
+            if k > 0 && counting.is_empty() && self.refuses_closed(k) {
+                plan.closed = true;
+                break;
+            }
+            let (field, bytes) = self.planned_step(costs, step, &window, &counting, previous);
+            if k == 0 || !self.slips(Slip::FirstPrevious) {
+                before = Some(self.handed_on(costs, step, &window, field));
+            }
+            plan.steps.push(PlannedStep { sector, window, counting, field, bytes });
+        }
+        plan
+    }
+
+    /// Whether a window in which no cell counts is refused at the k-th step, from 0.
+    fn refuses_closed(&self, k: usize) -> bool {
+        !(self.slips(Slip::ClosedPlanned) || (self.slips(Slip::ClosedAtSecondStep) && k > 1))
+    }
+
+    /// The window cells that count, in order; a slip looks at their own costs.
+    fn counting_cells(&self, costs: &[u8], step: &[u8], window: &[usize], previous: &[u32]) -> Vec<usize> {
+        let boundary = usize::from(step[5]);
+        let counts = |cell: &usize| self.counts(*cell, boundary, window, previous);
+        let counting: Vec<usize> = window.iter().copied().filter(counts).collect();
+        let (first, last) = (counting.first().copied(), counting.last().copied());
+        let between =
+            |cell: &usize| first.is_some_and(|first| first <= *cell) && last.is_some_and(|last| *cell <= last);
+        match self.slip {
+            Slip::EveryCellCounts => window.to_vec(),
+            Slip::OneCountsForAll if !counting.is_empty() => window.to_vec(),
+            Slip::GapsFilled => window.iter().copied().filter(between).collect(),
+            Slip::WallNeverCounts => counting.into_iter().filter(|cell| costs[*cell] != 255).collect(),
+            _ => counting,
+        }
+    }
+
+    /// A window cell counts if some facing cell that it compares is below 65535.
+    fn counts(&self, cell: usize, boundary: usize, window: &[usize], previous: &[u32]) -> bool {
+        let (lower, higher) = sides_along(boundary);
+        let side = |toward: usize| beside(cell, toward).filter(|side| self.compares(*side, toward == lower, window));
+        let mut compared = [Some(cell), side(lower), side(higher)].into_iter().flatten();
+        let flags = self.slips(Slip::CountedWithFlags);
+        let reached = |cell: usize| self.facing_value(cell, boundary, previous, flags) < 65535;
+        if self.slips(Slip::EveryComparedNeeded) { compared.all(reached) } else { compared.any(reached) }
+    }
+
+    /// Whether a window cell compares the cell that faces one of its sides: the first has no lower side in the window,
+    /// the last no higher, and the only one neither.
+    fn compares(&self, side: usize, lower: bool, window: &[usize]) -> bool {
+        match self.slip {
+            Slip::StraightAlone => false,
+            Slip::FirstSeesLower if window.len() > 1 => lower || window.contains(&side),
+            Slip::LastSeesHigher if window.len() > 1 => !lower || window.contains(&side),
+            Slip::OneCellSeesSides if window.len() == 1 => true,
+            _ => window.contains(&side),
+        }
+    }
+
+    /// The built field and the flow bytes of a step.
+    fn planned_step(
+        &self,
+        costs: &[u8],
+        step: &[u8],
+        window: &[usize],
+        counting: &[usize],
+        previous: Option<&[u32]>,
+    ) -> (IntegrationField, [u8; CELLS]) {
+        let left_out: Vec<usize> = window.iter().copied().filter(|cell| !counting.contains(cell)).collect();
+        let costs = self.own_costs(costs, &left_out);
+        let portals = if self.slips(Slip::LeftOutStarted) { window } else { counting };
+        let mut started = self.started(&costs, step, portals);
+        if self.slips(Slip::LeftOutListed) {
+            left_out.iter().for_each(|cell| started.field[*cell] &= 0xffff_0000);
+            started = IntegrationField::new(started.field, &[started.corners(), &left_out].concat());
+        }
+        let (field, _) = self.built(&costs, &started);
+        let previous = previous.filter(|_| !self.slips(Slip::PreviousForgotten));
+        let mut starting = self.starting_bytes(step, counting, &field.field, previous);
+        for cell in left_out {
+            match self.slip {
+                Slip::LeftOutMarked => starting[cell] |= PORTAL_START,
+                Slip::LeftOutPointed => starting[cell] |= BITS[usize::from(step[5])],
+                _ => {}
+            }
+        }
+        (field, self.flow_bytes(&field.field, starting))
+    }
+
+    /// A cell that does not count is wall or floor by its own cost.
+    fn own_costs(&self, costs: &[u8], left_out: &[usize]) -> Vec<u8> {
+        let mut own = costs.to_vec();
+        for cell in left_out {
+            match self.slip {
+                Slip::LeftOutWalled => own[*cell] = 255,
+                Slip::LeftOutOpened => own[*cell] = own[*cell].min(254),
+                _ => {}
+            }
+        }
+        own
+    }
+
+    /// The field that serves the next step as its previous field.
+    fn handed_on(&self, costs: &[u8], step: &[u8], window: &[usize], field: IntegrationField) -> IntegrationField {
+        if !self.slips(Slip::WholeWindowHandedOn) {
+            return field;
+        }
+        self.built(costs, &self.started(costs, step, window)).0
+    }
+
+    /// Plans a leg that the table takes, and writes it where every step is planned.
+    pub(super) fn plan_and_write(&self, floor: &[u8], steps: &[u8], sheet: &mut [u8]) -> u8 {
+        let plan = self.plan(floor, steps);
+        if plan.closed && !self.slips(Slip::WrittenStepByStep) {
+            return CLOSED;
+        }
+        if self.slips(Slip::UnnamedCleared) {
+            sheet.fill(0);
+        }
+        for (k, step) in plan.steps.iter().enumerate() {
+            if !self.slips(Slip::LastSectorOnly) || 8 * (k + 1) == steps.len() {
+                sheet[part(step.sector)].copy_from_slice(&step.bytes);
+            }
+        }
+        if plan.closed { CLOSED } else { 0 }
+    }
+
+    /// The number of a leg that the table refuses; a slip plans it before 10 is judged.
+    pub(super) fn refused_leg(&self, number: u8, floor: &[u8], steps: &[u8]) -> u8 {
+        let early = number == 10 && self.slips(Slip::ClosedBeforeTen) && self.plan(floor, steps).closed;
+        if early { CLOSED } else { number }
+    }
+}
