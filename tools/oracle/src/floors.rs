@@ -108,6 +108,34 @@ pub fn few_walls(rng: &mut Rng) -> Costs {
     costs
 }
 
+/// Walls around a corner of the sector, so that what they close off is floor and is not reached.
+fn close_corner(rng: &mut Rng, costs: &mut Costs) {
+    let (columns, rows) = (1 + rng.below(5), 1 + rng.below(5));
+    let (mirrored, upturned) = (rng.one_in(2), rng.one_in(2));
+    for (index, cost) in costs.iter_mut().enumerate() {
+        let column = if mirrored { 9 - index % 10 } else { index % 10 };
+        let row = if upturned { 9 - index / 10 } else { index / 10 };
+        if (column == columns && row <= rows) || (row == rows && column <= columns) {
+            *cost = 255;
+        }
+    }
+}
+
+/// Walls on at most so many of a hundred cells, perhaps a corner closed off, perhaps walls along an edge.
+pub fn with_closed_parts(rng: &mut Rng, most: usize) -> Costs {
+    let percent = rng.below(most + 1);
+    let others = rng.pick(&[&[1][..], &[1, 2, 10], &[1, 254], &COSTS[..6]]);
+    let mut costs = walls(rng, percent, others);
+    if rng.one_in(3) {
+        close_corner(rng, &mut costs);
+    }
+    if rng.one_in(3) {
+        let (boundary, a, b) = (rng.below(4), rng.below(10), rng.below(10));
+        (a.min(b)..=a.max(b)).for_each(|along| costs[edge_cell(boundary, along)] = 255);
+    }
+    costs
+}
+
 /// A floor of any kind.
 pub fn any(rng: &mut Rng) -> Costs {
     let percent = rng.below(71);
@@ -136,15 +164,20 @@ pub fn goal_step(sector: usize, goal: usize) -> Step {
     [sector as u8, goal as u8, 0, 0, 0, 0, 0, 0]
 }
 
-/// A window on a boundary, from one place along the edge to another.
-pub fn window_step(sector: usize, boundary: usize, first: usize, last: usize) -> Step {
-    let cell = |along: usize| match boundary {
+/// The cell of an edge at a place along it.
+pub fn edge_cell(boundary: usize, along: usize) -> usize {
+    match boundary {
         0 => along,
         1 => along * 10 + 9,
         2 => 90 + along,
         _ => along * 10,
-    };
-    [sector as u8, 0, 1, cell(first) as u8, cell(last) as u8, boundary as u8, 0, 0]
+    }
+}
+
+/// A window on a boundary, from one place along the edge to another.
+pub fn window_step(sector: usize, boundary: usize, first: usize, last: usize) -> Step {
+    let cell = |along: usize| edge_cell(boundary, along) as u8;
+    [sector as u8, 0, 1, cell(first), cell(last), boundary as u8, 0, 0]
 }
 
 /// All 220 windows.
@@ -174,26 +207,48 @@ pub fn any_step(rng: &mut Rng) -> Step {
     step
 }
 
+/// A sector beside the last of these that is none of them, and the boundary by which it is left for that one.
+fn next_sector(rng: &mut Rng, sectors: &[usize]) -> Option<(usize, usize)> {
+    let before = *sectors.last().expect("a leg has a first step");
+    let sides: Vec<(usize, usize)> = (0..4)
+        .filter_map(|toward| across(before as u8, toward as u8).map(|sector| (usize::from(sector), (toward + 2) % 4)))
+        .filter(|(sector, _)| !sectors.contains(sector))
+        .collect();
+    if sides.is_empty() { None } else { Some(rng.pick(&sides)) }
+}
+
 /// A leg that the table takes, of at most `most` steps.
 pub fn any_leg(rng: &mut Rng, most: usize) -> Vec<u8> {
     let mut sectors = vec![rng.below(64)];
     let mut steps = goal_step(sectors[0], rng.below(CELLS)).to_vec();
     for _ in 1..1 + rng.below(most) {
-        let before = *sectors.last().expect("a leg has a first step");
-        let sides: Vec<(usize, usize)> = (0..4)
-            .filter_map(|toward| {
-                across(before as u8, toward as u8).map(|sector| (usize::from(sector), (toward + 2) % 4))
-            })
-            .filter(|(sector, _)| !sectors.contains(sector))
-            .collect();
-        if sides.is_empty() {
-            break;
-        }
-        let (sector, boundary) = rng.pick(&sides);
+        let Some((sector, boundary)) = next_sector(rng, &sectors) else { break };
         steps.extend(any_window(rng, sector, boundary));
         sectors.push(sector);
     }
     steps
+}
+
+/// A leg that the table takes, of exactly so many steps: a third of its windows are whole edges, a quarter of them one
+/// cell.
+pub fn leg_of(rng: &mut Rng, steps: usize) -> Vec<u8> {
+    loop {
+        let mut sectors = vec![rng.below(64)];
+        let mut leg = goal_step(sectors[0], rng.below(CELLS)).to_vec();
+        while sectors.len() < steps {
+            let Some((sector, boundary)) = next_sector(rng, &sectors) else { break };
+            let along = rng.below(10);
+            leg.extend(match rng.below(12) {
+                0..4 => window_step(sector, boundary, 0, 9),
+                4..7 => window_step(sector, boundary, along, along),
+                _ => any_window(rng, sector, boundary),
+            });
+            sectors.push(sector);
+        }
+        if sectors.len() == steps {
+            return leg;
+        }
+    }
 }
 
 /// A leg of so many steps, along row 0 and back along row 1; a step more goes on in row 2.
@@ -210,6 +265,14 @@ pub fn straight_leg(steps: usize) -> Vec<u8> {
         leg.extend(window_step(now, boundary, 0, 9));
     }
     leg
+}
+
+/// A floor and a leg from sector 1, by its whole west edge, to cell 44 of sector 0. Sector 0 is open but for its east edge,
+/// where only rows 3 and 9 are floor.
+pub fn leg_with_a_gap() -> (Vec<u8>, Vec<u8>) {
+    let mut floor = vec![1; 64 * CELLS];
+    (0..10).filter(|row| ![3, 9].contains(row)).for_each(|row| floor[edge_cell(1, row)] = 255);
+    (floor, [goal_step(0, 44), window_step(1, 3, 0, 9)].concat())
 }
 
 /// A floor of 64 sectors.

@@ -1,7 +1,9 @@
 //! What is to be proved, tried on the Rust: least walks, arrows, waves (demand 3), by reading document
-//! 01 once more and searching walks without waves.
+//! 01 once more and searching walks without waves. Legs in which some window cell does not count are tried on the model.
 
 use oracle::floors::{Costs, Rng, Step, any, any_field, any_previous, any_step, walls};
+use oracle::groups::GROUPS;
+use oracle::model::Model;
 use oracle::oracle::Oracle;
 use oracle::subject::*;
 
@@ -156,4 +158,31 @@ fn arrows_end_in_the_window() {
         }
     }
     assert!(followed > FLOORS);
+}
+
+/// The same in each sector of a leg that is left by a window, where "window" means the cells that count (02, Job 2).
+#[test]
+fn sectors_of_a_leg_lead_to_the_cells_that_count() {
+    let gaps = GROUPS.iter().find(|group| group.name == "leg, gaps").expect("a group of that name");
+    let (mut left_out, mut followed) = (0, 0);
+    for case in (gaps.cases)(Rng::new(14), FLOORS) {
+        for step in Model::PLAIN.plan(&case.costs, &case.steps).steps.iter().skip(1) {
+            let part = &case.costs[step.sector * CELLS..(step.sector + 1) * CELLS];
+            let costs: Costs = part.try_into().expect("a hundred costs");
+            let (window, built) = (&step.counting, &step.field.field);
+            let wall = |cell: usize| costs[cell] == 255 && !window.contains(&cell);
+            let least = least_walks(&IntegrationField::new([0; CELLS], window), &costs, |cell, _| !wall(cell));
+            for cell in 0..CELLS {
+                let due = if wall(cell) { 65535 } else { least[cell].unwrap_or(65535) };
+                assert_eq!(low(built[cell]), due);
+                if due < 65535 && !costs.contains(&0) {
+                    follow(cell, &step.bytes, built, window, wall);
+                    followed += 1;
+                }
+            }
+            left_out += step.window.len() - window.len();
+        }
+    }
+    println!("{left_out} window cells did not count, {followed} cells were followed");
+    assert!(left_out > 1_000 && followed > FLOORS);
 }

@@ -1,11 +1,11 @@
-//! Where the Rust and document 01 part, each shown on the Rust itself.
+//! Where the Rust and the documents part, each shown on the Rust itself.
 
 use std::collections::BTreeMap;
 use std::panic::{AssertUnwindSafe, catch_unwind};
 
 use oracle::cases::Case;
-use oracle::floors::{Rng, any, any_step, goal_step, one_wall};
-use oracle::model::{Model, Slip};
+use oracle::floors::{Rng, Step, any, any_step, goal_step, one_wall, uniform, window_step};
+use oracle::model::{CLOSED, Model, Slip};
 use oracle::oracle::{Oracle, counted_build, route_step};
 use oracle::shrink::smallest;
 use oracle::subject::*;
@@ -162,6 +162,31 @@ fn windows_that_the_rust_finds() {
     assert_eq!(found(CompassDir::West), None);
     // Part of a run, a window over a wall, and one off the floor are taken here.
     assert_eq!((number_of(19, 19, 1), number_of(9, 99, 1), number_of(0, 90, 3)), (0, 0, 0));
+}
+
+/// The bytes of sector 1, left by this window for sector 0, whose goal is cell 44, with these walls: by the Rust's calls
+/// chained, and by a leg, with its number.
+fn behind(walls: &[usize], window: Step) -> ([u8; CELLS], u8, Vec<u8>) {
+    let mut costs = uniform(1);
+    walls.iter().for_each(|wall| costs[*wall] = 255);
+    let (goal, none, mut bytes) = (goal_step(0, 44), Previous { lent: false, numbers: &[] }, [0; CELLS]);
+    let before = Oracle.sector(&costs, &goal, none, &mut bytes).field.field;
+    Oracle.sector(&uniform(1), &window, Previous { lent: true, numbers: &before }, &mut bytes);
+    let mut floor = vec![1; 64 * CELLS];
+    floor[..CELLS].copy_from_slice(&costs);
+    let mut sheet = vec![0; 64 * CELLS];
+    let number = Oracle.leg(&floor, &[goal, window].concat(), &mut sheet);
+    (bytes, number, sheet[CELLS..2 * CELLS].to_vec())
+}
+
+/// A window cell that compares no reached cell points there in the Rust; in a leg it does not count (02, Job 2).
+#[test]
+fn window_cells_that_do_not_count() {
+    let (rust, number, leg) = behind(&[9, 19], window_step(1, 3, 0, 9));
+    assert_eq!((number, rust[0], leg[0]), (0, 0x98, 0x14));
+    assert_eq!((rust[10], leg[10]), (0x9C, 0x9C));
+    let (rust, number, leg) = behind(&[9], window_step(1, 3, 0, 0));
+    assert_eq!((number, rust[0], leg), (CLOSED, 0x98, vec![0; CELLS]));
 }
 
 /// With equal spans the steep and the shallow walk are the same cells, so a slip there cannot be seen.

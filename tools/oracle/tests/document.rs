@@ -2,7 +2,7 @@
 
 use oracle::floors::{goal_step, one_wall, uniform, window_step};
 use oracle::groups::GROUPS;
-use oracle::model::Model;
+use oracle::model::{CLOSED, Model};
 use oracle::oracle::Oracle;
 use oracle::records::sections;
 use oracle::subject::*;
@@ -117,7 +117,7 @@ fn recorded_refusals_reach_every_number() {
     let refusals = &sections.iter().find(|section| section.name == "refusals.table").expect("a section").records;
     let refusing = GROUPS.iter().filter(|group| group.name.ends_with("refusals"));
     for group in refusing.filter(|group| calls.contains(&group.needs[0])) {
-        for number in group.reaches {
+        for number in group.reaches.iter().filter(|number| **number != CLOSED) {
             let call = group.needs[0];
             let met = refusals.iter().any(|record| calls[usize::from(record[0])] == call && record[155] == *number);
             // 4 to 8 are one definition for each call that has a step; the sample spreads them.

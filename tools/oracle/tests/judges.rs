@@ -1,6 +1,6 @@
 //! A group is held to the judges that it names.
 
-use oracle::groups::{Clean, GROUPS, Group};
+use oracle::groups::{Clean, GROUPS, Group, Met};
 use oracle::judges::Judge;
 use oracle::model::{CLOSED, Model};
 
@@ -17,6 +17,7 @@ fn groups_name_their_judges() {
     assert_eq!(names("line"), ["published Rust"]);
     assert_eq!(names("sector"), ["published Rust", "counted copy"]);
     assert_eq!(names("leg"), ["published Rust", "model"]);
+    assert_eq!(names("leg, gaps"), ["published Rust", "model"]);
     assert_eq!(names("leg refusals"), ["published Rust", "table of refusals", "model"]);
     assert_eq!(names("build refusals"), ["published Rust", "counted copy", "table of refusals"]);
 }
@@ -45,4 +46,21 @@ fn another_judge_or_none_is_seen() {
     assert!(fault(&clean).contains("model: the group does not name it"));
     clean.numbers[0] = 0;
     assert!(fault(&clean).contains("did not reach number 0"));
+}
+
+#[test]
+fn legs_with_gaps_must_meet_each_kind() {
+    let group = group("leg, gaps");
+    let whole = group.run(&Model::PLAIN, 6, 20_000).unwrap_or_else(|_| panic!("the model differs from the Rust"));
+    assert_eq!(group.unmet(&whole), None);
+    assert_eq!(whole.met.keys().filter(|met| matches!(met, Met::Closed { .. })).count(), 120);
+    let lacking = [Met::GapBetween, Met::OneCell, Met::OneCellClosed, Met::Closed { steps: 16, at: 16 }];
+    for met in lacking {
+        let mut clean = whole.clone();
+        clean.met.remove(&met);
+        assert!(group.unmet(&clean).expect("a fault").contains(&format!("did not meet `{met}` in")));
+    }
+    let mut clean = whole.clone();
+    clean.numbers[usize::from(CLOSED)] = 0;
+    assert!(group.unmet(&clean).expect("a fault").contains("did not reach number 15"));
 }

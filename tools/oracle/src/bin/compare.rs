@@ -1,11 +1,12 @@
-//! Compares the proved library with the Rust, group by group; `--model` compares the model of
-//! document 01 instead, `--slips` the model with one slip after the other.
+//! Compares the proved library with the Rust, group by group; `--model` compares the model of the
+//! documents instead, `--slips` the model with one slip after the other.
 
+use std::collections::BTreeMap;
 use std::process::ExitCode;
 use std::time::Instant;
 
 use oracle::command;
-use oracle::groups::{Clean, Difference, GROUPS, Group};
+use oracle::groups::{Clean, Difference, GROUPS, Group, Met};
 use oracle::judges::Judge;
 use oracle::library::Library;
 use oracle::model::{Model, Slip};
@@ -88,6 +89,18 @@ fn report_clean(group: &Group, clean: &Clean, start: Instant) {
     let seconds = start.elapsed().as_secs_f64();
     println!("{:<20} {:>9} inputs alike  {seconds:>7.1} s  numbers {}", group.name, clean.inputs, numbers.join(", "));
     println!("{:<20} decided by: {}", "", judged(&clean.judged));
+    if !clean.met.is_empty() {
+        println!("{:<20} met: {}", "", met(&clean.met));
+    }
+}
+
+/// How many inputs met what, the places at which 15 was found together.
+fn met(counts: &BTreeMap<Met, usize>) -> String {
+    let (closed, kinds): (Vec<_>, Vec<_>) = counts.iter().partition(|(met, _)| matches!(met, Met::Closed { .. }));
+    let mut words: Vec<String> = kinds.iter().map(|(met, count)| format!("{met} {count}")).collect();
+    let inputs: usize = closed.iter().map(|(_, count)| **count).sum();
+    words.push(format!("15 at {} places of legs of 2 to 16 steps {inputs}", closed.len()));
+    words.join(", ")
 }
 
 fn report_difference(group: &Group, difference: &Difference) {

@@ -171,15 +171,16 @@ pub fn two_walls(mut rng: Rng, inputs: usize) -> Cases {
     }))
 }
 
-pub(super) fn leg_case(rng: &mut Rng) -> Case {
+/// Old bytes of a leg's sheet.
+pub(super) fn leg_sheet(rng: &mut Rng) -> Vec<u8> {
     let old = rng.draw() as u8;
+    (0..64 * CELLS).map(|i| old.wrapping_add(i as u8)).collect()
+}
+
+pub(super) fn leg_case(rng: &mut Rng) -> Case {
+    let sheet = leg_sheet(rng);
     let most = rng.pick(&[1, 2, 3, 5, 16]);
-    Case {
-        costs: floors::any_whole_floor(rng),
-        steps: floors::any_leg(rng, most),
-        sheet: (0..64 * CELLS).map(|i| old.wrapping_add(i as u8)).collect(),
-        ..Case::of(Call::Leg)
-    }
+    Case { costs: floors::any_whole_floor(rng), steps: floors::any_leg(rng, most), sheet, ..Case::of(Call::Leg) }
 }
 
 /// A leg holds as much as many sectors, so a twentieth of the inputs.

@@ -5,6 +5,11 @@
 mod bad;
 mod good;
 mod leg_files;
+mod legs;
+
+use std::collections::BTreeMap;
+
+pub use legs::{Met, closed_leg, leg_kinds, leg_that_counts, leg_that_meets};
 
 use crate::cases::{Case, Outcome};
 use crate::floors::Rng;
@@ -47,7 +52,8 @@ pub const GROUPS: &[Group] = &[
     },
     Group { name: "sector", needs: &[Call::Sector], cases: good::sectors, reaches: &[0] },
     Group { name: "sector, two walls", needs: &[Call::Sector], cases: good::two_walls, reaches: &[0] },
-    Group { name: "leg", needs: &[Call::Leg], cases: good::legs, reaches: &[0] },
+    Group { name: "leg", needs: &[Call::Leg], cases: good::legs, reaches: &[0, CLOSED] },
+    Group { name: GAPS, needs: &[Call::Leg], cases: legs::gaps, reaches: &[0, CLOSED] },
     Group { name: "file write", needs: &[Call::LegFileWrite], cases: leg_files::writes, reaches: &[0, 2, 3] },
     Group { name: "file read", needs: &[Call::LegFileRead], cases: leg_files::reads, reaches: &[0, 14] },
     Group { name: "line refusals", needs: &[Call::Line], cases: bad::lines, reaches: &[0, 13] },
@@ -69,17 +75,27 @@ pub const GROUPS: &[Group] = &[
         cases: bad::sectors,
         reaches: &[0, 1, 2, 3, 4, 5, 6, 7, 8, 12],
     },
-    Group { name: "leg refusals", needs: &[Call::Leg], cases: bad::legs, reaches: &[0, 1, 2, 3, 4, 5, 6, 7, 8, 9, 10] },
+    Group {
+        name: "leg refusals",
+        needs: &[Call::Leg],
+        cases: bad::legs,
+        reaches: &[0, 1, 2, 3, 4, 5, 6, 7, 8, 9, 10, CLOSED],
+    },
 ];
 
+/// Legs whose windows face cells that were not reached.
+const GAPS: &str = "leg, gaps";
+
 /// What a group that found no difference saw.
-#[derive(Default)]
+#[derive(Clone, Default)]
 pub struct Clean {
     pub inputs: usize,
     /// How often each number was due.
     pub numbers: [usize; 21],
     /// How many inputs each judge decided, by its place in `Judge::ALL`. A build has two: fields and waves.
     pub judged: [usize; 4],
+    /// How many inputs met what the group has to meet besides numbers.
+    pub met: BTreeMap<Met, usize>,
 }
 
 impl Clean {
@@ -88,6 +104,7 @@ impl Clean {
         self.inputs += other.inputs;
         sum(&mut self.numbers, &other.numbers);
         sum(&mut self.judged, &other.judged);
+        other.met.iter().for_each(|(met, count)| *self.met.entry(*met).or_default() += count);
     }
 }
 
@@ -115,6 +132,11 @@ fn compared(case: &Case, side: &dyn Subject) -> Compared {
 }
 
 impl Group {
+    /// What the inputs must have met besides numbers.
+    fn meets(&self) -> Vec<Met> {
+        if self.name == GAPS { legs::all() } else { Vec::new() }
+    }
+
     /// The judges of the group: those of its calls, and the table where it must have reached a refusal of the table's,
     /// which has neither 15 nor the numbers of a call that has no Rust.
     pub fn judges(&self) -> Vec<Judge> {
@@ -128,8 +150,12 @@ impl Group {
 
     pub fn run(&self, side: &dyn Subject, seed: u64, inputs: usize) -> Result<Clean, Box<Difference>> {
         let mut clean = Clean::default();
+        let meets = !self.meets().is_empty();
         for case in (self.cases)(Rng::new(seed), inputs) {
             clean.inputs += 1;
+            if meets {
+                legs::met(&case).into_iter().for_each(|met| *clean.met.entry(met).or_default() += 1);
+            }
             let Compared { due, judges, found } = compared(&case, side);
             clean.numbers[usize::from(due.number)] += 1;
             for (count, decided) in clean.judged.iter_mut().zip(judges) {
@@ -144,13 +170,17 @@ impl Group {
         Ok(clean)
     }
 
-    /// What the group has to have met and has not: a number, or a judge; or a judge that it does not name.
+    /// What the group has to have met and has not: a number, a kind of input, or a judge; or a judge that it does not
+    /// name.
     pub fn unmet(&self, clean: &Clean) -> Option<String> {
         let (name, inputs) = (self.name, clean.inputs);
         if let Some(number) = self.reaches.iter().find(|number| clean.numbers[usize::from(**number)] == 0) {
             return Some(format!(
                 "`{name}` did not reach number {number} in {inputs} inputs: ask for more by --inputs"
             ));
+        }
+        if let Some(met) = self.meets().into_iter().find(|met| !clean.met.contains_key(met)) {
+            return Some(format!("`{name}` did not meet `{met}` in {inputs} inputs: ask for more by --inputs"));
         }
         let named = self.judges();
         let decided = |judge: Judge| clean.judged[judge as usize] > 0;
