@@ -12,7 +12,7 @@
 //! | flow_new | 910 | 8 step, 100 cells of 32 bits, has_previous, 100 previous of 32 bits | number, 100 sheet |
 //! | flow_build | 601 | 100 cells of 32 bits, 100 sheet | number, 100 sheet |
 //! | sector | 1112 | 100 costs, 8 step, has_previous, 100 previous of 32 bits | number, waves, count, 100 corners, 100 cells of 32 bits, 100 sheet |
-//! | leg | 3330 | step count, 128 steps, 16 times 100 costs | number, 16 times 100 sheet |
+//! | leg, leg.model | 3330 | step count, 128 steps, 16 times 100 costs | number, 16 times 100 sheet |
 //! | refusals.table | 160 | see below | number, 4 zeros |
 //! | leg_file_write.model | 314 | list length, buffer length, buffer's byte, list in 150 places | number, buffer in 160 places |
 //! | leg_file_read.model | 154 | file length, file in 150 places | number, start, length of the part |
@@ -24,9 +24,10 @@
 //! flow_new, flow_build, sector: the flow calls do not look at a field's list, so none is recorded
 //! (count 0). The sheet lent to `flow_new` and to the sector call holds 0x55 in every byte.
 //!
-//! leg: the k-th 100 costs and sheet bytes are those of the sector that step k names. Cost bytes of
+//! leg, leg.model: the k-th 100 costs and sheet bytes are those of the sector that step k names. Cost bytes of
 //! sectors not named are 1; every byte of the sheet is 0x55 before the call, and those of sectors not
-//! named still are after it. What stands beyond the last step is 0.
+//! named still are after it, as all are where the number is not 0. What stands beyond the last step is 0.
+//! In `leg` every window cell counts; in `leg.model` some window has a cell that does not.
 //!
 //! refusals.table: call (0 init, 1 build, 2 flow_new, 3 flow_build, 4 sector, 5 leg, 6 line, 7 line_end), then
 //! in 16 bits each costs length, sheet length, step bytes' length; has_previous; in 16 bits each
@@ -44,7 +45,8 @@
 
 use crate::cases::Case;
 use crate::floors::{self, Costs, Rng, Step};
-use crate::judges::Judge;
+use crate::groups;
+use crate::judges::{self, Judge};
 use crate::model::{Model, Slip};
 use crate::oracle::Oracle;
 use crate::subject::*;
@@ -93,7 +95,8 @@ pub fn sections() -> Vec<Section> {
         Section { name: "flow_new", length: 910, records: flows_new(rng()) },
         Section { name: "flow_build", length: 601, records: flows_build(rng()) },
         Section { name: "sector", length: 1112, records: sectors(rng()) },
-        Section { name: "leg", length: 3330, records: legs(rng()) },
+        Section { name: "leg", length: 3330, records: legs(rng(), true) },
+        Section { name: "leg.model", length: 3330, records: legs(rng(), false) },
         Section { name: "refusals.table", length: 160, records: refusals() },
         Section { name: "leg_file_write.model", length: 314, records: file_writes(rng()) },
         Section { name: "leg_file_read.model", length: 154, records: file_reads(rng()) },
@@ -328,14 +331,16 @@ fn sectors(mut rng: Rng) -> Vec<Vec<u8>> {
     all.into_iter().map(|(costs, step)| sector(costs, step, previous(&mut rng))).collect()
 }
 
-fn leg(rng: &mut Rng, steps: Vec<u8>) -> Vec<u8> {
-    let mut floor = vec![1; 64 * CELLS];
+/// A leg, and whether the Rust decides it. Cost bytes of sectors not named are made 1.
+fn leg(case: &Case) -> (bool, Vec<u8>) {
+    let steps = &case.steps;
     let part = |step: &[u8]| usize::from(step[0]) * CELLS..(usize::from(step[0]) + 1) * CELLS;
+    let mut floor = vec![1; 64 * CELLS];
     for step in steps.chunks(8) {
-        floor[part(step)].copy_from_slice(&floors::any(rng));
+        floor[part(step)].copy_from_slice(&case.costs[part(step)]);
     }
     let mut sheet = vec![0x55; 64 * CELLS];
-    let number = Oracle.leg(&floor, &steps, &mut sheet);
+    let (number, judges) = judges::during(|| Oracle.leg(&floor, steps, &mut sheet));
     let parts = |of: &[u8]| {
         let mut bytes: Vec<u8> = steps.chunks(8).flat_map(|step| of[part(step)].to_vec()).collect();
         bytes.resize(16 * CELLS, 0);
@@ -346,17 +351,38 @@ fn leg(rng: &mut Rng, steps: Vec<u8>) -> Vec<u8> {
     record.extend(parts(&floor));
     record.push(number);
     record.extend(parts(&sheet));
-    record
+    (judges[Judge::Published as usize], record)
 }
 
-/// Sixteen steps, then legs of any length.
-fn legs(mut rng: Rng) -> Vec<Vec<u8>> {
-    let mut records = vec![leg(&mut rng, floors::straight_leg(16))];
+/// A leg over floors of any kind.
+fn leg_on_any(rng: &mut Rng, steps: Vec<u8>) -> Case {
+    let mut costs = vec![1; 64 * CELLS];
+    for step in steps.chunks(8) {
+        let at = usize::from(step[0]) * CELLS;
+        costs[at..at + CELLS].copy_from_slice(&floors::any(rng));
+    }
+    Case { costs, steps, ..Case::of(Call::Leg) }
+}
+
+/// Sixteen steps, legs of any length, then legs that meet each kind of window, and 15 at the first step that can have it,
+/// in the middle and at the last.
+fn all_legs(mut rng: Rng) -> Vec<Case> {
+    let mut cases = vec![leg_on_any(&mut rng, floors::straight_leg(16))];
     for most in [1, 2, 3, 5, 8, 12, 16] {
         let steps = floors::any_leg(&mut rng, most);
-        records.push(leg(&mut rng, steps));
+        cases.push(leg_on_any(&mut rng, steps));
     }
-    records
+    let (costs, steps) = floors::leg_with_a_gap();
+    cases.push(Case { costs, steps, ..Case::of(Call::Leg) });
+    cases.extend([2, 4, 8, 16].map(|steps| groups::leg_that_counts(&mut rng, steps)));
+    cases.extend(groups::leg_kinds().map(|kind| groups::leg_that_meets(&mut rng, kind)));
+    cases.extend([(2, 2), (16, 2), (12, 7), (16, 16)].map(|(steps, at)| groups::closed_leg(&mut rng, steps, at)));
+    cases
+}
+
+/// The legs in which every window cell counts, which the Rust decides, or the others.
+fn legs(rng: Rng, by_rust: bool) -> Vec<Vec<u8>> {
+    all_legs(rng).iter().map(leg).filter(|(rust, _)| *rust == by_rust).map(|(_, record)| record).collect()
 }
 
 /// One thing that is refused, or only just taken.

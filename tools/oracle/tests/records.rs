@@ -66,7 +66,7 @@ fn a_file_without_a_rust_judge_says_so_in_its_name() {
         .filter(|section| !section.judges().contains(&Judge::Published))
         .map(|section| section.name)
         .collect();
-    assert_eq!(without, ["refusals.table", "leg_file_write.model", "leg_file_read.model"]);
+    assert_eq!(without, ["leg.model", "refusals.table", "leg_file_write.model", "leg_file_read.model"]);
     assert!(sections.iter().all(|section| section.name.contains('.') == without.contains(&section.name)));
 }
 
@@ -144,7 +144,13 @@ fn sectors() {
 
 #[test]
 fn legs() {
-    each("leg", |r| {
+    for name in ["leg", "leg.model"] {
+        legs_of(name);
+    }
+}
+
+fn legs_of(name: &str) {
+    each(name, |r| {
         let (count, steps, costs) = (usize::from(r.byte()), r.bytes(128), r.bytes(1600));
         let (number, due) = (r.byte(), r.bytes(1600));
         let steps = &steps[..8 * count];
@@ -156,6 +162,9 @@ fn legs() {
         }
         assert_eq!(MODEL.leg(&floor, steps, &mut sheet), number);
         assert_eq!(sheet, expected);
+        let plan = MODEL.plan(&floor, steps);
+        let whole = !plan.closed && plan.steps.iter().all(|step| step.counting == step.window);
+        assert_eq!(whole, name == "leg");
     });
 }
 
