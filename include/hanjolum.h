@@ -52,6 +52,7 @@
  *     12  a previous field lent as other than 100 numbers
  *     13  a column or row outside 0 to 9
  *     14  leg file: mark, version, count or length wrong
+ *     15  leg: a window with no counting cell, found when its step is planned, after 10
  * In a leg 4 to 8 are judged for one step before the next. The writer of a leg file judges 3 as a leg does, and then 2
  * for a buffer that is not exactly as long as the file.
  *
@@ -179,9 +180,15 @@ HanjolumBuildAnswer hanjolum_sector(
 
 /*
  * Plans a leg of 1 to 16 steps over a floor, from the goal back: the first step has the goal, each later one a window
- * that faces the sector of the step before it in the list. Writes the 100 bytes of each named sector to the sheet, at
- * sector * 100; all other bytes of the sheet stay as they were. All refusals come before the first write.
- * Answers its number: 0, or 1 to 10.
+ * that faces the sector of the step before it in the list. Each step's built field serves as previous field of the next.
+ * A window cell counts only if a cell that it faces was reached in the sector of the step before: the one straight across,
+ * or one that faces its neighbour in the window. A cell that does not count is as any cell of its sector, wall or floor by
+ * its cost: the field does not start from it, and its arrow is that of any floor. With no cost of 0 the arrows of a sector
+ * left by a window lead into one of the cells that count. A window of which no cell counts is 15. (hanjolum_sector, called
+ * by itself, starts from the whole window.)
+ * All steps are planned before the sheet is written: a refusal, 15 too, leaves every byte of it. Writes the 100 bytes of
+ * each named sector to the sheet, at sector * 100; all other bytes of the sheet stay as they were.
+ * Answers its number: 0, 1 to 10, or 15.
  */
 uint8_t hanjolum_leg(
     const uint8_t *floor, size_t floor_length,

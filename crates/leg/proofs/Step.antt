@@ -1,72 +1,144 @@
 -- One step of a leg.
---     in-floor         its sector is one of the floor's
---     plans-step       what the sector call leaves, lent the sector's part, is what planning the step leaves
---     from-first, from-more    planning step after step: before the first, and a step more
+--     in-floor                 its sector is one of the floor's
+--     held, held-is            the target that the program makes of a step is the step's, and is inside the sector
+--     closed-is                the program finds a window closed exactly where it is
+--     closes-step, plans-step  what planning the step answers and leaves: where its window is closed, and where the run is lent the sector's part
+--     from-first, from-more, from-last    planning step after step: before the first, a step more, and behind the last
+--     shut-first, shut-here, shut-more, shut-last    whether a window from a place on is closed: before the first step, at a closed one, behind an
+--                              open one, and behind the last
+--     copy-ready, copies       what copying is given, and what it leaves
 -- Assumes nothing.
-use mathlib.Core.Path.{_≡_, refl, ap, _∙_}
-use mathlib.Core.Bool.{Bool, true, false, not, _&&_}
+use mathlib.Core.Path.{_≡_, sym, ap, ap₂, subst, _∙_}
+use mathlib.Core.Bool.{Bool, true, false, true≢false, _&&_, _||_}
 use mathlib.Core.List.{List, [], _++_}
-use Prim.Native.Nat.{ℕ, _+_, _*_, _/_, _<_}
+use Prim.Native.Nat.{ℕ, _+_, _*_, _/_, _<_, _≤_}
 use native.Mathlib.Omega.{arith}
 use lib.Dec.{eqb, ltb}
 use lib.ListN.{length, take, drop}
 use lib.Seq.{drop-drop}
-use borrow.Author.Tests.{eq-eqb, lt-ltb}
-use Rattle.route.specs.Step.{sectorOf}
+use borrow.Author.Tests.{lt-ltb}
+use Rattle.route.specs.declared.PortalWindow.{PortalWindow}
+use Rattle.route.specs.declared.RouteStep.{RouteStep}
+use Rattle.route.specs.declared.Target as program
+use Rattle.route.specs.Step.{sectorOf, routeStep}
+use Rattle.route.specs.Target.{Target}
+use Rattle.route.specs.Inner.{listedTarget, heldTarget, TargetHeld}
 use Rattle.route.proofs.Accepted.{accepted-step}
-use Rattle.integration_field.specs.declared.BuildAnswer.{BuildAnswer}
-use Rattle.sector.specs.Sector.{sectorNumber, sectorAnswer, sectorSheet}
-use Rattle.leg_plan.specs.Leg.{part, stepsOf, plannedFrom, planned}
-use Rattle.leg_plan.specs.Inner.{stepAt}
-use Rattle.leg.specs.Inner.{StepReady, StepPlanned}
-use Rattle.leg_plan.proofs.Steps.{stepsFrom, from-start, from-here}
-use Rattle.leg_plan.proofs.Sheet.{from-none}
-use Rattle.leg_plan.proofs.Planned.{part-hundred}
+use Rattle.route.proofs.Targets.{held-listed, listed-held}
+use Rattle.sector.specs.Sector.{sectorField, sectorBytes}
+use Rattle.counting.specs.Counting.{legTarget, isClosed}
+use Rattle.counting.specs.Inner.{routeLegTarget}
+use Rattle.leg_plan.specs.Leg.{part, stepsOf, stepField, stepBytes, closedFrom, someClosed, withPart, plannedFrom, planned}
+use Rattle.leg_plan.specs.Inner.{stepAt, LegReady, copied}
+use Rattle.leg_plan.proofs.Steps.{stepsFrom, from-start, from-here, from-done}
+use Rattle.leg_plan.proofs.Sheet.{from-none, closed-from-none, copied-planned}
+use Rattle.leg_plan.proofs.Planned.{fits}
+use Rattle.counting.proofs.Counting.{leg-target-in, made-is, closed-listed}
+use Rattle.leg.specs.declared.PlannedStep.{PlannedStep}
+use Rattle.leg.specs.Inner.{StepReady, StepPlanned, CopyReady}
 
-fits : (has : Bool) (previous : List ℕ) → (has ≡ true → length previous ≡ 100) → (has && not (eqb (length previous) 100)) ≡ false
-fits true previous h = rw (eq-eqb (length previous) 100 (h refl))
-fits false previous h = refl
-
-module _ {floor step : List ℕ} {has : Bool} {previous sheet : List ℕ} (ready : StepReady floor step has previous sheet) where
+module _ {floor step sheet : List ℕ} (ready : StepReady floor step sheet) where
   pub in-floor : sectorOf step < 64
   in-floor = accepted-step step (ready .accepted) .sector-in
 
-  number-zero : sectorNumber (part floor (sectorOf step)) step has previous (part sheet (sectorOf step)) ≡ 0
-  unfolding sectorNumber
-  number-zero = rw (
-    eq-eqb _ 100 (part-hundred floor (sectorOf step) (ready .floor-full) in-floor),
-    eq-eqb _ 100 (part-hundred sheet (sectorOf step) (ready .sheet-full) in-floor),
-    ready .accepted,
-    fits has previous (ready .previous-fits),
-  )
+  module _ (has : Bool) (previous : List ℕ) {s : RouteStep} {t : program.Target}
+      (apart : s ≡ routeStep step) (made : t ≡ listedTarget (routeLegTarget s has previous)) where
+    is : t ≡ listedTarget (legTarget has previous step)
+    is = made-is step has previous apart made
 
-  at-sector : (r : BuildAnswer) (bytes : List ℕ)
-      → r ≡ sectorAnswer (part floor (sectorOf step)) step has previous (part sheet (sectorOf step))
-      → bytes ≡ sectorSheet (part floor (sectorOf step)) step has previous (part sheet (sectorOf step))
-      → StepPlanned floor step has previous sheet (r .field .field) (take (sectorOf step * 100) sheet ++ (bytes ++ drop 100 (drop (sectorOf step * 100) sheet)))
-  at-sector r bytes p q =
-      record {
-        answered = ap (λ (x : BuildAnswer). x .field .field) p ∙ rw number-zero;
-        wrote = rw (drop-drop 100 (sectorOf step * 100) sheet, q, number-zero);
-      }
+    pub held-is : heldTarget t ≡ legTarget has previous step
+    held-is = ap heldTarget is ∙ held-listed (legTarget has previous step)
 
-  -- as the part is lent: by the sector's number as it was read, and the length as it was worked out
-  pub plans-step : (w : ℕ) → w ≡ sectorOf step → (n : ℕ) → n ≡ 100 → (r : BuildAnswer) (bytes : List ℕ)
-      → r ≡ sectorAnswer (take n (drop (w * 100) floor)) step has previous (take n (drop (w * 100) sheet))
-      → bytes ≡ sectorSheet (take n (drop (w * 100) floor)) step has previous (take n (drop (w * 100) sheet))
-      → StepPlanned floor step has previous sheet (r .field .field) (take (w * 100) sheet ++ (bytes ++ drop n (drop (w * 100) sheet)))
-  plans-step w e n f = rw (e, f) at-sector
+    pub held : TargetHeld t
+    held = subst TargetHeld (sym is) (listed-held (legTarget has previous step) (leg-target-in has previous step (ready .accepted)))
+
+    pub closed-is : (t .«has_window» && eqb (t .window .count) 0) ≡ isClosed (legTarget has previous step)
+    closed-is = ap (λ (u : program.Target). u .«has_window» && eqb (u .window .count) 0) is ∙ closed-listed (legTarget has previous step)
+
+    pub closes-step : (b : Bool) → b ≡ (t .«has_window» && eqb (t .window .count) 0) → b ≡ true → (r : PlannedStep) → r .closed ≡ true
+        → StepPlanned floor step has previous sheet r sheet
+    closes-step b e h r q = record {
+      closed-is = q ∙ sym h ∙ e ∙ closed-is;
+      answered = λ z. absurd (true≢false (sym q ∙ z));
+      wrote = λ z. absurd (true≢false (sym q ∙ z));
+    }
+
+    at-sector : (b : Bool) → b ≡ (t .«has_window» && eqb (t .window .count) 0) → b ≡ false → (cells bytes : List ℕ)
+        → cells ≡ sectorField (part floor (sectorOf step)) (heldTarget t) .field
+        → bytes ≡ sectorBytes (part floor (sectorOf step)) (heldTarget t) (s .portal) has previous
+        → StepPlanned floor step has previous sheet (record { closed = false; cells = cells })
+        (take (sectorOf step * 100) sheet ++ (bytes ++ drop 100 (drop (sectorOf step * 100) sheet)))
+    at-sector b e h cells bytes p q =
+        record {
+          closed-is = sym h ∙ e ∙ closed-is;
+          answered = λ z. (p ∙ ap (λ (u : Target). sectorField (part floor (sectorOf step)) u .field) held-is);
+          wrote = λ z. (ap₂ (λ (x y : List ℕ). take (sectorOf step * 100) sheet ++ (x ++ y))
+              (q
+              ∙ ap₂ (λ (u : Target) (w : PortalWindow). sectorBytes (part floor (sectorOf step)) u w has previous) held-is
+              (ap (λ (r : RouteStep). r .portal) apart))
+              (drop-drop 100 (sectorOf step * 100) sheet));
+        }
+
+    -- as the part is lent: by the sector's number as it was read, and by its length as it was worked out
+    pub plans-step : (w : ℕ) → w ≡ sectorOf step → (n : ℕ) → n ≡ 100
+        → (b : Bool) → b ≡ (t .«has_window» && eqb (t .window .count) 0) → b ≡ false → (cells bytes : List ℕ)
+        → cells ≡ sectorField (take n (drop (w * 100) floor)) (heldTarget t) .field
+        → bytes ≡ sectorBytes (take n (drop (w * 100) floor)) (heldTarget t) (s .portal) has previous
+        → StepPlanned floor step has previous sheet (record { closed = false; cells = cells })
+        (take (w * 100) sheet ++ (bytes ++ drop n (drop (w * 100) sheet)))
+    plans-step w e n f = rw (e, f) at-sector
 
 -- ---- step after step
 
--- before the first step, whatever stands in the place of a previous field
-pub from-first : (floor steps previous sheet : List ℕ) → planned floor (stepsOf steps) sheet ≡ plannedFrom floor (stepsFrom steps 0) (ltb 0 0) previous sheet
-unfolding planned
-from-first floor steps previous sheet = rw (from-start steps) (from-none floor (stepsOf steps) [] previous sheet)
+module _ (floor steps : List ℕ) where
+  -- before the first step, whatever stands in the place of a previous field
+  pub from-first : (previous sheet : List ℕ) → planned floor (stepsOf steps) sheet ≡ plannedFrom floor (stepsFrom steps 0) (ltb 0 0) previous sheet
+  unfolding planned
+  from-first previous sheet = rw (from-start steps) (from-none floor (stepsOf steps) [] previous sheet)
 
--- a step more is planned, lent as this part of the bytes
-pub from-more : (steps : List ℕ) (k : ℕ) → k < length steps / 8 → {step : List ℕ} → step ≡ stepAt steps k
-    → {floor previous sheet built after : List ℕ} → StepPlanned floor step (ltb 0 k) previous sheet built after
-    → plannedFrom floor (stepsFrom steps k) (ltb 0 k) previous sheet ≡ plannedFrom floor (stepsFrom steps (k + 1)) (ltb 0 (k + 1)) built after
-unfolding plannedFrom
-from-more steps k h e p = rw (from-here steps k h, p .answered, p .wrote, e, lt-ltb 0 (k + 1) (omega arith))
+  pub shut-first : (previous : List ℕ) → someClosed floor (stepsOf steps) ≡ closedFrom floor (stepsFrom steps 0) (ltb 0 0) previous
+  unfolding someClosed
+  shut-first previous = rw (from-start steps) (closed-from-none floor (stepsOf steps) [] previous)
+
+  -- a step is planned, lent as this part of the bytes
+  module _ {k : ℕ} (h : k < length steps / 8) {step : List ℕ} (e : step ≡ stepAt steps k) {previous sheet after : List ℕ} {r : PlannedStep}
+      (p : StepPlanned floor step (ltb 0 k) previous sheet r after) where
+    pub from-more : r .closed ≡ false
+        → plannedFrom floor (stepsFrom steps k) (ltb 0 k) previous sheet ≡ plannedFrom floor (stepsFrom steps (k + 1)) (ltb 0 (k + 1)) (r .cells) after
+    unfolding plannedFrom
+    from-more z = rw (from-here steps k h, p .answered z, p .wrote z, e, lt-ltb 0 (k + 1) (omega arith))
+
+    shut-at : closedFrom floor (stepsFrom steps k) (ltb 0 k) previous
+        ≡ (r .closed || closedFrom floor (stepsFrom steps (k + 1)) true (stepField floor (ltb 0 k) previous step))
+    unfolding closedFrom
+    shut-at = rw (from-here steps k h, p .closed-is, e)
+
+    pub shut-here : r .closed ≡ true → closedFrom floor (stepsFrom steps k) (ltb 0 k) previous ≡ true
+    shut-here z = shut-at ∙ rw z
+
+    pub shut-more : r .closed ≡ false
+        → closedFrom floor (stepsFrom steps k) (ltb 0 k) previous ≡ closedFrom floor (stepsFrom steps (k + 1)) (ltb 0 (k + 1)) (r .cells)
+    shut-more z = shut-at ∙ rw (z, p .answered z, lt-ltb 0 (k + 1) (omega arith))
+
+  -- behind the last step
+  pub from-last : (k : ℕ) → length steps / 8 ≤ k → (has : Bool) (previous sheet : List ℕ) → plannedFrom floor (stepsFrom steps k) has previous sheet ≡ sheet
+  unfolding plannedFrom
+  from-last k h has previous sheet = rw (from-done steps k h)
+
+  pub shut-last : (k : ℕ) → length steps / 8 ≤ k → (has : Bool) (previous : List ℕ) → closedFrom floor (stepsFrom steps k) has previous ≡ false
+  unfolding closedFrom
+  shut-last k h has previous = rw (from-done steps k h)
+
+-- ---- the parts of the named sectors
+
+-- what copying is given, from a sheet of 64 sectors to another
+pub copy-ready : {floor steps : List ℕ} → LegReady floor steps → {from sheet : List ℕ} → length from ≡ 6400 → length sheet ≡ 6400 → CopyReady steps from sheet
+copy-ready {steps = steps} ready f g =
+    record { in-floor = λ k h. accepted-step (stepAt steps k) (ready .accepted k h) .sector-in; from-full = f; sheet-full = g }
+
+-- the parts of a planned sheet, copied, make the sheet of the planned leg
+pub copies : {floor steps : List ℕ} → LegReady floor steps → (scratch sheet : List ℕ) → length scratch ≡ 6400
+    → copied (stepsOf steps) (planned floor (stepsOf steps) scratch) sheet ≡ planned floor (stepsOf steps) sheet
+unfolding planned
+copies {floor = floor} {steps = steps} ready scratch sheet f =
+    copied-planned floor (stepsOf steps) scratch sheet (fits floor steps scratch ready f) (ready .named-once)

@@ -1,23 +1,35 @@
--- What planning one step does to the sheet: the contract of a function of the leg's own, no part of what is promised.
+-- What planning the steps does: the contracts of the leg's own functions, no part of what is promised.
 -- Assumes nothing.
 use mathlib.Core.Path.{_≡_}
-use mathlib.Core.Bool.{Bool, true}
+use mathlib.Core.Bool.{Bool, false}
 use mathlib.Core.List.{List}
-use Prim.Native.Nat.{ℕ}
+use Prim.Native.Nat.{ℕ, _/_, _<_}
 use lib.ListN.{length}
-use Rattle.route.specs.Step.{sectorOf, portalOf, stepNumber}
-use Rattle.route.specs.Target.{targetOf}
-use Rattle.sector.specs.Sector.{sectorField, sectorBytes}
-use Rattle.leg_plan.specs.Leg.{part, withPart}
+use Rattle.route.specs.Step.{sectorOf, stepNumber}
+use Rattle.counting.specs.Counting.{legTarget, isClosed}
+use Rattle.leg_plan.specs.Leg.{stepsOf, stepField, stepBytes, someClosed, withPart, planned}
+use Rattle.leg_plan.specs.Inner.{stepAt}
+use Rattle.leg.specs.declared.PlannedStep.{PlannedStep}
 
--- a step that the sector call takes, on a floor and a sheet of 64 sectors
-pub record StepReady (floor step : List ℕ) (has : Bool) (previous sheet : List ℕ) : Type 0 where
+-- a step that is not refused before it is planned, on a floor and a sheet of 64 sectors
+pub record StepReady (floor step sheet : List ℕ) : Type 0 where
   pub floor-full : length floor ≡ 6400
   pub sheet-full : length sheet ≡ 6400
   pub accepted : stepNumber step ≡ 0
-  pub previous-fits : has ≡ true → length previous ≡ 100
 
 -- what planning a step answers, and the sheet that it leaves
-pub record StepPlanned (floor step : List ℕ) (has : Bool) (previous sheet built after : List ℕ) : Type 0 where
-  pub answered : built ≡ sectorField (part floor (sectorOf step)) (targetOf step) .field
-  pub wrote : after ≡ withPart sheet (sectorOf step) (sectorBytes (part floor (sectorOf step)) (targetOf step) (portalOf step) has previous)
+pub record StepPlanned (floor step : List ℕ) (has : Bool) (previous sheet : List ℕ) (r : PlannedStep) (after : List ℕ) : Type 0 where
+  pub closed-is : r .closed ≡ isClosed (legTarget has previous step)
+  pub answered : r .closed ≡ false → r .cells ≡ stepField floor has previous step
+  pub wrote : r .closed ≡ false → after ≡ withPart sheet (sectorOf step) (stepBytes floor has previous step)
+
+-- the same of all steps
+pub record StepsPlanned (floor steps sheet : List ℕ) (closed : Bool) (after : List ℕ) : Type 0 where
+  pub closed-is : closed ≡ someClosed floor (stepsOf steps)
+  pub wrote : closed ≡ false → after ≡ planned floor (stepsOf steps) sheet
+
+-- steps that each name a sector of the floor, and two sheets of 64 sectors
+pub record CopyReady (steps from sheet : List ℕ) : Type 0 where
+  pub in-floor : (k : ℕ) → k < length steps / 8 → sectorOf (stepAt steps k) < 64
+  pub from-full : length from ≡ 6400
+  pub sheet-full : length sheet ≡ 6400

@@ -1,4 +1,6 @@
-// A leg: its number is decided before the first write; then each step is planned onto its own sector's part of the sheet.
+// A leg: what is refused by its bytes is refused first; then each step is planned, onto its own sector's part of a sheet of the leg's own;
+// and where all are planned, the named sectors' parts are copied to the sheet that is lent.
+use route::RouteStep;
 use sectors::Across;
 use utilities::CompassDir;
 ghost use mathlib.Core.Path.{_≡_};
@@ -8,10 +10,10 @@ ghost use lib.ListN.{length};
 ghost use Rattle.utilities.specs.Compass.{sideOf};
 ghost use Rattle.route.specs.Table.{firstNumber};
 ghost use Rattle.sectors.specs.Floor.{across};
-ghost use Rattle.leg_plan.specs.Leg.{stepsOf, names, namesTwice, someGoal, outOfOrder, isSector, apart, eachRows, legNumber, planned, legSheet};
-ghost use Rattle.leg_plan.specs.Inner.{LegReady};
+ghost use Rattle.leg_plan.specs.Leg.{stepsOf, names, namesTwice, someGoal, outOfOrder, isSector, apart, eachRows, judgedRows, legNumber, legSheet};
+ghost use Rattle.leg_plan.specs.Inner.{LegReady, copied};
 ghost use Rattle.leg_plan.specs.Promise.{LegPlanned};
-ghost use Rattle.leg.specs.Inner.{StepPlanned, StepReady};
+ghost use Rattle.leg.specs.Inner.{StepPlanned, StepReady, StepsPlanned, CopyReady};
 
 fn wide(byte: u8) -> usize
     ensures { λ r. ⌜ r ≡ byte ⌝ }
@@ -125,9 +127,9 @@ fn is_apart(steps: &[u8]) -> bool
     false
 }
 
-// The number of the table for a leg with a sheet of so many bytes.
+// The table's number for a leg with a sheet of so many bytes, before a step is planned: 1 to 10.
 fn leg_number(floor: &[u8], steps: &[u8], sheet_length: usize) -> u8
-    ensures { λ r. ⌜ ((sheet : List ℕ) → length sheet ≡ «sheet_length» → r ≡ legNumber (now (floor .entry)) (now (steps .entry)) sheet) ⌝ }
+    ensures { λ r. ⌜ ((sheet : List ℕ) → length sheet ≡ «sheet_length» → r ≡ firstNumber (judgedRows (now (floor .entry)) (now (steps .entry)) sheet)) ⌝ }
 {
     if floor.len() != 6400 {
         return 1;
@@ -151,42 +153,87 @@ fn leg_number(floor: &[u8], steps: &[u8], sheet_length: usize) -> u8
     0
 }
 
-// Plans a step onto its sector's part of the sheet, and answers the built cells.
+// What planning a step comes to: that no cell of its window counts; or the built cells.
+struct PlannedStep {
+    closed: bool,
+    cells: [u32; 100],
+}
+
+// Plans a step onto its sector's part of the sheet, and answers the built cells; where no cell of its window counts, nothing is written.
 fn plan_step(
     floor: &[u8],
     step: &[u8],
     has_previous: bool,
-    previous: &[u32],
+    previous: &[u32; 100],
     sheet: &mut [u8],
-) -> [u32; 100]
-    requires { ⌜ StepReady (now floor) (now step) «has_previous» (now previous) (now sheet) ⌝ }
+) -> PlannedStep
+    requires { ⌜ StepReady (now floor) (now step) (now sheet) ⌝ }
     ensures { λ r. ⌜ StepPlanned (now (floor .entry)) (now (step .entry)) «has_previous» (now (previous .entry)) (now (sheet .entry)) r (now (sheet .exit)) ⌝ }
 {
+    let route_step = RouteStep::new(step);
+    let portal = route_step.portal;
+    let target = counting::leg_target(route_step, has_previous, previous);
     let at = wide(step[0]) * 100;
     let end = at + 100;
+    if counting::is_closed(target) {
+        return PlannedStep {
+            closed: true,
+            cells: [0; 100],
+        };
+    }
     let costs = &floor[at..end];
-    let answer = sector::plan_sector(costs, step, has_previous, previous, &mut sheet[at..end]);
+    let answer = sector::run(
+        costs,
+        target,
+        portal,
+        has_previous,
+        previous,
+        &mut sheet[at..end],
+    );
     let built = answer.field;
-    built.field
+    let cells = built.field;
+    PlannedStep {
+        closed: false,
+        cells,
+    }
 }
 
-// Plans the steps in order, each with the built field of the step before.
-fn plan_steps(floor: &[u8], steps: &[u8], sheet: &mut [u8])
-    requires { ⌜ LegReady (now floor) (now steps) (now sheet) ⌝ }
-    ensures { λ _. ⌜ now (sheet .exit) ≡ planned (now (floor .entry)) (stepsOf (now (steps .entry))) (now (sheet .entry)) ⌝ }
+// Plans the steps in order, each with the built field of the step before, up to one with a window that has no counting cell; whether there is one.
+fn plan_steps(floor: &[u8], steps: &[u8], sheet: &mut [u8]) -> bool
+    requires { ⌜ (LegReady (now floor) (now steps)) × (length (now sheet) ≡ 6400) ⌝ }
+    ensures { λ r. ⌜ StepsPlanned (now (floor .entry)) (now (steps .entry)) (now (sheet .entry)) r (now (sheet .exit)) ⌝ }
 {
     let count = steps.len() / 8;
     let mut previous = [0u32; 100];
     let mut k = 0;
     while k < count {
         let at = k * 8;
-        let built = plan_step(floor, &steps[at..at + 8], 0 < k, &previous, sheet);
-        previous = built;
+        let planned = plan_step(floor, &steps[at..at + 8], 0 < k, &previous, sheet);
+        if planned.closed {
+            return true;
+        }
+        previous = planned.cells;
+        k += 1;
+    }
+    false
+}
+
+// Copies the parts of the named sectors from one sheet to another.
+fn copy_parts(steps: &[u8], from: &[u8], sheet: &mut [u8])
+    requires { ⌜ CopyReady (now steps) (now from) (now sheet) ⌝ }
+    ensures { λ _. ⌜ now (sheet .exit) ≡ copied (stepsOf (now (steps .entry))) (now (from .entry)) (now (sheet .entry)) ⌝ }
+{
+    let count = steps.len() / 8;
+    let mut k = 0;
+    while k < count {
+        let at = wide(steps[k * 8]) * 100;
+        let end = at + 100;
+        bytes::copy(&from[at..end], &mut sheet[at..end]);
         k += 1;
     }
 }
 
-// The leg: 0 where it is planned, else the number with which it is refused.
+// The leg: 0 where it is planned, else the number with which it is refused. All steps are planned before the sheet is written.
 pub fn plan_leg(floor: &[u8], steps: &[u8], sheet: &mut [u8]) -> u8
     ensures number { λ r. ⌜ r ≡ legNumber (now (floor .entry)) (now (steps .entry)) (now (sheet .entry)) ⌝ }
     ensures sheet { λ _. ⌜ now (sheet .exit) ≡ legSheet (now (floor .entry)) (now (steps .entry)) (now (sheet .entry)) ⌝ }
@@ -196,6 +243,10 @@ pub fn plan_leg(floor: &[u8], steps: &[u8], sheet: &mut [u8]) -> u8
     if number != 0 {
         return number;
     }
-    plan_steps(floor, steps, sheet);
+    let mut scratch = [0u8; 6400];
+    if plan_steps(floor, steps, &mut scratch) {
+        return 15;
+    }
+    copy_parts(steps, &scratch, sheet);
     0
 }

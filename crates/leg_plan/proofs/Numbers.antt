@@ -1,11 +1,14 @@
 -- The number of a leg, down the table.
 --     each-first, each-none    numbers 4 to 8: a step that is refused decides, else what comes below
 --     number-9 .. number-0     where no step is refused: 9 decides before 10, and 10 before none
---     accepted                 what is known of a leg that is not refused
+--     Judged, judged           what is known where nothing is refused before a step is planned
+--     judged-first             a number that is judged before then is the leg's
+--     closed-15, open-0        else 15 where a window is closed, and 0 where none is
+--     ready                    what planning is given
 -- Assumes nothing.
 use mathlib.Core.Path.{_≡_, refl, sym, ap, _∙_}
 use mathlib.Core.Bool.{Bool, true, false, true≢false, cond, not, _||_}
-use mathlib.Core.List.{List, [], _∷_, _++_}
+use mathlib.Core.List.{List, [], _∷_, _++_, append-assoc}
 use Prim.Native.Nat.{ℕ, zero, suc, _<_}
 use native.Mathlib.Omega.{arith}
 use lib.Dec.{eqb}
@@ -14,14 +17,15 @@ use borrow.Author.Tests.{eqb-true, eqb-false, eq-eqb}
 use Rattle.route.specs.Table.{Row, row, firstNumber}
 use Rattle.route.specs.Step.{isWindow, eachStep, noStepList}
 use Rattle.route.proofs.Accepted.{each-step}
-use Rattle.leg_plan.specs.Leg.{stepsOf, namesTwice, someGoal, outOfOrder, apart, eachRows, legNumber}
+use Rattle.leg_plan.specs.Leg.{stepsOf, namesTwice, someGoal, outOfOrder, apart, eachRows, someClosed, judgedRows, legNumber}
 use Rattle.leg_plan.specs.Inner.{stepAt, LegReady}
 use Rattle.leg_plan.proofs.Steps.{neither, steps-count, step-of, step-long}
 
 -- ---- numbers 4 to 8, and what comes below them
 
 -- a step that is refused decides
-pub each-first : (ss : List (List ℕ)) (rest : List Row) → eqb (firstNumber (eachRows ss)) 0 ≡ false → firstNumber (eachRows ss ++ rest) ≡ firstNumber (eachRows ss)
+pub each-first : (ss : List (List ℕ)) (rest : List Row) → eqb (firstNumber (eachRows ss)) 0 ≡ false
+    → firstNumber (eachRows ss ++ rest) ≡ firstNumber (eachRows ss)
 each-first [] rest h = absurd (true≢false h)
 each-first (s ∷ ss) rest h = go (eqb (eachStep s) 0) h (each-first ss rest)
   where
@@ -30,6 +34,16 @@ each-first (s ∷ ss) rest h = go (eqb (eachStep s) 0) h (each-first ss rest)
         → cond (not b) (eachStep s) (firstNumber (eachRows ss ++ rest)) ≡ cond (not b) (eachStep s) (firstNumber (eachRows ss))
     go true k ih = ih k
     go false k ih = refl
+
+-- a number that is not 0 stays the first
+rows-first : (a b : List Row) → (firstNumber a ≡ 0 → ⊥) → firstNumber (a ++ b) ≡ firstNumber a
+rows-first [] b h = absurd (h refl)
+rows-first (r ∷ a) b h = go (r .holds) h (rows-first a b)
+  where
+    go : (t : Bool) → (cond t (r .number) (firstNumber a) ≡ 0 → ⊥) → ((firstNumber a ≡ 0 → ⊥) → firstNumber (a ++ b) ≡ firstNumber a)
+        → cond t (r .number) (firstNumber (a ++ b)) ≡ cond t (r .number) (firstNumber a)
+    go true h ih = refl
+    go false h ih = ih h
 
 -- a list of steps of which none is refused, step by step
 each-head : (s : List ℕ) (ss : List (List ℕ)) → firstNumber (eachRows (s ∷ ss)) ≡ 0 → (eachStep s ≡ 0) × (firstNumber (eachRows ss) ≡ 0)
@@ -52,25 +66,21 @@ each-good (s ∷ ss) e (suc k) h = each-good ss (each-head s ss e .1) k (omega a
 
 module _ (floor steps sheet : List ℕ) (floor-full : length floor ≡ 6400) (sheet-full : length sheet ≡ 6400)
     (list : noStepList steps ≡ false) (each : firstNumber (eachRows (stepsOf steps)) ≡ 0) where
-  nine-then-ten : legNumber floor steps sheet ≡ firstNumber (row 9 (outOfOrder (stepsOf steps)) ∷ row 10 (apart (stepsOf steps)) ∷ [])
-  unfolding legNumber
+  nine-then-ten : firstNumber (judgedRows floor steps sheet) ≡ firstNumber (row 9 (outOfOrder (stepsOf steps)) ∷ row 10 (apart (stepsOf steps)) ∷ [])
+  unfolding judgedRows
   nine-then-ten = rw (eq-eqb (length floor) 6400 floor-full, eq-eqb (length sheet) 6400 sheet-full, list) (each-none (stepsOf steps) _ each)
 
-  pub number-9 : outOfOrder (stepsOf steps) ≡ true → legNumber floor steps sheet ≡ 9
+  pub number-9 : outOfOrder (stepsOf steps) ≡ true → firstNumber (judgedRows floor steps sheet) ≡ 9
   number-9 h = nine-then-ten ∙ rw h
 
   module _ (ordered : outOfOrder (stepsOf steps) ≡ false) where
-    pub number-10 : apart (stepsOf steps) ≡ true → legNumber floor steps sheet ≡ 10
+    pub number-10 : apart (stepsOf steps) ≡ true → firstNumber (judgedRows floor steps sheet) ≡ 10
     number-10 h = nine-then-ten ∙ rw (ordered, h)
 
-    pub number-0 : apart (stepsOf steps) ≡ false → legNumber floor steps sheet ≡ 0
+    pub number-0 : apart (stepsOf steps) ≡ false → firstNumber (judgedRows floor steps sheet) ≡ 0
     number-0 h = nine-then-ten ∙ rw (ordered, h)
 
--- ---- a leg that is not refused
-
-ordered-once : (ss : List (List ℕ)) → outOfOrder ss ≡ false → namesTwice ss ≡ false
-ordered-once [] e = refl
-ordered-once (s ∷ ss) e = neither (isWindow s || someGoal ss) (namesTwice (s ∷ ss)) e .1
+-- ---- nothing refused before a step is planned
 
 each-zero : (ss : List (List ℕ)) (rest : List Row) → firstNumber (eachRows ss ++ rest) ≡ 0 → firstNumber (eachRows ss) ≡ 0
 each-zero ss rest e = go (eqb (firstNumber (eachRows ss)) 0) refl
@@ -79,32 +89,83 @@ each-zero ss rest e = go (eqb (firstNumber (eachRows ss)) 0) refl
     go true q = eqb-true (firstNumber (eachRows ss)) 0 q
     go false q = sym (each-first ss rest q) ∙ e
 
-pub accepted : (floor steps sheet : List ℕ) → legNumber floor steps sheet ≡ 0 → LegReady floor steps sheet
-unfolding legNumber
-accepted floor steps sheet =
-    go (eqb (length floor) 6400) (eqb (length sheet) 6400) (noStepList steps) refl refl
-  where
-    rest : List Row
-    rest = row 9 (outOfOrder (stepsOf steps)) ∷ row 10 (apart (stepsOf steps)) ∷ []
+pub record Judged (floor steps sheet : List ℕ) : Type 0 where
+  pub floor-full : length floor ≡ 6400
+  pub sheet-full : length sheet ≡ 6400
+  pub list : noStepList steps ≡ false
+  pub each : firstNumber (eachRows (stepsOf steps)) ≡ 0
+  pub ordered : outOfOrder (stepsOf steps) ≡ false
+  pub faced : apart (stepsOf steps) ≡ false
 
-    nine : (b d : Bool) → outOfOrder (stepsOf steps) ≡ b → _≡_ {A = ℕ} (cond b 9 (cond d 10 0)) 0 → namesTwice (stepsOf steps) ≡ false
-    nine true d q e = absurd (omega arith)
-    nine false d q e = ordered-once (stepsOf steps) q
+module _ (floor steps sheet : List ℕ) where
+  pub judged : firstNumber (judgedRows floor steps sheet) ≡ 0 → Judged floor steps sheet
+  unfolding judgedRows
+  judged = go (eqb (length floor) 6400) (eqb (length sheet) 6400) (noStepList steps) refl refl refl
+    where
+      rest : List Row
+      rest = row 9 (outOfOrder (stepsOf steps)) ∷ row 10 (apart (stepsOf steps)) ∷ []
 
-    go : (a b c : Bool) → eqb (length floor) 6400 ≡ a → eqb (length sheet) 6400 ≡ b
-        → cond (not a) 1 (cond (not b) 2 (cond c 3 (firstNumber (eachRows (stepsOf steps) ++ rest)))) ≡ 0 → LegReady floor steps sheet
-    go false b c p q e = absurd (omega arith)
-    go true false c p q e = absurd (omega arith)
-    go true true true p q e = absurd (omega arith)
-    go true true false p q e =
-        let z = each-zero (stepsOf steps) rest e in
-        record {
-          floor-full = eqb-true (length floor) 6400 p;
-          sheet-full = eqb-true (length sheet) 6400 q;
-          accepted =
-              λ k h.
-              each-step (stepAt steps k) (step-long steps k h)
-              ∙ ap eachStep (sym (step-of steps k h))
-              ∙ each-good (stepsOf steps) z k (omega (arith, steps-count steps));
-          named-once = nine (outOfOrder (stepsOf steps)) (apart (stepsOf steps)) refl (sym (each-none (stepsOf steps) rest z) ∙ e);
-        }
+      last : (b d : Bool) → _≡_ {A = ℕ} (cond b 9 (cond d 10 0)) 0 → (b ≡ false) × (d ≡ false)
+      last true d e = absurd (omega arith)
+      last false true e = absurd (omega arith)
+      last false false e = (refl, refl)
+
+      go : (a b c : Bool) → eqb (length floor) 6400 ≡ a → eqb (length sheet) 6400 ≡ b → noStepList steps ≡ c
+          → cond (not a) 1 (cond (not b) 2 (cond c 3 (firstNumber (eachRows (stepsOf steps) ++ rest)))) ≡ 0 → Judged floor steps sheet
+      go false b c p q r e = absurd (omega arith)
+      go true false c p q r e = absurd (omega arith)
+      go true true true p q r e = absurd (omega arith)
+      go true true false p q r e =
+          let z = each-zero (stepsOf steps) rest e in
+          let l = last (outOfOrder (stepsOf steps)) (apart (stepsOf steps)) (sym (each-none (stepsOf steps) rest z) ∙ e) in
+          record {
+            floor-full = eqb-true (length floor) 6400 p;
+            sheet-full = eqb-true (length sheet) 6400 q;
+            list = r;
+            each = z;
+            ordered = l .0;
+            faced = l .1;
+          }
+
+  -- a number that is judged before a step is planned is the leg's
+  pub judged-first : (firstNumber (judgedRows floor steps sheet) ≡ 0 → ⊥) → legNumber floor steps sheet ≡ firstNumber (judgedRows floor steps sheet)
+  unfolding legNumber
+  judged-first h = rows-first (judgedRows floor steps sheet) (row 15 (someClosed floor (stepsOf steps)) ∷ []) h
+
+  -- else 15 decides
+  last-number : Judged floor steps sheet → legNumber floor steps sheet ≡ cond (someClosed floor (stepsOf steps)) 15 0
+  unfolding legNumber judgedRows
+  last-number j = rw (eq-eqb (length floor) 6400 (j .floor-full), eq-eqb (length sheet) 6400 (j .sheet-full), j .list)
+      (ap firstNumber (append-assoc (eachRows (stepsOf steps)) _ _) ∙ each-none (stepsOf steps) _ (j .each) ∙ rw (j .ordered, j .faced))
+
+  pub closed-15 : Judged floor steps sheet → someClosed floor (stepsOf steps) ≡ true → legNumber floor steps sheet ≡ 15
+  closed-15 j e = last-number j ∙ rw e
+
+  pub open-0 : Judged floor steps sheet → someClosed floor (stepsOf steps) ≡ false → legNumber floor steps sheet ≡ 0
+  open-0 j e = last-number j ∙ rw e
+
+  -- a leg that is not refused
+  pub accepted : legNumber floor steps sheet ≡ 0 → Judged floor steps sheet × (someClosed floor (stepsOf steps) ≡ false)
+  accepted e = go (eqb (firstNumber (judgedRows floor steps sheet)) 0) refl
+    where
+      shut : (b : Bool) → _≡_ {A = ℕ} (cond b 15 0) 0 → b ≡ false
+      shut true z = absurd (omega arith)
+      shut false z = refl
+
+      go : (b : Bool) → eqb (firstNumber (judgedRows floor steps sheet)) 0 ≡ b → Judged floor steps sheet × (someClosed floor (stepsOf steps) ≡ false)
+      go true q = let j = judged (eqb-true _ 0 q) in (j, shut (someClosed floor (stepsOf steps)) (sym (last-number j) ∙ e))
+      go false q = let h = eqb-false _ 0 q in absurd (h (sym (judged-first h) ∙ e))
+
+-- ---- what planning is given
+
+ordered-once : (ss : List (List ℕ)) → outOfOrder ss ≡ false → namesTwice ss ≡ false
+ordered-once [] e = refl
+ordered-once (s ∷ ss) e = neither (isWindow s || someGoal ss) (namesTwice (s ∷ ss)) e .1
+
+pub ready : {floor steps sheet : List ℕ} → Judged floor steps sheet → LegReady floor steps
+ready {floor} {steps} j = record {
+  floor-full = j .floor-full;
+  accepted = λ k h. each-step (stepAt steps k) (step-long steps k h) ∙ ap eachStep (sym (step-of steps k h))
+      ∙ each-good (stepsOf steps) (j .each) k (omega (arith, steps-count steps));
+  named-once = ordered-once (stepsOf steps) (j .ordered);
+}

@@ -1,4 +1,5 @@
 -- What is promised of a leg, of whatever equals the definitions.
+--     fits             its steps and its sheet fit each other
 --     leg-planned      each part of the sheet, and demand 3 for every sector that is written
 --     refuses, plans   all that is promised of a number and a sheet
 -- Assumes nothing.
@@ -10,30 +11,35 @@ use native.Mathlib.Omega.{arith}
 use lib.ListN.{length, length-take, length-drop}
 use borrow.Author.Tests.{ne-eqb}
 use Rattle.route.specs.Step.{stepNumber}
+use Rattle.route.specs.Target.{TargetIn}
 use Rattle.route.proofs.Accepted.{accepted-step}
-use Rattle.route.proofs.Targets.{target-in}
 use Rattle.integration_field.specs.Build.{waveCount}
 use Rattle.started_field.specs.Started.{started}
+use Rattle.sector.specs.Sector.{sectorField}
 use Rattle.sector.specs.Promise as sector
 use Rattle.sector.proofs.Planned.{sector-planned}
-use Rattle.leg_plan.specs.Leg.{part, stepsOf, legNumber, planned, legSheet}
+use Rattle.leg_plan.specs.Leg.{part, stepsOf, legNumber, plannedFrom, planned, legSheet}
 use Rattle.leg_plan.specs.Inner.{LegReady}
 use Rattle.leg_plan.specs.Promise.{stepOf, sectorAt, targetAt, portalAt, hasBefore, costsAt, builtAt, builtBefore, LegPlanned}
 use Rattle.leg_plan.proofs.Steps.{steps-count, step-of}
-use Rattle.leg_plan.proofs.Numbers.{accepted}
-use Rattle.leg_plan.proofs.Sheet.{Fits, full-after, kept, written}
+use Rattle.leg_plan.proofs.Numbers.{accepted, ready}
+use Rattle.counting.proofs.Counting.{leg-target-in}
+use Rattle.leg_plan.proofs.Sheet.{Fits, full-after, kept, written, built-is}
 
 pub part-hundred : (l : List ℕ) (sector : ℕ) → length l ≡ 6400 → sector < 64 → length (part l sector) ≡ 100
 part-hundred l sector e h = simp (length-take, length-drop) (omega arith)
 
-module _ (floor steps sheet : List ℕ) (ready : LegReady floor steps sheet) where
+module _ (floor steps sheet : List ℕ) (ready : LegReady floor steps) (sheet-full : length sheet ≡ 6400) where
   good : (k : ℕ) → k < length (stepsOf steps) → stepNumber (stepOf (stepsOf steps) k) ≡ 0
   good k h =
       let g : k < length steps / 8 = omega (arith, steps-count steps) in
       ap stepNumber (step-of steps k g) ∙ ready .accepted k g
 
-  fits : Fits (stepsOf steps) sheet
-  fits = record { in-floor = λ k h. accepted-step (stepOf (stepsOf steps) k) (good k h) .sector-in; full = ready .sheet-full }
+  pub fits : Fits (stepsOf steps) sheet
+  fits = record { in-floor = λ k h. accepted-step (stepOf (stepsOf steps) k) (good k h) .sector-in; full = sheet-full }
+
+  target-at : (k : ℕ) → k < length (stepsOf steps) → TargetIn (targetAt floor (stepsOf steps) k)
+  target-at k h = leg-target-in (hasBefore k) (builtBefore floor (stepsOf steps) k) (stepOf (stepsOf steps) k) (good k h)
 
   pub leg-planned : LegPlanned floor (stepsOf steps) sheet (planned floor (stepsOf steps) sheet)
   unfolding planned
@@ -42,14 +48,17 @@ module _ (floor steps sheet : List ℕ) (ready : LegReady floor steps sheet) whe
       record {
         written = wrote;
         kept = kept floor (stepsOf steps) false [] fits;
-        same-length = full-after floor (stepsOf steps) false [] fits ∙ sym (ready .sheet-full);
+        same-length = full-after floor (stepsOf steps) false [] fits ∙ sym sheet-full;
         demand3 =
             λ k h.
             let costs = costsAt floor (stepsOf steps) k in
-            let target = targetAt (stepsOf steps) k in
-            subst (sector.Planned costs target (builtAt floor (stepsOf steps) k) (waveCount costs (started costs target))) (sym (wrote k h))
+            let target = targetAt floor (stepsOf steps) k in
+            let bytes = part (plannedFrom floor (stepsOf steps) false [] sheet) (sectorAt (stepsOf steps) k) in
+            subst (λ (b : List ℕ). sector.Planned costs target b (waveCount costs (started costs target)) bytes)
+            (sym (built-is floor (stepsOf steps) k))
+            (subst (sector.Planned costs target (sectorField costs target .field) (waveCount costs (started costs target))) (sym (wrote k h))
             (sector-planned costs target (portalAt (stepsOf steps) k) (part-hundred floor (sectorAt (stepsOf steps) k) (ready .floor-full) (fits .in-floor k h))
-            (target-in (stepOf (stepsOf steps) k) (good k h)) (hasBefore k) (builtBefore floor (stepsOf steps) k));
+            (target-at k h) (hasBefore k) (builtBefore floor (stepsOf steps) k)));
       }
 
 module _ (floor steps sheet : List ℕ) where
@@ -63,4 +72,5 @@ module _ (floor steps sheet : List ℕ) where
 
   pub plans : legNumber floor steps sheet ≡ 0 → (after : List ℕ) → after ≡ planned floor (stepsOf steps) sheet → Promised 0 after
   plans z after e =
-      (sym z, (rw z e, λ q. subst (LegPlanned floor (stepsOf steps) sheet) (sym e) (leg-planned floor steps sheet (accepted floor steps sheet z))))
+      let j = accepted floor steps sheet z .0 in
+      (sym z, (rw z e, λ q. subst (LegPlanned floor (stepsOf steps) sheet) (sym e) (leg-planned floor steps sheet (ready j) (j .sheet-full))))

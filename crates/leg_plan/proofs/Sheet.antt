@@ -2,24 +2,28 @@
 --     part-same, part-other    a sheet with other bytes as a sector's part: that part, and every other one
 --     from-none                what stands in the place of a previous field before the first step plays no part
 --     full-after, kept         the sheet keeps its length, and a sector that no step names its bytes
---     written                  the sector of the step at a place
+--     written, built-is        the sector of the step at a place, and its built costs
+--     copied-planned           the parts of the named sectors, copied from one planned sheet, make another
+--     copied-more              one of the parts, as it is copied
 -- Assumes nothing.
 use mathlib.Core.Path.{_≡_, refl, sym, ap, _∙_}
 use mathlib.Core.Bool.{Bool, true, false}
-use mathlib.Core.List.{List, [], _∷_, _++_}
-use Prim.Native.Nat.{ℕ, zero, suc, _+_, _-_, _*_, _<_, _≤_}
+use mathlib.Core.List.{List, [], _∷_, _++_, append-nil}
+use Prim.Native.Nat.{ℕ, zero, suc, _+_, _-_, _*_, _/_, _<_, _≤_}
 use native.Mathlib.Omega.{arith}
 use lib.Dec.{eqb, ltb}
-use lib.ListN.{length, take, drop, length-append, length-drop}
-use lib.Seq.{take-at, drop-at, length-take-le, take-add, drop-drop, take-take}
+use lib.ListN.{length, take, drop, length-append, length-take, length-drop, drop-of-length-le}
+use lib.Seq.{take-at, drop-at, length-take-le, take-length, take-add, drop-drop, take-take}
 use borrow.Author.Tests.{ltb-true, ltb-false, eqb-false}
 use Rattle.route.specs.Step.{sectorOf, portalOf}
 use Rattle.route.specs.Target.{targetOf}
 use Rattle.sector.specs.Sector.{sectorField, sectorBytes}
 use Rattle.sector.proofs.Planned.{bytes-hundred, none-read}
-use Rattle.leg_plan.specs.Leg.{part, names, namesTwice, withPart, plannedFrom}
-use Rattle.leg_plan.proofs.Steps.{neither}
-use Rattle.leg_plan.specs.Promise.{sectorAt, targetAt, portalAt, costsAt, builtAt, hasBefore, builtBefore}
+use Rattle.counting.specs.Counting.{legTarget}
+use Rattle.leg_plan.specs.Leg.{part, names, namesTwice, stepField, stepBytes, closedFrom, withPart, plannedFrom}
+use Rattle.leg_plan.specs.Inner.{stepAt, copied}
+use Rattle.leg_plan.proofs.Steps.{neither, stepsFrom, from-here}
+use Rattle.leg_plan.specs.Promise.{stepOf, sectorAt, targetAt, portalAt, costsAt, builtAt, hasBefore, builtBefore}
 
 -- the k elements from m on, cut the other way round
 part-of-front : (l : List ℕ) (m k : ℕ) → m ≤ length l → take k (drop m l) ≡ drop m (take (m + k) l)
@@ -52,7 +56,9 @@ module _ (l p : List ℕ) (s : ℕ) (fits : s * 100 + 100 ≤ length l) (full : 
   part-before t h =
       part-of-front (withPart l s p) (t * 100) 100 (omega (arith, with-length))
       ∙ ap (drop (t * 100))
-      (sym (take-take (t * 100 + 100) (s * 100) (withPart l s p) (omega arith)) ∙ ap (take (t * 100 + 100)) front ∙ take-take (t * 100 + 100) (s * 100) l (omega arith))
+      (sym (take-take (t * 100 + 100) (s * 100) (withPart l s p) (omega arith))
+      ∙ ap (take (t * 100 + 100)) front
+      ∙ take-take (t * 100 + 100) (s * 100) l (omega arith))
       ∙ sym (part-of-front l (t * 100) 100 (omega arith))
 
   part-after : (t : ℕ) → s < t → part (withPart l s p) t ≡ part l t
@@ -77,28 +83,26 @@ pub record Fits (ss : List (List ℕ)) (sheet : List ℕ) : Type 0 where
   pub full : length sheet ≡ 6400
 
 module _ (floor : List ℕ) where
-  -- the built cells of a step, and the bytes that it writes
-  abbrev cellsOf : List ℕ → List ℕ
-  cellsOf s = sectorField (part floor (sectorOf s)) (targetOf s) .field
-
-  abbrev bytesOf : List ℕ → Bool → List ℕ → List ℕ
-  bytesOf s has previous = sectorBytes (part floor (sectorOf s)) (targetOf s) (portalOf s) has previous
-
   -- the first step has no previous field, so that what stands in its place plays no part
   pub from-none : (ss : List (List ℕ)) (previous other sheet : List ℕ) → plannedFrom floor ss false previous sheet ≡ plannedFrom floor ss false other sheet
   unfolding plannedFrom
   from-none [] previous other sheet = refl
   from-none (s ∷ ss) previous other sheet =
-      ap (λ (b : List ℕ). plannedFrom floor ss true (cellsOf s) (withPart sheet (sectorOf s) b))
+      ap (λ (b : List ℕ). plannedFrom floor ss true (stepField floor false previous s) (withPart sheet (sectorOf s) b))
       (none-read (part floor (sectorOf s)) (targetOf s) (portalOf s) previous other)
+
+  pub closed-from-none : (ss : List (List ℕ)) (previous other : List ℕ) → closedFrom floor ss false previous ≡ closedFrom floor ss false other
+  unfolding closedFrom
+  closed-from-none [] previous other = refl
+  closed-from-none (s ∷ ss) previous other = refl
 
   -- one step: what fits still fits, its own part is written, and every other one is as it was
   module _ {s : List ℕ} {ss : List (List ℕ)} {sheet : List ℕ} (fits : Fits (s ∷ ss) sheet) (has : Bool) (previous : List ℕ) where
     abbrev bytes : List ℕ
-    bytes = bytesOf s has previous
+    bytes = stepBytes floor has previous s
 
     hundred : length bytes ≡ 100
-    hundred = bytes-hundred (part floor (sectorOf s)) (targetOf s) (portalOf s) has previous
+    hundred = bytes-hundred (part floor (sectorOf s)) (legTarget has previous s) (portalOf s) has previous
 
     in-sheet : sectorOf s * 100 + 100 ≤ length sheet
     in-sheet = let h : sectorOf s < 64 = fits .in-floor zero (omega arith) in omega (arith, fits .full)
@@ -112,10 +116,11 @@ module _ (floor : List ℕ) where
     other : (n : ℕ) → eqb (sectorOf s) n ≡ false → part (withPart sheet (sectorOf s) bytes) n ≡ part sheet n
     other n e = part-other sheet bytes (sectorOf s) in-sheet hundred n (eqb-false (sectorOf s) n e)
 
-  pub full-after : (ss : List (List ℕ)) (has : Bool) (previous : List ℕ) {sheet : List ℕ} → Fits ss sheet → length (plannedFrom floor ss has previous sheet) ≡ 6400
+  pub full-after : (ss : List (List ℕ)) (has : Bool) (previous : List ℕ) {sheet : List ℕ}
+      → Fits ss sheet → length (plannedFrom floor ss has previous sheet) ≡ 6400
   unfolding plannedFrom
   full-after [] has previous fits = fits .full
-  full-after (s ∷ ss) has previous fits = full-after ss true (cellsOf s) (rest fits has previous)
+  full-after (s ∷ ss) has previous fits = full-after ss true (stepField floor has previous s) (rest fits has previous)
 
   -- a sector that no step names keeps its bytes
   pub kept : (ss : List (List ℕ)) (has : Bool) (previous : List ℕ) {sheet : List ℕ} → Fits ss sheet
@@ -124,31 +129,112 @@ module _ (floor : List ℕ) where
   kept [] has previous fits n e = refl
   kept (s ∷ ss) has previous fits n e =
       let none = neither (eqb (sectorOf s) n) (names n ss) e in
-      kept ss true (cellsOf s) (rest fits has previous) n (none .1) ∙ other fits has previous n (none .0)
+      kept ss true (stepField floor has previous s) (rest fits has previous) n (none .1) ∙ other fits has previous n (none .0)
 
-  -- the first step's sector, which no later one names, keeps what that step wrote
-  first-written : (ss : List (List ℕ)) (s : List ℕ) (has : Bool) (previous : List ℕ) {sheet : List ℕ} → Fits (s ∷ ss) sheet → namesTwice (s ∷ ss) ≡ false
-      → part (plannedFrom floor (s ∷ ss) has previous sheet) (sectorOf s) ≡ bytesOf s has previous
-  unfolding plannedFrom
-  first-written ss s has previous fits once =
-      kept ss true (cellsOf s) (rest fits has previous) (sectorOf s) (neither (names (sectorOf s) ss) (namesTwice ss) once .0) ∙ own fits has previous
+  -- ---- what the step at a place writes
 
-  -- a later step has the built cells of the step before it as previous field
-  later-written : (ss : List (List ℕ)) (s : List ℕ) (has : Bool) (previous : List ℕ) {sheet : List ℕ} → Fits (s ∷ ss) sheet → namesTwice (s ∷ ss) ≡ false
-      → (k : ℕ) → k < length ss
-      → part (plannedFrom floor (s ∷ ss) has previous sheet) (sectorAt ss k)
-      ≡ sectorBytes (costsAt floor ss k) (targetAt ss k) (portalAt ss k) true (builtAt floor (s ∷ ss) k)
-  unfolding plannedFrom
-  later-written [] s has previous fits once k h = absurd (omega arith)
-  later-written (t ∷ ss) s has previous fits once zero h =
-      first-written ss t true (cellsOf s) (rest fits has previous) (neither (names (sectorOf s) (t ∷ ss)) (namesTwice (t ∷ ss)) once .1)
-  later-written (t ∷ ss) s has previous fits once (suc k) h =
-      later-written ss t true (cellsOf s) (rest fits has previous) (neither (names (sectorOf s) (t ∷ ss)) (namesTwice (t ∷ ss)) once .1) k (omega arith)
+  -- whether there is a step before the one at a place, and that step's built field; `has` and `previous` tell of the step before the list
+  abbrev hasFrom : Bool → ℕ → Bool
+  hasFrom has zero = has
+  hasFrom has (suc k) = true
 
-  -- the sector of the step at place k holds what the sector call's definition gives, with the built field of the step before as previous field
+  fieldFrom : List (List ℕ) → Bool → List ℕ → ℕ → List ℕ
+  fieldFrom [] has previous k = previous
+  fieldFrom (s ∷ ss) has previous zero = previous
+  fieldFrom (s ∷ ss) has previous (suc k) = fieldFrom ss true (stepField floor has previous s) k
+
+  field-here : (ss : List (List ℕ)) (has : Bool) (previous : List ℕ) → fieldFrom ss has previous zero ≡ previous
+  unfolding fieldFrom
+  field-here [] has previous = refl
+  field-here (s ∷ ss) has previous = refl
+
+  -- the built field behind the step at a place
+  field-next : (ss : List (List ℕ)) (has : Bool) (previous : List ℕ) (k : ℕ) → k < length ss
+      → fieldFrom ss has previous (suc k) ≡ stepField floor (hasFrom has k) (fieldFrom ss has previous k) (stepOf ss k)
+  unfolding fieldFrom
+  field-next [] has previous k h = absurd (omega arith)
+  field-next (s ∷ ss) has previous zero h = field-here ss true (stepField floor has previous s)
+  field-next (s ∷ ss) has previous (suc zero) h = field-next ss true (stepField floor has previous s) zero (omega arith)
+  field-next (s ∷ ss) has previous (suc (suc k)) h = field-next ss true (stepField floor has previous s) (suc k) (omega arith)
+
+  -- the sector of the step at place k holds what that step wrote, since no later one names it
+  written-from : (ss : List (List ℕ)) (has : Bool) (previous : List ℕ) {sheet : List ℕ} → Fits ss sheet → namesTwice ss ≡ false → (k : ℕ) → k < length ss
+      → part (plannedFrom floor ss has previous sheet) (sectorAt ss k) ≡ stepBytes floor (hasFrom has k) (fieldFrom ss has previous k) (stepOf ss k)
+  unfolding plannedFrom fieldFrom
+  written-from [] has previous fits once k h = absurd (omega arith)
+  written-from (s ∷ ss) has previous fits once zero h =
+      let later = neither (names (sectorOf s) ss) (namesTwice ss) once in
+      kept ss true (stepField floor has previous s) (rest fits has previous) (sectorOf s) (later .0) ∙ own fits has previous
+  written-from (s ∷ ss) has previous fits once (suc zero) h =
+      let later = neither (names (sectorOf s) ss) (namesTwice ss) once in
+      written-from ss true (stepField floor has previous s) (rest fits has previous) (later .1) zero (omega arith)
+  written-from (s ∷ ss) has previous fits once (suc (suc k)) h =
+      let later = neither (names (sectorOf s) ss) (namesTwice ss) once in
+      written-from ss true (stepField floor has previous s) (rest fits has previous) (later .1) (suc k) (omega arith)
+
+  -- from the first step of a leg on, that is the built field of the step before
+  field-at : (ss : List (List ℕ)) (k : ℕ) → k < length ss → fieldFrom ss false [] (suc k) ≡ builtAt floor ss k
+  unfolding builtAt
+  field-at ss zero h = field-next ss false [] zero h ∙ ap (λ (f : List ℕ). stepField floor false f (stepOf ss zero)) (field-here ss false [])
+  field-at ss (suc k) h = field-next ss false [] (suc k) h ∙ ap (λ (f : List ℕ). stepField floor true f (stepOf ss (suc k))) (field-at ss k (omega arith))
+
   pub written : (ss : List (List ℕ)) {sheet : List ℕ} → Fits ss sheet → namesTwice ss ≡ false → (k : ℕ) → k < length ss
       → part (plannedFrom floor ss false [] sheet) (sectorAt ss k)
-      ≡ sectorBytes (costsAt floor ss k) (targetAt ss k) (portalAt ss k) (hasBefore k) (builtBefore floor ss k)
-  written [] fits once k h = absurd (omega arith)
-  written (s ∷ ss) fits once zero h = first-written ss s false [] fits once
-  written (s ∷ ss) fits once (suc k) h = later-written ss s false [] fits once k (omega arith)
+      ≡ sectorBytes (costsAt floor ss k) (targetAt floor ss k) (portalAt ss k) (hasBefore k) (builtBefore floor ss k)
+  written ss fits once zero h =
+      written-from ss false [] fits once zero h ∙ ap (λ (f : List ℕ). stepBytes floor false f (stepOf ss zero)) (field-here ss false [])
+  written ss fits once (suc k) h =
+      written-from ss false [] fits once (suc k) h ∙ ap (λ (f : List ℕ). stepBytes floor true f (stepOf ss (suc k))) (field-at ss k (omega arith))
+
+  -- ---- copied: the parts of one planned sheet make another
+
+  abbrev Holds : List (List ℕ) → Bool → List ℕ → List ℕ → Type 0
+  Holds ss has previous from =
+      (k : ℕ) → k < length ss → part from (sectorAt ss k) ≡ stepBytes floor (hasFrom has k) (fieldFrom ss has previous k) (stepOf ss k)
+
+  holds-on : (s : List ℕ) (ss : List (List ℕ)) (has : Bool) (previous from : List ℕ)
+      → Holds (s ∷ ss) has previous from → Holds ss true (stepField floor has previous s) from
+  unfolding fieldFrom
+  holds-on s ss has previous from h zero l = h 1 (omega arith)
+  holds-on s ss has previous from h (suc k) l = h (suc (suc k)) (omega arith)
+
+  copied-from : (ss : List (List ℕ)) (has : Bool) (previous from sheet : List ℕ) → Holds ss has previous from
+      → copied ss from sheet ≡ plannedFrom floor ss has previous sheet
+  unfolding copied plannedFrom fieldFrom
+  copied-from [] has previous from sheet h = refl
+  copied-from (s ∷ ss) has previous from sheet h =
+      ap (λ (b : List ℕ). copied ss from (withPart sheet (sectorOf s) b)) (h zero (omega arith))
+      ∙ copied-from ss true (stepField floor has previous s) from (withPart sheet (sectorOf s) (stepBytes floor has previous s))
+      (holds-on s ss has previous from h)
+
+  pub copied-planned : (ss : List (List ℕ)) (scratch sheet : List ℕ) → Fits ss scratch → namesTwice ss ≡ false
+      → copied ss (plannedFrom floor ss false [] scratch) sheet ≡ plannedFrom floor ss false [] sheet
+  copied-planned ss scratch sheet fits once = copied-from ss false [] (plannedFrom floor ss false [] scratch) sheet (written-from ss false [] fits once)
+
+  -- its built costs are those of its target
+  pub built-is : (ss : List (List ℕ)) (k : ℕ) → builtAt floor ss k ≡ sectorField (costsAt floor ss k) (targetAt floor ss k) .field
+  unfolding builtAt
+  built-is ss zero = refl
+  built-is ss (suc k) = refl
+
+-- ---- copied: one of the parts
+
+module _ (from sheet : List ℕ) (w : ℕ) (from-fits : w * 100 + 100 ≤ length from) (sheet-fits : w * 100 + 100 ≤ length sheet) where
+  part-copied :
+      take (w * 100) sheet ++ ((take (length (part from w)) (part from w) ++ drop (length (part from w)) (part sheet w)) ++ drop 100 (drop (w * 100) sheet))
+      ≡ withPart sheet w (part from w)
+  part-copied =
+      let all : length (part sheet w) ≤ length (part from w) = simp (length-take, length-drop) (omega arith) in
+      rw (take-length (part from w), drop-of-length-le (part sheet w) all, append-nil (part from w), drop-drop 100 (w * 100) sheet)
+
+  -- that of the step at place k, with the lengths as they are worked out where the two parts are lent
+  pub copied-more : (steps : List ℕ) (k : ℕ) → k < length steps / 8 → w ≡ sectorOf (stepAt steps k)
+      → let n = w * 100 + 100 - w * 100 in
+      let lent = take n (drop (w * 100) from) in
+      copied (stepsFrom steps k) from sheet
+      ≡ copied (stepsFrom steps (k + 1)) from
+      (take (w * 100) sheet ++ ((take (length lent) lent ++ drop (length lent) (take n (drop (w * 100) sheet))) ++ drop n (drop (w * 100) sheet)))
+  unfolding copied
+  copied-more steps k h e =
+      let n : w * 100 + 100 - w * 100 ≡ 100 = omega arith in
+      rw (from-here steps k h, n, part-copied, e)

@@ -2,19 +2,23 @@
 -- Assumes nothing.
 use mathlib.Core.Path.{_≡_}
 use mathlib.Core.Bool.{false}
-use mathlib.Core.List.{List}
+use mathlib.Core.List.{List, [], _∷_}
 use Prim.Native.Nat.{ℕ, _*_, _/_, _<_}
 use lib.ListN.{length, take, drop}
-use Rattle.route.specs.Step.{stepNumber}
-use Rattle.leg_plan.specs.Leg.{stepsOf, namesTwice}
+use Rattle.route.specs.Step.{sectorOf, stepNumber}
+use Rattle.leg_plan.specs.Leg.{part, stepsOf, namesTwice, withPart}
 
 -- the step at place k of a list of bytes
 abbrev pub stepAt : List ℕ → ℕ → List ℕ
 stepAt steps k = take 8 (drop (k * 8) steps)
 
--- a leg that is not refused
-pub record LegReady (floor steps sheet : List ℕ) : Type 0 where
+-- a leg of which nothing is refused before a step is planned
+pub record LegReady (floor steps : List ℕ) : Type 0 where
   pub floor-full : length floor ≡ 6400
-  pub sheet-full : length sheet ≡ 6400
   pub accepted : (k : ℕ) → k < length steps / 8 → stepNumber (stepAt steps k) ≡ 0
   pub named-once : namesTwice (stepsOf steps) ≡ false
+
+-- a sheet with the parts of another at the sectors that these steps name
+unfoldable pub copied : List (List ℕ) → List ℕ → List ℕ → List ℕ
+copied [] from sheet = sheet
+copied (s ∷ ss) from sheet = copied ss from (withPart sheet (sectorOf s) (part from (sectorOf s)))

@@ -1,4 +1,4 @@
--- A leg (01, "A leg, the added entry"): its number, and the sheet that it leaves.
+-- A leg (01, "A leg, the added entry"; 02, "Job 2"): its number, and the sheet that it leaves.
 -- Assumes nothing.
 use mathlib.Core.Bool.{Bool, true, false, cond, not, _||_}
 use mathlib.Core.List.{List, [], _∷_, _++_}
@@ -7,11 +7,11 @@ use lib.Dec.{eqb}
 use lib.ListN.{length, take, drop}
 use Rattle.route.specs.Table.{Row, row, firstNumber}
 use Rattle.route.specs.Step.{sectorOf, isWindow, boundaryOf, portalOf, eachStep, noStepList}
-use Rattle.route.specs.Target.{targetOf}
 use Rattle.sectors.specs.declared.Across.{Across}
 use Rattle.sectors.specs.declared.Across.the-variants.{Sector, OffFloor}
 use Rattle.sectors.specs.Floor.{across}
 use Rattle.sector.specs.Sector.{sectorField, sectorBytes}
+use Rattle.counting.specs.Counting.{legTarget, isClosed}
 
 -- a sector's own 100 bytes, of a floor or of a sheet
 abbrev pub part : List ℕ → ℕ → List ℕ
@@ -68,15 +68,38 @@ abbrev pub apart : List (List ℕ) → Bool
 apart [] = false
 apart (s ∷ ss) = apartFrom s ss
 
--- its number: the table's lines 1, 2, 3, each step's 4 to 8, 9 and 10
-unfoldable pub legNumber : List ℕ → List ℕ → List ℕ → ℕ
-legNumber floor steps sheet =
-    firstNumber (
+-- ---- planning, step after step
+
+-- the built field of a step, on its own sector's costs
+abbrev pub stepField : List ℕ → Bool → List ℕ → List ℕ → List ℕ
+stepField floor has previous step = sectorField (part floor (sectorOf step)) (legTarget has previous step) .field
+
+-- the bytes of its sector
+abbrev pub stepBytes : List ℕ → Bool → List ℕ → List ℕ → List ℕ
+stepBytes floor has previous step = sectorBytes (part floor (sectorOf step)) (legTarget has previous step) (portalOf step) has previous
+
+-- 15 (02, "Job 2"): a step of the list has a window with no counting cell. `has` and `previous` tell of the step before the list.
+unfoldable pub closedFrom : List ℕ → List (List ℕ) → Bool → List ℕ → Bool
+closedFrom floor [] has previous = false
+closedFrom floor (s ∷ ss) has previous = isClosed (legTarget has previous s) || closedFrom floor ss true (stepField floor has previous s)
+
+-- the first step has no previous field
+unfoldable pub someClosed : List ℕ → List (List ℕ) → Bool
+someClosed floor steps = closedFrom floor steps false []
+
+-- ---- its number
+
+-- the table's lines 1, 2, 3, each step's 4 to 8, 9 and 10, which are judged before a step is planned
+unfoldable pub judgedRows : List ℕ → List ℕ → List ℕ → List Row
+judgedRows floor steps sheet =
     row 1 (not (eqb (length floor) 6400))
     ∷ row 2 (not (eqb (length sheet) 6400))
     ∷ row 3 (noStepList steps)
     ∷ (eachRows (stepsOf steps) ++ (row 9 (outOfOrder (stepsOf steps)) ∷ row 10 (apart (stepsOf steps)) ∷ []))
-    )
+
+-- and 15 after 10
+unfoldable pub legNumber : List ℕ → List ℕ → List ℕ → ℕ
+legNumber floor steps sheet = firstNumber (judgedRows floor steps sheet ++ (row 15 (someClosed floor (stepsOf steps)) ∷ []))
 
 -- ---- the sheet
 
@@ -89,8 +112,7 @@ withPart sheet sector bytes = take (sector * 100) sheet ++ (bytes ++ drop (secto
 unfoldable pub plannedFrom : List ℕ → List (List ℕ) → Bool → List ℕ → List ℕ → List ℕ
 plannedFrom floor [] has previous sheet = sheet
 plannedFrom floor (s ∷ ss) has previous sheet =
-    plannedFrom floor ss true (sectorField (part floor (sectorOf s)) (targetOf s) .field)
-    (withPart sheet (sectorOf s) (sectorBytes (part floor (sectorOf s)) (targetOf s) (portalOf s) has previous))
+    plannedFrom floor ss true (stepField floor has previous s) (withPart sheet (sectorOf s) (stepBytes floor has previous s))
 
 -- the sheet of a planned leg: the first step has no previous field
 unfoldable pub planned : List ℕ → List (List ℕ) → List ℕ → List ℕ

@@ -7,11 +7,12 @@ use Prim.Native.Nat.{ℕ, zero, suc, _<_}
 use lib.ListN.{length, getD}
 use Rattle.route.specs.declared.PortalWindow.{PortalWindow}
 use Rattle.route.specs.Step.{sectorOf, portalOf}
-use Rattle.route.specs.Target.{Target, targetOf}
+use Rattle.route.specs.Target.{Target}
 use Rattle.integration_field.specs.Build.{waveCount}
 use Rattle.started_field.specs.Started.{started}
 use Rattle.sector.specs.Sector.{sectorField, sectorBytes}
 use Rattle.sector.specs.Promise.{Planned}
+use Rattle.counting.specs.Counting.{legTarget}
 use Rattle.leg_plan.specs.Leg.{part, names}
 
 -- the step at a place of the list
@@ -22,10 +23,7 @@ stepOf steps k = getD steps k []
 abbrev pub sectorAt : List (List ℕ) → ℕ → ℕ
 sectorAt steps k = sectorOf (stepOf steps k)
 
--- its target, and its window, whole
-abbrev pub targetAt : List (List ℕ) → ℕ → Target
-targetAt steps k = targetOf (stepOf steps k)
-
+-- its window, whole
 abbrev pub portalAt : List (List ℕ) → ℕ → PortalWindow
 portalAt steps k = portalOf (stepOf steps k)
 
@@ -39,24 +37,29 @@ module _ (floor : List ℕ) (steps : List (List ℕ)) where
   abbrev pub costsAt : ℕ → List ℕ
   costsAt k = part floor (sectorAt steps k)
 
-  -- its sector's built costs: those that the sector call's definition gives
-  abbrev pub builtAt : ℕ → List ℕ
-  builtAt k = sectorField (costsAt k) (targetAt steps k) .field
+  -- its sector's built costs: those that the sector call's definition gives, the counting cells alone being its window cells
+  unfoldable pub builtAt : ℕ → List ℕ
+  builtAt zero = sectorField (costsAt zero) (legTarget false [] (stepOf steps zero)) .field
+  builtAt (suc k) = sectorField (costsAt (suc k)) (legTarget true (builtAt k) (stepOf steps (suc k))) .field
 
   -- the built field of the step before; none for the first
   abbrev pub builtBefore : ℕ → List ℕ
   builtBefore zero = []
   builtBefore (suc k) = builtAt k
 
+  -- its target: the goal, or the window cells that count
+  abbrev pub targetAt : ℕ → Target
+  targetAt k = legTarget (hasBefore k) (builtBefore k) (stepOf steps k)
+
   -- `before` and `after` are the sheet at entry and at exit
   pub record LegPlanned (before after : List ℕ) : Type 0 where
     -- each named sector's 100 bytes are what the sector call's definition gives for that sector's costs, that step's target and window, and as
     -- previous field the built field that the definition gives for the step before (none for the first)
     pub written : (k : ℕ) → k < length steps
-        → part after (sectorAt steps k) ≡ sectorBytes (costsAt k) (targetAt steps k) (portalAt steps k) (hasBefore k) (builtBefore k)
+        → part after (sectorAt steps k) ≡ sectorBytes (costsAt k) (targetAt k) (portalAt steps k) (hasBefore k) (builtBefore k)
     -- every other byte is as it was
     pub kept : (sector : ℕ) → names sector steps ≡ false → part after sector ≡ part before sector
     pub same-length : length after ≡ length before
     -- demand 3, for every sector that is written
     pub demand3 : (k : ℕ) → k < length steps
-        → Planned (costsAt k) (targetAt steps k) (builtAt k) (waveCount (costsAt k) (started (costsAt k) (targetAt steps k))) (part after (sectorAt steps k))
+        → Planned (costsAt k) (targetAt k) (builtAt k) (waveCount (costsAt k) (started (costsAt k) (targetAt k))) (part after (sectorAt steps k))

@@ -95,6 +95,7 @@ fn main() {
     replay(6, b"flow_build", 601);
     replay(7, b"sector", 1112);
     replay(8, b"leg", 3330);
+    replay(8, b"leg.model", 3330);
     replay(9, b"refusals.table", 160);
     replay(10, b"leg_file_write.model", 314);
     replay(11, b"leg_file_read.model", 154);

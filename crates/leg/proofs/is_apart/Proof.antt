@@ -60,7 +60,8 @@ loop-again : tie.Need-loop-again Inv-loop μ-loop
 loop-again c =
     let faced = c .before in
     let at = faced .before .before .before .before .before in
-    (omega arith, (omega arith, search (at .loop .inv .1 .1, from-here, before-at, sector-at, boundary-at, add-sub-cancel, sym (faced .faces .ensures) ∙ not-false _ (c .if1 .left))))
+    let here = sym (faced .faces .ensures) ∙ not-false _ (c .if1 .left) in
+    (omega arith, (omega arith, search (at .loop .inv .1 .1, from-here, before-at, sector-at, boundary-at, add-sub-cancel, here)))
 
 returns-2 : tie.Need-returns-2 Inv-loop μ-loop
 returns-2 c = search (c .before .loop .inv .1 .1, from-done)

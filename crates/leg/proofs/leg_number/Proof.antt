@@ -6,31 +6,31 @@ use borrow.Author.Tests.{ne-eqb}
 use borrow.Author.Needs.{needs}
 use Rattle.route.proofs.Rows.{tests}
 use Rattle.route.proofs.Accepted.{accepted-list}
-use Rattle.leg_plan.specs.Leg.{legNumber}
+use Rattle.leg_plan.specs.Leg.{judgedRows}
 use Rattle.leg_plan.proofs.Numbers.{each-first, number-9, number-10, number-0}
 use Rattle.leg.proofs.leg_number.Statement.{statement}
 use Rattle.leg.proofs.leg_number.Tie as tie
 
 returns : tie.Need-returns
-unfolding legNumber
+unfolding judgedRows
 returns c sheet e = search tests
 
 returns-2 : tie.Need-returns-2
-unfolding legNumber
+unfolding judgedRows
 returns-2 c sheet e = search (tests, ne-eqb _ 6400 (λ h. c .if2 .taken (sym e ∙ h)))
 
 is-no-step-list-requires : tie.Need-is-no-step-list-requires
 is-no-step-list-requires c κs = search needs
 
 returns-3 : tie.Need-returns-3
-unfolding legNumber
+unfolding judgedRows
 returns-3 c sheet e = search (tests, e ∙ c .before .before .if2 .left, sym (c .before .is-no-step-list .ensures) ∙ c .if3 .taken)
 
 each-step-requires : tie.Need-each-step-requires
 each-step-requires c κs = search needs
 
 returns-4 : tie.Need-returns-4
-unfolding legNumber
+unfolding judgedRows
 returns-4 c sheet e =
     let judged = c .before in
     let listed = judged .before .before in

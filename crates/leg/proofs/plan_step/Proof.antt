@@ -1,34 +1,50 @@
--- `leg::plan_step` meets its contract: the sector call is lent the sector's part, and takes it.
+-- `leg::plan_step` meets its contract: a closed window is answered before anything is written, else the run is lent the sector's part, and takes it.
 -- Assumes nothing.
-use mathlib.Core.Path.{_≡_}
+use mathlib.Core.Path.{refl, ap}
 use Prim.Native.Nat.{_+_, _-_, _*_}
 use native.Mathlib.Omega.{arith}
 use denote.Ref.{now}
-use lib.ListN.{take, drop}
+use lib.ListN.{length-take, length-drop}
 use Rattle.route.proofs.Accepted.{accepted-step}
-use Rattle.sector.specs.Sector.{sectorAnswer, sectorSheet}
-use Rattle.leg.proofs.Step.{in-floor, plans-step}
+use Rattle.integration_field.specs.declared.BuildAnswer.{BuildAnswer}
+use Rattle.leg.proofs.Step.{in-floor, held, closes-step, plans-step}
 use borrow.Author.Needs.{needs}
 use Rattle.leg.proofs.plan_step.Statement.{statement}
 use Rattle.leg.proofs.plan_step.Tie as tie
 
+-- from where the step's target is made: the start, where the step was taken apart; from where its sector is read: that place
+abbrev start : tie.After-leg-target → tie.Start
+start t = t .before .before .before .before .before .before
+
+abbrev targeted : tie.After-wide → tie.After-leg-target
+targeted w = w .before .before
+
+new-requires : tie.Need-new-requires
+new-requires c κs = search needs
+
+leg-target-requires : tie.Need-leg-target-requires
+leg-target-requires c κs = search needs
+
 shared-slice-read-wide : tie.Need-shared-slice-read-wide
-shared-slice-read-wide c =
-    let start = c .before .before .before .before .before in
-    omega (arith, accepted-step _ (start .pre .accepted) .bytes)
+shared-slice-read-wide c = omega (arith, accepted-step _ (start (c .before) .pre .accepted) .bytes)
 
 wide-requires : tie.Need-wide-requires
 wide-requires c κs = search needs
 
 mul-at : tie.Need-mul-at
-mul-at c =
-    let start = c .before .before .before .before .before .before in
-    omega (arith, in-floor (start .pre))
+mul-at c = omega (arith, in-floor (start (targeted c) .pre))
 
 add-end : tie.Need-add-end
-add-end c =
-    let start = c .before .before .before .before .before .before in
-    omega (arith, in-floor (start .pre))
+add-end c = omega (arith, in-floor (start (targeted c) .pre))
+
+is-closed-requires : tie.Need-is-closed-requires
+is-closed-requires c κs = search needs
+
+returns : tie.Need-returns
+returns c =
+    let t = targeted (c .before .before) in
+    closes-step (start t .pre) (start t .args .has-previous) (now (start t .args .previous)) (t .before .before .new .ensures) (t .leg-target .ensures)
+    (c .before .is-closed .result) (c .before .is-closed .ensures) (c .if1 .taken) _ refl
 
 sub-costs : tie.Need-sub-costs
 sub-costs c = search needs
@@ -37,56 +53,65 @@ part-costs-start : tie.Need-part-costs-start
 part-costs-start c = search needs
 
 part-costs-end : tie.Need-part-costs-end
-part-costs-end c =
-    let start = c .before .before .before .before .before .before in
-    omega (arith, in-floor (start .pre))
+part-costs-end c = omega (arith, in-floor (start (targeted (c .before .before)) .pre), start (targeted (c .before .before)) .pre .floor-full)
 
-sub-plan-sector : tie.Need-sub-plan-sector
-sub-plan-sector c = search needs
+sub-run : tie.Need-sub-run
+sub-run c = search needs
 
-part-plan-sector-start : tie.Need-part-plan-sector-start
-part-plan-sector-start c = search needs
+part-run-start : tie.Need-part-run-start
+part-run-start c = search needs
 
-part-plan-sector-end : tie.Need-part-plan-sector-end
-part-plan-sector-end c =
-    let start = c .before .before .before .before .before .before .before in
-    omega (arith, in-floor (start .pre))
+part-run-end : tie.Need-part-run-end
+part-run-end c =
+    let t = targeted (c .before .before .before .before) in
+    omega (arith, in-floor (start t .pre), start t .pre .sheet-full)
 
-plan-sector-requires : tie.Need-plan-sector-requires
-plan-sector-requires c κs = search needs
+run-requires : tie.Need-run-requires
+run-requires c κs =
+    let w = c .before .before .before .before .before in
+    let t = targeted w in
+    let pre = start t .pre in
+    let a = start t .args in
+    record {
+      costs-hundred = simp (length-take, length-drop) (omega (arith, in-floor pre, pre .floor-full));
+      sheet-hundred = simp (length-take, length-drop) (omega (arith, in-floor pre, pre .sheet-full));
+      target-held = held pre (a .has-previous) (now (a .previous)) (t .before .before .new .ensures) (t .leg-target .ensures);
+      previous-fits = λ h. search needs;
+    }
 
 same-length : tie.Need-same-length
 same-length c = search needs
 
-returns : tie.Need-returns
-returns c =
-    let planned = c .before .before .before .before in
-    let widened = planned .before .before .before in
-    let start = widened .before .before .before .before .before .before in
-    let a = start .args in
-    let w = widened .wide .result in
-    let n = w * 100 + 100 - w * 100 in
-    let costs = take n (drop (w * 100) (now (a .floor))) in
-    let lent = take n (drop (w * 100) (now (a .sheet))) in
-    let bytes = planned .plan-sector .last .1 .1 .1 .1 .0 in
-    let answer : planned .plan-sector .result ≡ sectorAnswer costs (now (a .step)) (a .has-previous) (now (a .previous)) lent = search needs in
-    let wrote : bytes ≡ sectorSheet costs (now (a .step)) (a .has-previous) (now (a .previous)) lent = search needs in
-    plans-step (start .pre) w (widened .wide .ensures) n (omega arith) (planned .plan-sector .result) bytes answer wrote
+returns-2 : tie.Need-returns-2
+returns-2 c =
+    let ran = c .before .before .before .before in
+    let else1 = ran .before .before .before .before in
+    let w = else1 .before .before in
+    let t = targeted w in
+    let wide = w .wide .result in
+    plans-step (start t .pre) (start t .args .has-previous) (now (start t .args .previous)) (t .before .before .new .ensures) (t .leg-target .ensures)
+    wide (w .wide .ensures) (wide * 100 + 100 - wide * 100) (omega arith)
+    (else1 .before .is-closed .result) (else1 .before .is-closed .ensures) (else1 .if1 .left)
+    (ran .run .result .field .field) _ (ap (λ (r : BuildAnswer). r .field .field) (ran .run .ensures .0)) (ran .run .ensures .1)
 
 pub plan-step-spec : {M : Type 1} → statement M
 plan-step-spec =
     tie.close
     (tie.spec
+    new-requires
+    leg-target-requires
     shared-slice-read-wide
     wide-requires
     mul-at
     add-end
+    is-closed-requires
+    returns
     sub-costs
     part-costs-start
     part-costs-end
-    sub-plan-sector
-    part-plan-sector-start
-    part-plan-sector-end
-    plan-sector-requires
+    sub-run
+    part-run-start
+    part-run-end
+    run-requires
     same-length
-    returns)
+    returns-2)
