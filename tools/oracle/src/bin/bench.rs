@@ -1,6 +1,7 @@
 //! Speed: our sector call against the Rust's `init`, `build`, `new`, `build` on the same inputs, from
-//! the same driver, in one run; and our leg against its sector calls. A few inputs are timed at once, and of
-//! many rounds the least time counts: another program that runs adds to a time and never takes from it.
+//! the same driver, in one run; and our leg against its sector calls, where every window cell counts, and by itself, where
+//! some do not. A few inputs are timed at once, and of many rounds the least time counts: another program that runs adds to
+//! a time and never takes from it.
 
 use std::hint::black_box;
 use std::process::ExitCode;
@@ -9,6 +10,7 @@ use std::time::Instant;
 use oracle::command;
 use oracle::floors::{self, Rng, Step};
 use oracle::library::Library;
+use oracle::model::Model;
 use oracle::oracle::{Oracle, cost_field, route_step};
 use oracle::subject::*;
 use reference::flowfields::fields::Field;
@@ -122,9 +124,35 @@ struct Leg {
     steps: Vec<u8>,
 }
 
-fn leg(rng: &mut Rng, open: bool) -> Leg {
-    let floor = (0..64).flat_map(|_| input(rng, open, false).costs).collect();
-    Leg { floor, steps: floors::straight_leg(16) }
+/// What is asked of a floor.
+#[derive(Clone, Copy, PartialEq)]
+enum Floor {
+    Open,
+    /// Walls, and every window cell counts: such a leg is its sector calls.
+    Counting,
+    /// Walls, and every window has a cell that counts. The sector calls know of no others, so the leg stands alone.
+    Gaps,
+}
+
+/// Whether a leg whose last sector has these costs can go on as the floor wants it.
+fn goes_on(leg: &Leg, steps: usize, wanted: Floor) -> bool {
+    let plan = Model::PLAIN.plan(&leg.floor, &leg.steps[..leg.steps.len().min(8 * (steps + 1))]);
+    let whole = plan.steps.iter().all(|step| step.counting == step.window);
+    !plan.closed && (whole || wanted == Floor::Gaps)
+}
+
+/// Each sector is drawn until the window that faces it is as wanted.
+fn leg(rng: &mut Rng, wanted: Floor) -> Leg {
+    let mut leg = Leg { floor: vec![1; 64 * CELLS], steps: floors::straight_leg(16) };
+    for k in 0..16 {
+        let at = usize::from(leg.steps[8 * k]) * CELLS;
+        let open = wanted == Floor::Open;
+        leg.floor[at..at + CELLS].copy_from_slice(&input(rng, open, false).costs);
+        while !goes_on(&leg, k + 1, wanted) {
+            leg.floor[at..at + CELLS].copy_from_slice(&input(rng, open, false).costs);
+        }
+    }
+    leg
 }
 
 fn as_a_leg(leg: &Leg, sheet: &mut [u8]) -> u8 {
@@ -155,6 +183,15 @@ fn measure_legs(legs: &[Leg]) -> [f64; 2] {
     times.map(|side| side.each(legs.len()))
 }
 
+/// What the leg takes alone.
+fn measure_alone(legs: &[Leg]) -> f64 {
+    let mut times = Times::default();
+    let mut sheet = vec![0x55; 64 * CELLS];
+    assert!(legs.iter().all(|leg| as_a_leg(leg, &mut sheet) == 0), "the leg is planned");
+    (0..ROUNDS).for_each(|_| times.round(legs, 1, |leg| as_a_leg(leg, &mut sheet)));
+    times.each(legs.len())
+}
+
 fn sectors() {
     println!("nanoseconds a sector: {INPUTS} inputs, {AT_ONCE} timed at once, the least of {ROUNDS} rounds");
     println!("Rust: init, build, new, build, from its own types made before; its flow field is new each time");
@@ -177,14 +214,20 @@ fn sectors() {
 }
 
 fn legs() {
-    println!("nanoseconds a leg of 16 steps: {LEGS} floors, the least of {ROUNDS} rounds for each");
+    println!(
+        "nanoseconds a leg of 16 steps: {LEGS} floors, the least of {ROUNDS} rounds for each; each sector drawn until"
+    );
+    println!("every cell of the window that faces it counts, or for `gaps` some cell does");
     println!("{:<14} {:>9} {:>9}  {:>11}", "", "sectors", "leg", "leg/sectors");
-    for (name, open) in [("random floor", false), ("open floor", true)] {
+    let drawn = |wanted: Floor| {
         let mut rng = Rng::new(7);
-        let floors: Vec<Leg> = (0..LEGS).map(|_| leg(&mut rng, open)).collect();
-        let [as_leg, sectors] = measure_legs(&floors);
+        (0..LEGS).map(|_| leg(&mut rng, wanted)).collect::<Vec<Leg>>()
+    };
+    for (name, wanted) in [("random floor", Floor::Counting), ("open floor", Floor::Open)] {
+        let [as_leg, sectors] = measure_legs(&drawn(wanted));
         println!("{name:<14} {sectors:>9.0} {as_leg:>9.0}  {:>11.2}", as_leg / sectors);
     }
+    println!("{:<14} {:>9} {:>9.0}", "gaps", "", measure_alone(&drawn(Floor::Gaps)));
 }
 
 fn bench(words: Vec<String>) -> Result<(), String> {
