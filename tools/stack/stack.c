@@ -1,6 +1,7 @@
 /*
  * The deepest stack of a leg: plans legs of sixteen steps on a painted stack and looks how far down the paint is gone.
- * The floors are hard: sectors are changed cell by cell, and a change is kept where the waves do not become fewer.
+ * The floors are hard: sectors are changed cell by cell, and a change is kept where the waves do not become fewer and the
+ * next step can still be planned.
  * What goes wrong, a refused leg among it, is one line on standard error and exit status 1.
  *
  *     rt staticlib hanjolum
@@ -49,22 +50,36 @@ static void make_steps(void)
     }
 }
 
-static size_t waves_of(const uint8_t *costs, const uint8_t *step)
+/* Whether the next step's window has a cell that counts: one whose cell straight across is reached. */
+static int counts(const uint32_t *field, const uint8_t *next)
 {
-    uint8_t scratch[HANJOLUM_CELLS];
-    return hanjolum_sector(costs, HANJOLUM_CELLS, step, HANJOLUM_STEP, false, NULL, 0, scratch, sizeof scratch).waves;
+    static const int ACROSS[4] = {90, -9, -90, 9};
+    for (int cell = next[3]; cell <= next[4]; cell += next[5] % 2 == 0 ? 1 : 10)
+        if ((field[cell + ACROSS[next[5]]] & 0xffff) != 0xffff)
+            return 1;
+    return 0;
 }
 
-/* Changes a sector's costs until its field takes many waves; answers how many. */
-static size_t harden(uint8_t *costs, const uint8_t *step)
+/* The waves of a sector, or -1 where the next step, if there is one, could not be planned behind it. */
+static long waves_of(const uint8_t *costs, const uint8_t *step, const uint8_t *next)
+{
+    uint8_t scratch[HANJOLUM_CELLS];
+    HanjolumBuildAnswer built =
+        hanjolum_sector(costs, HANJOLUM_CELLS, step, HANJOLUM_STEP, false, NULL, 0, scratch, sizeof scratch);
+    return next == NULL || counts(built.field.field, next) ? (long)built.waves : -1;
+}
+
+/* Changes a sector's costs until its field takes many waves; answers how many. The sector before it in the list is open,
+   so that every cell of the step's own window counts. */
+static long harden(uint8_t *costs, const uint8_t *step, const uint8_t *next)
 {
     static const uint8_t COSTS[4] = {1, HANJOLUM_WALL, 254, 2};
-    size_t most = waves_of(costs, step);
+    long most = waves_of(costs, step, next);
     for (int i = 0; i < CHANGES; i++) {
         uint8_t *cell = costs + rand() % HANJOLUM_CELLS;
         uint8_t old = *cell;
         *cell = COSTS[rand() % 4];
-        size_t waves = waves_of(costs, step);
+        long waves = waves_of(costs, step, next);
         if (waves < most)
             *cell = old;
         else
@@ -106,7 +121,7 @@ int main(int argc, char **argv)
 {
     uint8_t *stack = aligned_alloc(4096, STACK);
     size_t deepest = 0;
-    size_t most = 0;
+    long most = 0;
     (void)argv;
     if (argc > 1)
         fail("takes no words");
@@ -117,14 +132,16 @@ int main(int argc, char **argv)
         make_steps();
         memset(floor_costs, 1, sizeof floor_costs);
         for (int i = leg % 2; i < HANJOLUM_STEPS; i += 4) {
-            size_t waves = harden(floor_costs + steps[i * 8] * HANJOLUM_CELLS, steps + i * HANJOLUM_STEP);
+            const uint8_t *step = steps + i * HANJOLUM_STEP;
+            const uint8_t *next = i + 1 < HANJOLUM_STEPS ? step + HANJOLUM_STEP : NULL;
+            long waves = harden(floor_costs + step[0] * HANJOLUM_CELLS, step, next);
             most = waves > most ? waves : most;
         }
         size_t used = depth(stack);
         deepest = used > deepest ? used : deepest;
     }
     free(stack);
-    printf("%zu bytes of stack at most, with %zu waves\n", deepest, most);
+    printf("%zu bytes of stack at most, with %ld waves\n", deepest, most);
     if (fflush(stdout) != 0)
         fail("standard output cannot be written");
     return 0;
