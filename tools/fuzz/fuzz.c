@@ -1,8 +1,8 @@
 /*
  * Random calls through the C interface, with every lent buffer fenced by pages that no access is allowed to.
  * Lengths go from 0 past every limit, bytes are any or nearly good. A refused call must leave its sheet as it was and
- * answer zeros. A fault, and a run in which no call was accepted or none refused, is one line on standard error and
- * exit status 1.
+ * answer zeros, and a leg must leave the sectors that it does not name. A fault, and a run in which no call was accepted or
+ * none refused, no leg of several steps planned or none refused with 15, is one line on standard error and exit status 1.
  */
 #define _DEFAULT_SOURCE
 #include <stdio.h>
@@ -72,24 +72,56 @@ static size_t near(size_t length)
     return k > 2 ? length : k == 0 ? below((uint32_t)length * 2 + 2) : length - 1 + below(3);
 }
 
-static void step(uint8_t *s)
+/* A good step, but for one in so many, of which a byte is any. */
+static void step(uint8_t *s, int sector, uint8_t mark, uint8_t side, uint32_t spoiled)
 {
     static const uint8_t first[] = {0, 9, 90, 0};
-    uint8_t side = (uint8_t)below(4), a = (uint8_t)below(10), b = (uint8_t)below(10), stride = side % 2 ? 10 : 1;
-    uint8_t good[8] = {(uint8_t)below(64), (uint8_t)below(100), (uint8_t)below(2), 0, 0, side, 0, 0};
+    uint8_t a = (uint8_t)below(10), b = (uint8_t)below(10), stride = side % 2 ? 10 : 1;
+    uint8_t good[8] = {(uint8_t)sector, (uint8_t)below(100), mark, 0, 0, side, 0, 0};
     good[3] = (uint8_t)(first[side] + stride * (a < b ? a : b));
     good[4] = (uint8_t)(first[side] + stride * (a < b ? b : a));
     memcpy(s, good, 8);
-    if (below(4) == 0)
+    if (below(spoiled) == 0)
         s[below(8)] = (uint8_t)draw();
 }
 
-static void steps(Fenced *f)
+/* The sector on a side of another, or -1 off the floor. */
+static int across(int sector, int side)
+{
+    static const int columns[] = {0, 1, 0, -1}, rows[] = {-1, 0, 1, 0};
+    int column = sector % 8 + columns[side], row = sector / 8 + rows[side];
+    return column < 0 || column > 7 || row < 0 || row > 7 ? -1 : 8 * row + column;
+}
+
+/* Steps from sector to sector, each left by its window for the one before; where the walk is stuck it stays. */
+static void walk(Fenced *f)
+{
+    uint64_t named = 0;
+    int sector = (int)below(64), side = 0;
+    for (size_t i = 0; i + 8 <= f->length; i += 8) {
+        for (uint32_t k = 0, turn = below(4); i > 0 && k < 4; k++) {
+            int next = across(sector, (int)(turn + k) % 4);
+            if (next >= 0 && (named >> next & 1) == 0) {
+                side = ((int)(turn + k) + 2) % 4;
+                sector = next;
+                break;
+            }
+        }
+        named |= (uint64_t)1 << sector;
+        step(f->at + i, sector, i > 0, (uint8_t)side, 40);
+    }
+}
+
+static void steps(Fenced *f, int leg)
 {
     for (size_t i = 0; i < f->length; i++)
         f->at[i] = (uint8_t)draw();
+    if (leg && below(4)) {
+        walk(f);
+        return;
+    }
     for (size_t i = 0; i + 8 <= f->length; i += 8)
-        step(f->at + i);
+        step(f->at + i, (int)below(64), (uint8_t)below(2), (uint8_t)below(4), 4);
 }
 
 static HanjolumIntegrationField field(void)
@@ -113,8 +145,9 @@ static int zeros(const void *part, size_t length)
     return 1;
 }
 
-/* How many calls answered 0, and how many a number. */
-static unsigned long accepted, turned_away;
+/* How many calls answered 0, and how many a number; how many legs of several steps were planned, and how many had a window
+   in which no cell counts. */
+static unsigned long accepted, turned_away, planned, closed;
 
 static void counted(uint8_t number)
 {
@@ -148,7 +181,7 @@ static void kept(uint8_t number, const Fenced *sheet)
 static void file_calls(Fenced *route, Fenced *file)
 {
     place(route, near(8 * (1 + below(17))));
-    steps(route);
+    steps(route, 0);
     place(file, near(HANJOLUM_FILE_HEAD + route->length));
     fill(file);
     memcpy(before, file->at, file->length);
@@ -166,6 +199,21 @@ static void file_calls(Fenced *route, Fenced *file)
         fail("the steps of a file are not where they must be");
 }
 
+/* A leg, which leaves the sectors that it does not name. */
+static void a_leg(const Fenced *costs, const Fenced *route, Fenced *sheet)
+{
+    uint64_t named = 0;
+    uint8_t number = hanjolum_leg(costs->at, costs->length, route->at, route->length, sheet->at, sheet->length);
+    kept(number, sheet);
+    closed += number == 15;
+    planned += number == 0 && route->length > 8;
+    for (size_t i = 0; number == 0 && i < route->length; i += 8)
+        named |= (uint64_t)1 << route->at[i];
+    for (size_t i = 0; number == 0 && i < sheet->length; i++)
+        if ((named >> i / 100 & 1) == 0 && before[i] != sheet->at[i])
+            fail("a leg wrote a sector that it does not name");
+}
+
 /* One call of each kind that writes a sheet, and one of each that does not. */
 static void round_of_calls(Fenced *costs, Fenced *route, Fenced *previous, Fenced *sheet)
 {
@@ -176,14 +224,14 @@ static void round_of_calls(Fenced *costs, Fenced *route, Fenced *previous, Fence
     place(previous, 4 * near(100));
     place(sheet, near(leg ? 6400 : 100));
     fill(costs);
-    steps(route);
+    steps(route, leg);
     fill(previous);
     fill(sheet);
     memcpy(before, sheet->at, sheet->length);
     const uint32_t *numbers = (const uint32_t *)(const void *)previous->at;
     size_t count = previous->length / 4;
     if (leg) {
-        kept(hanjolum_leg(costs->at, costs->length, route->at, route->length, sheet->at, sheet->length), sheet);
+        a_leg(costs, route, sheet);
         return;
     }
     bool has = below(2);
@@ -232,7 +280,10 @@ static void report(unsigned long rounds)
 {
     if (accepted == 0 || turned_away == 0)
         fail("no call was accepted, or none was refused");
-    printf("%lu rounds of calls, %lu accepted and %lu refused, nothing found\n", rounds, accepted, turned_away);
+    if (planned == 0 || closed == 0)
+        fail("no leg of several steps was planned, or none was refused with 15");
+    printf("%lu rounds of calls, %lu accepted and %lu refused, %lu legs of several steps planned and %lu refused with 15, nothing found\n",
+           rounds, accepted, turned_away, planned, closed);
     written();
 }
 
