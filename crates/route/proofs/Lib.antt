@@ -7,3 +7,4 @@ pub mod Windows
 pub mod Facing
 pub mod Targets
 pub mod Selected
+pub mod Walls

@@ -1,7 +1,7 @@
 -- A target as the program holds it, for the contracts of functions beneath the calls.
 -- Assumes nothing.
 use mathlib.Core.Path.{_≡_}
-use mathlib.Core.Bool.{true, false, cond}
+use mathlib.Core.Bool.{Bool, true, false, cond}
 use mathlib.Core.List.{List, []}
 use Prim.Native.Nat.{ℕ, _<_, _≤_}
 use lib.ListN.{length, take}
@@ -9,6 +9,7 @@ use Rattle.route.specs.declared.RouteStep.{RouteStep}
 use Rattle.route.specs.declared.WindowCells.{WindowCells}
 use Rattle.route.specs.declared.Target as program
 use Rattle.route.specs.Window.{cellsBetween, listed}
+use Rattle.route.specs.Step.{isWallCost, someWallCost}
 use Rattle.route.specs.Target.{Target, to-goal, to-window, WindowIn}
 
 -- the target of a step taken apart
@@ -26,6 +27,11 @@ heldCells w = take (w .count) (w .cells)
 
 abbrev pub heldTarget : program.Target → Target
 heldTarget t = cond (t .«has_window») (to-window (heldCells (t .window))) (to-goal (t .goal))
+
+-- number 16's condition, by the target
+abbrev pub isWallTarget : List ℕ → Target → Bool
+isWallTarget costs (to-goal n) = isWallCost costs n
+isWallTarget costs (to-window cells) = someWallCost costs cells
 
 -- it stands for a target inside the sector
 pub record WindowHeld (w : WindowCells) : Type 0 where

@@ -1,7 +1,7 @@
 -- A step of a route and the numbers with which it is refused (01, "A leg").
 -- Assumes nothing.
-use mathlib.Core.Bool.{Bool, not, _&&_, _||_}
-use mathlib.Core.List.{List, [], _∷_}
+use mathlib.Core.Bool.{Bool, false, not, _&&_, _||_}
+use mathlib.Core.List.{List, [], _∷_, _++_}
 use Prim.Native.Nat.{ℕ, _%_}
 use lib.Dec.{ltb, eqb}
 use lib.ListN.{length, getD}
@@ -76,6 +76,35 @@ eachStep s = firstNumber (stepRows s)
 -- 3 to 8 for a step that is refused, else 0
 unfoldable pub stepNumber : List ℕ → ℕ
 stepNumber s = firstNumber (row 3 (not (eqb (length s) 8)) ∷ stepRows s)
+
+-- ---- on its sector's costs
+
+-- a cell has cost 255: it is a wall
+abbrev pub isWallCost : List ℕ → ℕ → Bool
+isWallCost costs i = eqb (getD costs i 0) 255
+
+-- some cell of a list has
+abbrev pub someWallCost : List ℕ → List ℕ → Bool
+someWallCost costs [] = false
+someWallCost costs (i ∷ cells) = isWallCost costs i || someWallCost costs cells
+
+-- 16 (02, "Job 3"): the goal or any window cell of cost 255; with mark 0 the window bytes are not read, with mark 1 the goal byte is not
+abbrev pub targetsWall : List ℕ → List ℕ → Bool
+targetsWall costs s = (isGoal s && isWallCost costs (goalOf s)) || (isWindow s && someWallCost costs (windowCells s))
+
+-- the table's lines for each step, on its sector's costs (02, "Job 3"): 16 after 8 for the same step
+abbrev pub stepRowsOn : List ℕ → List ℕ → List Row
+stepRowsOn costs s = stepRows s ++ (row 16 (targetsWall costs s) ∷ [])
+
+-- 4 to 8, or 16 (02, "Job 3"), for a step of 8 bytes that is refused on these costs, else 0
+unfoldable pub eachStepOn : List ℕ → List ℕ → ℕ
+eachStepOn costs s = firstNumber (stepRowsOn costs s)
+
+-- 3 to 8, or 16 (02, "Job 3"), for a step that is refused on these costs, else 0
+unfoldable pub stepNumberOn : List ℕ → List ℕ → ℕ
+stepNumberOn costs s = firstNumber (row 3 (not (eqb (length s) 8)) ∷ stepRowsOn costs s)
+
+-- ---- a list of steps
 
 -- 3 for a list of steps (01, the table's line 3, "leg"): 0 bytes, over 128, or no multiple of 8
 unfoldable pub noStepList : List ℕ → Bool

@@ -66,3 +66,9 @@ pub record StepWindow (step : List ℕ) (x : ℕ) : Type 0 where
   pub on-edge : OnNamedEdge (boundaryByte step) x
   pub from : firstOf step ≤ x
   pub to : x ≤ lastOf step
+
+-- Number 16's condition (02, "Job 3") for a step that is not refused with 3 to 8, told by these cells: the goal, or a window cell, has cost 255.
+-- That a step is refused with 16 exactly then is `sixteen-told`, `proofs/Walls.antt`.
+pub data StepOnWall (costs step : List ℕ) : Type 0 where
+  goal-on : (x : ℕ) → StepGoal step x → getD costs x 0 ≡ 255 → StepOnWall costs step
+  window-on : (x : ℕ) → StepWindow step x → getD costs x 0 ≡ 255 → StepOnWall costs step

@@ -36,12 +36,12 @@ pub struct Target {
     pub window: WindowCells,
 }
 
-// The byte at a place of a step, 0 where it has none.
-fn byte_at(step: &[u8], place: usize) -> u8
-    ensures { λ r. ⌜ r ≡ getD (now (step .entry)) place 0 ⌝ }
+// The byte at a place, 0 where there is none.
+pub fn byte_at(bytes: &[u8], place: usize) -> u8
+    ensures { λ r. ⌜ r ≡ getD (now (bytes .entry)) place 0 ⌝ }
 {
-    if place < step.len() {
-        return step[place];
+    if place < bytes.len() {
+        return bytes[place];
     }
     0
 }

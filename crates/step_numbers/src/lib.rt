@@ -1,9 +1,13 @@
-// The numbers 3 to 8 with which a step of a route is refused.
+// The numbers 3 to 8 with which a step of a route is refused, and number 16 on its sector's costs.
+use route::RouteStep;
+use route::Target;
+use route::WindowCells;
 use utilities::CompassDir;
 ghost use mathlib.Core.Path.{_≡_};
 ghost use mathlib.Core.List.{[], _∷_};
 ghost use Rattle.route.specs.Window.{onEdge};
-ghost use Rattle.route.specs.Step.{eachStep, stepNumber};
+ghost use Rattle.route.specs.Step.{eachStep, stepNumber, someWallCost, stepNumberOn};
+ghost use Rattle.route.specs.Inner.{heldCells, heldTarget, isWallTarget, WindowHeld, TargetHeld};
 
 // Whether a cell lies on a side's edge.
 fn on_edge(boundary: CompassDir, index: usize) -> bool
@@ -96,4 +100,47 @@ pub fn step_number(step: &[u8]) -> u8
         step[6],
         step[7],
     )
+}
+
+// Whether a window cell has cost 255.
+fn has_wall_cell(costs: &[u8], window: WindowCells) -> bool
+    requires { ⌜ WindowHeld window ⌝ }
+    ensures { λ r. ⌜ r ≡ someWallCost (now (costs .entry)) (heldCells window) ⌝ }
+{
+    let cells = window.cells;
+    let count = window.count;
+    let mut i = 0;
+    while i < count {
+        if route::byte_at(costs, cells[i]) == 255 {
+            return true;
+        }
+        i += 1;
+    }
+    false
+}
+
+// Number 16's condition: the goal, or a window cell, has cost 255.
+fn is_wall_target(costs: &[u8], target: Target) -> bool
+    requires { ⌜ TargetHeld target ⌝ }
+    ensures { λ r. ⌜ r ≡ isWallTarget (now (costs .entry)) (heldTarget target) ⌝ }
+{
+    if target.has_window {
+        return has_wall_cell(costs, target.window);
+    }
+    route::byte_at(costs, target.goal) == 255
+}
+
+// 3 to 8, or 16, for a step that is refused on its sector's costs, else 0.
+pub fn step_number_on(costs: &[u8], step: &[u8]) -> u8
+    ensures { λ r. ⌜ r ≡ stepNumberOn (now (costs .entry)) (now (step .entry)) ⌝ }
+{
+    let number = step_number(step);
+    if number != 0 {
+        return number;
+    }
+    let target = RouteStep::new(step).as_target();
+    if is_wall_target(costs, target) {
+        return 16;
+    }
+    0
 }

@@ -1,0 +1,24 @@
+-- `step_numbers::is_wall_target` meets its contract: by the target's kind.
+-- Assumes nothing.
+use mathlib.Core.Path.{ap, _∙_}
+use borrow.Author.Needs.{needs}
+use lib.Dec.{eqb}
+use Prim.Native.Nat.{ℕ}
+use Rattle.step_numbers.proofs.is_wall_target.Statement.{statement}
+use Rattle.step_numbers.proofs.is_wall_target.Tie as tie
+
+has-wall-cell-requires : tie.Need-has-wall-cell-requires
+has-wall-cell-requires c κs = c .before .before .pre .window-held
+
+returns : tie.Need-returns
+returns c = rw (c .before .if1 .taken) (c .has-wall-cell .ensures)
+
+byte-at-requires : tie.Need-byte-at-requires
+byte-at-requires c κs = search needs
+
+returns-2 : tie.Need-returns-2
+returns-2 c = rw (c .before .if1 .left) (ap (λ (n : ℕ). eqb n 255) (c .byte-at .ensures))
+
+pub is-wall-target-spec : {M : Type 1} → statement M
+is-wall-target-spec =
+    tie.close (tie.spec has-wall-cell-requires returns byte-at-requires returns-2)
