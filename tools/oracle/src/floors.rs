@@ -1,7 +1,7 @@
 //! Inputs: floors of every kind, steps, fields given by hand, previous fields.
 
-use crate::oracle::Oracle;
-use crate::refusals::across;
+use crate::oracle::rust_built;
+use crate::refusals::{across, named_cells};
 use crate::subject::*;
 
 /// Numbers from a seed (xorshift64*).
@@ -207,6 +207,35 @@ pub fn any_step(rng: &mut Rng) -> Step {
     step
 }
 
+/// Walls under the goal or the window cells of a good step made floor: 16 is not due then.
+pub fn open(rng: &mut Rng, costs: &mut [u8], step: &[u8]) {
+    for cell in named_cells(step) {
+        if costs[cell] == 255 {
+            costs[cell] = rng.pick(&[1, 1, 2, 10, 254]);
+        }
+    }
+}
+
+/// A floor and a step of any kind that the table takes.
+pub fn any_open(rng: &mut Rng) -> (Costs, Step) {
+    let (mut costs, step) = (any(rng), any_step(rng));
+    open(rng, &mut costs, &step);
+    (costs, step)
+}
+
+/// The same, where a wall under the goal or a window cell is left one time in four.
+pub fn any_with_step(rng: &mut Rng) -> (Costs, Step) {
+    if rng.one_in(4) { (any(rng), any_step(rng)) } else { any_open(rng) }
+}
+
+/// Walls under the goals and window cells of good steps made floor, each in its own sector of a whole floor.
+pub fn open_leg(rng: &mut Rng, floor: &mut [u8], steps: &[u8]) {
+    for step in steps.chunks(8) {
+        let at = usize::from(step[0]) * CELLS;
+        open(rng, &mut floor[at..at + CELLS], step);
+    }
+}
+
 /// A sector beside the last of these that is none of them, and the boundary by which it is left for that one.
 fn next_sector(rng: &mut Rng, sectors: &[usize]) -> Option<(usize, usize)> {
     let before = *sectors.last().expect("a leg has a first step");
@@ -336,7 +365,7 @@ pub fn any_previous(rng: &mut Rng) -> (bool, Vec<u32>) {
         4 => std::array::from_fn(|_| rng.draw() as u32),
         _ => {
             let (costs, step) = (any(rng), any_step(rng));
-            Oracle.build(&costs, Oracle.init(&costs, &step).field).field.field
+            rust_built(&costs, &step).field
         }
     };
     (true, drawn.to_vec())

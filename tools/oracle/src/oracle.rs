@@ -1,6 +1,8 @@
-//! The oracle: refusal numbers by the table of document 01, everything else by the Rust, but for what has no Rust, leg
-//! files and legs in which some window cell does not count (02, Jobs 1 and 2), which the model answers. Wave counts come
-//! from the counted copy, whose fields are asserted equal to the published one's. Each judge is noted where it is asked.
+//! The oracle: refusal numbers by the table of documents 01 and 02, everything else by the Rust, but for what has no Rust,
+//! leg files and legs in which some window cell does not count (02, Jobs 1 and 2), which the model answers. A step whose
+//! goal or some window cell is of cost 255 (02, Job 3) is the table's, and the Rust, which takes it, is not asked. Wave
+//! counts come from the counted copy, whose fields are asserted equal to the published one's. Each judge is noted where it
+//! is asked.
 
 use reference::flowfields as rust;
 use reference::flowfields::fields::bresenham::{walk_bresenham_shallow, walk_bresenham_steep};
@@ -112,10 +114,23 @@ pub fn counted_build(costs: &[u8], field: &IntegrationField) -> Counted {
     Counted { cells: *copy.get(), waves: calls - 1, longest }
 }
 
+/// What the Rust starts on any costs, for a step that 4 to 8 take. It opens a wall under the goal or a window cell, which
+/// `init` refuses: then a field to be given by hand.
+pub fn rust_started(costs: &[u8], step: &[u8]) -> IntegrationField {
+    from_rust(&RustField::init(&cost_field(costs), &route_step(step)))
+}
+
+/// The same, built.
+pub fn rust_built(costs: &[u8], step: &[u8]) -> IntegrationField {
+    let mut field = RustField::init(&cost_field(costs), &route_step(step));
+    field.build(&cost_field(costs));
+    from_rust(&field)
+}
+
 impl Oracle {
     fn start(&self, costs: &[u8], step: &[u8]) -> IntegrationField {
         decides(Judge::Published);
-        from_rust(&RustField::init(&cost_field(costs), &route_step(step)))
+        rust_started(costs, step)
     }
 
     fn built(&self, costs: &[u8], field: &IntegrationField) -> (IntegrationField, usize) {

@@ -1,9 +1,12 @@
-//! The table of document 01 ("A leg, the added entry"), read from that page alone: each row a number
-//! and a condition, in the page's order. 15 (02, Job 2) comes after 10 and is found by planning: the model has it.
+//! The table of document 01 ("A leg, the added entry") with 16 of document 02, Job 3, read from those pages alone: each row
+//! a number and a condition, in the pages' order. 15 (02, Job 2) comes after 10 and is found by planning: the model has it.
 
 use std::ops::Index;
 
 use crate::subject::{IntegrationField, Previous};
+
+/// The number of a step whose goal, or some window cell, is of cost 255.
+pub const ON_WALL: u8 = 16;
 
 /// What a call was lent or given. What a call does not have stands as `None` or empty, and no row
 /// that speaks of it can hold.
@@ -29,6 +32,18 @@ pub struct Judged<'a> {
     pub costs: &'a [u8],
 }
 
+impl Judged<'_> {
+    /// Whether a cell of the step's sector is of cost 255; none is where the call has no costs.
+    pub fn is_wall(&self, cell: usize) -> bool {
+        self.costs.get(cell) == Some(&255)
+    }
+
+    /// Whether the goal or some window cell is.
+    pub fn on_wall(&self) -> bool {
+        named_cells(self.step).iter().any(|cell| self.is_wall(*cell))
+    }
+}
+
 /// A byte of the step.
 impl Index<usize> for Judged<'_> {
     type Output = u8;
@@ -49,7 +64,7 @@ pub struct Table<'a> {
     /// "lent memory" and "step list"
     pub lent: [Row<Given<'a>>; 3],
     /// "each step"
-    pub each_step: [Row<Judged<'a>>; 5],
+    pub each_step: [Row<Judged<'a>>; 6],
     /// "whole leg"
     pub whole_leg: [Row<[u8]>; 2],
     /// "building by hand", "flow by hand, sector call" and "line calls"
@@ -57,8 +72,8 @@ pub struct Table<'a> {
 }
 
 impl<'a> Table<'a> {
-    /// The table as document 01 has it.
-    pub fn document_01() -> Self {
+    /// The table as the documents have it.
+    pub fn documents() -> Self {
         Table {
             lent: [
                 Row { number: 1, holds: |g| g.costs.is_some_and(|costs| costs.len() != size(g)) },
@@ -71,6 +86,7 @@ impl<'a> Table<'a> {
                 Row { number: 6, holds: |s| s[2] == 1 && (s[3] > 99 || s[4] > 99 || s[5] > 3) },
                 Row { number: 7, holds: |s| s[2] == 1 && !(on_edge(s[3], s[5]) && on_edge(s[4], s[5])) },
                 Row { number: 8, holds: |s| s[2] == 1 && s[3] > s[4] },
+                Row { number: ON_WALL, holds: |s| s.on_wall() },
             ],
             whole_leg: [
                 Row { number: 9, holds: |steps| !goal_then_windows(steps) || named_twice(steps) },
@@ -84,7 +100,7 @@ impl<'a> Table<'a> {
         }
     }
 
-    /// The number that a call gets: of the first row that holds, down the table, 4 to 8 for one step
+    /// The number that a call gets: of the first row that holds, down the table, 4 to 8 and 16 for one step
     /// before the next step; 0 where none holds.
     pub fn number(&self, given: &Given<'a>) -> u8 {
         let steps = given.steps.unwrap_or(&[]);
@@ -110,9 +126,20 @@ pub fn each<'a>(given: &Given<'a>) -> impl Iterator<Item = Judged<'a>> {
     })
 }
 
-/// The number that document 01 gives a call.
+/// The number that the documents give a call.
 pub fn number(given: &Given) -> u8 {
-    Table::document_01().number(given)
+    Table::documents().number(given)
+}
+
+/// The goal's cell of a step, or its window's from first to last: in a row on North and South, in a column on East and West.
+/// What the mark leaves unread is not looked at.
+pub fn named_cells(step: &[u8]) -> Vec<usize> {
+    let [goal, first, last] = [step[1], step[3], step[4]].map(usize::from);
+    let upright = step[5] % 2 == 1;
+    match step[2] {
+        0 => vec![goal],
+        _ => (first..=last).filter(|cell| !upright || cell % 10 == first % 10).collect(),
+    }
 }
 
 fn size(given: &Given) -> usize {

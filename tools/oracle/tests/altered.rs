@@ -3,9 +3,9 @@
 
 use either_wall::flowfields as altered;
 use either_wall::flowfields::fields::Field;
-use oracle::floors::{Costs, Rng, Step, any, any_field, any_sheet, any_step, goal_step, one_wall, uniform};
+use oracle::floors::{Costs, Rng, Step, any, any_field, any_sheet, any_step, goal_step, one_wall, open, uniform};
 use oracle::model::{Model, Slip};
-use oracle::oracle::Oracle;
+use oracle::oracle::{Oracle, rust_built};
 use oracle::subject::*;
 
 type Altered = altered::fields::integration_field::IntegrationField;
@@ -34,7 +34,8 @@ fn lines_stop_at_one_wall() {
     let ruled = Model { slip: Slip::OneWallStopsLine };
     let (mut rng, mut differing) = (Rng::new(1), 0);
     for _ in 0..5_000 {
-        let (costs, step): (Costs, Step) = (any(&mut rng), goal_step(0, rng.below(CELLS)));
+        let (mut costs, step): (Costs, Step) = (any(&mut rng), goal_step(0, rng.below(CELLS)));
+        open(&mut rng, &mut costs, &step);
         let field = init(&costs, usize::from(step[1]));
         assert_eq!(field, ruled.init(&costs, &step).field);
         differing += usize::from(field != Oracle.init(&costs, &step).field);
@@ -49,7 +50,7 @@ fn looks_pass_over_one_wall() {
     let (mut rng, mut differing) = (Rng::new(2), 0);
     for k in 0..5_000 {
         let (costs, step) = (any(&mut rng), any_step(&mut rng));
-        let built = || Oracle.build(&costs, Oracle.init(&costs, &step).field).field;
+        let built = || rust_built(&costs, &step);
         let (field, sheet) = (if k % 2 == 0 { built() } else { any_field(&mut rng) }, any_sheet(&mut rng));
         let bytes = flow_build(&field, &sheet);
         assert_eq!(bytes, flow_build_by(&ruled, &field, &sheet));

@@ -1,7 +1,7 @@
 //! What is to be proved, tried on the Rust: least walks, arrows, waves (demand 3), by reading document
 //! 01 once more and searching walks without waves. Legs in which some window cell does not count are tried on the model.
 
-use oracle::floors::{Costs, Rng, Step, any, any_field, any_previous, any_step, walls};
+use oracle::floors::{Costs, Rng, Step, any, any_field, any_open, any_previous, any_step, open, walls};
 use oracle::groups::GROUPS;
 use oracle::model::Model;
 use oracle::oracle::Oracle;
@@ -69,7 +69,7 @@ fn targets(step: &Step) -> Vec<usize> {
 fn built_started_fields_hold_least_walks() {
     let mut rng = Rng::new(11);
     for _ in 0..FLOORS {
-        let (costs, step) = (any(&mut rng), any_step(&mut rng));
+        let (costs, step) = any_open(&mut rng);
         let started = Oracle.init(&costs, &step).field;
         let built = Oracle.build(&costs, started);
         let wall = |cell: usize| costs[cell] == 255 && !targets(&step).contains(&cell);
@@ -141,12 +141,13 @@ fn arrows_end_in_the_window() {
     let mut followed = 0;
     for _ in 0..FLOORS {
         let percent = rng.below(71);
-        let costs =
+        let mut costs =
             if rng.one_in(2) { any(&mut rng).map(|cost| cost.max(1)) } else { walls(&mut rng, percent, &[1, 2, 254]) };
         let step = any_step(&mut rng);
         if step[2] == 0 {
             continue;
         }
+        open(&mut rng, &mut costs, &step);
         let (lent, numbers) = any_previous(&mut rng);
         let mut sheet = [0; CELLS];
         let built = Oracle.sector(&costs, &step, Previous { lent, numbers: &numbers }, &mut sheet).field.field;

@@ -6,7 +6,8 @@ use std::panic::{AssertUnwindSafe, catch_unwind};
 use oracle::cases::Case;
 use oracle::floors::{Rng, Step, any, any_step, goal_step, one_wall, uniform, window_step};
 use oracle::model::{CLOSED, Model, Slip};
-use oracle::oracle::{Oracle, counted_build, route_step};
+use oracle::oracle::{Oracle, counted_build, route_step, rust_started};
+use oracle::refusals::ON_WALL;
 use oracle::shrink::smallest;
 use oracle::subject::*;
 use reference::flowfields::fields::FieldCell as RustCell;
@@ -160,8 +161,18 @@ fn windows_that_the_rust_finds() {
     let runs = [(9, 19), (39, 49), (69, 99)].map(|(first, last)| window(first, last, CompassDir::East));
     assert_eq!(found(CompassDir::East), Some(runs.to_vec()));
     assert_eq!(found(CompassDir::West), None);
-    // Part of a run, a window over a wall, and one off the floor are taken here.
+    // Part of a run, a window over a wall across, and one off the floor are taken here; one over a wall of its own is not.
     assert_eq!((number_of(19, 19, 1), number_of(9, 99, 1), number_of(0, 90, 3)), (0, 0, 0));
+    assert_eq!(Oracle.init(&one_wall(29), &window_step(0, 1, 0, 9)).number, ON_WALL);
+}
+
+/// The Rust opens a wall under a goal and under a window cell; `init` refuses it (02, Job 3).
+#[test]
+fn walls_that_the_rust_opens() {
+    for (step, cell, opened) in [(goal_step(0, 44), 44, GOAL), (window_step(0, 1, 0, 9), 29, PORTAL)] {
+        assert_eq!(rust_started(&one_wall(cell), &step).field[cell], opened);
+        assert_eq!(Oracle.init(&one_wall(cell), &step), refused::init(ON_WALL));
+    }
 }
 
 /// The bytes of sector 1, left by this window for sector 0, whose goal is cell 44, with these walls: by the Rust's calls

@@ -1,6 +1,6 @@
 //! A group is held to the judges that it names.
 
-use oracle::groups::{Clean, GROUPS, Group, Met};
+use oracle::groups::{Clean, GROUPS, Group, Met, Place};
 use oracle::judges::Judge;
 use oracle::model::{CLOSED, Model};
 
@@ -15,16 +15,20 @@ fn names(name: &str) -> Vec<&'static str> {
 #[test]
 fn groups_name_their_judges() {
     assert_eq!(names("line"), ["published Rust"]);
-    assert_eq!(names("sector"), ["published Rust", "counted copy"]);
-    assert_eq!(names("leg"), ["published Rust", "model"]);
+    assert_eq!(names("init"), ["published Rust", "table of refusals"]);
+    assert_eq!(names("build started"), ["published Rust", "counted copy"]);
+    assert_eq!(names("sector"), ["published Rust", "counted copy", "table of refusals"]);
+    assert_eq!(names("leg"), ["published Rust", "table of refusals", "model"]);
     assert_eq!(names("leg, gaps"), ["published Rust", "model"]);
+    assert_eq!(names("leg, on walls"), ["published Rust", "table of refusals", "model"]);
     assert_eq!(names("leg refusals"), ["published Rust", "table of refusals", "model"]);
     assert_eq!(names("build refusals"), ["published Rust", "counted copy", "table of refusals"]);
 }
 
 #[test]
 fn the_judges_that_decide_are_those_that_are_named() {
-    for group in GROUPS.iter().filter(|group| group.name.ends_with("refusals") || group.name == "readers") {
+    let others = ["readers", "init", "sector", "leg", "leg, on walls"];
+    for group in GROUPS.iter().filter(|group| group.name.ends_with("refusals") || others.contains(&group.name)) {
         let clean = group.run(&Model::PLAIN, 5, 20_000).unwrap_or_else(|_| panic!("{} differs", group.name));
         assert_eq!(group.unmet(&clean), None);
         // The table, the Rust or the model decides each input, and never two of them. 15 is the model's.
@@ -63,4 +67,18 @@ fn legs_with_gaps_must_meet_each_kind() {
     let mut clean = whole.clone();
     clean.numbers[usize::from(CLOSED)] = 0;
     assert!(group.unmet(&clean).expect("a fault").contains("did not reach number 15"));
+}
+
+#[test]
+fn legs_on_walls_must_meet_each_kind() {
+    let group = group("leg, on walls");
+    let whole = group.run(&Model::PLAIN, 6, 20_000).unwrap_or_else(|_| panic!("the model differs from the Rust"));
+    assert_eq!(group.unmet(&whole), None);
+    assert_eq!(whole.met.keys().filter(|met| matches!(met, Met::OnWall { .. })).count(), 136);
+    let lacking = [Met::InsteadOf(9), Met::InsteadOf(CLOSED), Met::OneWall(Place::Between), Met::OrderFirst];
+    for met in lacking.into_iter().chain([Met::UnreadWall, Met::OnWall { steps: 16, at: 1 }]) {
+        let mut clean = whole.clone();
+        clean.met.remove(&met);
+        assert!(group.unmet(&clean).expect("a fault").contains(&format!("did not meet `{met}` in")));
+    }
 }

@@ -7,6 +7,7 @@ use oracle::groups::GROUPS;
 use oracle::judges::{self, Judge};
 use oracle::model::{CLOSED, Model};
 use oracle::oracle::Oracle;
+use oracle::refusals::ON_WALL;
 use oracle::subject::*;
 
 const OLD: u8 = 0x55;
@@ -36,15 +37,17 @@ fn counting_cells_need_not_be_a_run() {
     }
 }
 
+/// Rows 0 and 6 face no reached cell, row 3 does: a wall under any of them is refused (02, Job 3).
 #[test]
-fn a_wall_that_does_not_count_stays_a_wall() {
-    let (mut floor, steps) = leg_with_a_gap();
-    // Rows 0 and 6 face no reached cell; row 3 does, and a window cell that counts opens its wall.
-    [0, 3, 6].into_iter().for_each(|row| floor[100 + 10 * row] = 255);
+fn a_wall_under_a_window_cell_is_refused_whether_it_would_count_or_not() {
+    let (open, steps) = leg_with_a_gap();
     for side in sides() {
-        let mut sheet = vec![OLD; 6400];
-        assert_eq!(side.leg(&floor, &steps, &mut sheet), 0);
-        assert_eq!([0, 30, 60].map(|cell| sheet[100 + cell]), [0xE0, 0x98, 0xE0]);
+        for row in [0, 3, 6] {
+            let (mut floor, mut sheet) = (open.clone(), vec![OLD; 6400]);
+            floor[100 + 10 * row] = 255;
+            assert_eq!(side.leg(&floor, &steps, &mut sheet), ON_WALL);
+            assert!(sheet.iter().all(|byte| *byte == OLD));
+        }
     }
 }
 
@@ -150,18 +153,38 @@ fn the_rust_decides_where_every_cell_counts() {
 }
 
 #[test]
-fn fifteen_comes_after_ten_and_leaves_the_sheet() {
-    let (floor, _) = leg_with_a_gap();
+fn fifteen_comes_after_ten_and_sixteen_and_leaves_the_sheet() {
+    let (mut floor, _) = leg_with_a_gap();
+    // A wall in sector 2, under its whole west edge.
+    floor[250] = 255;
     // Sector 1 is closed. A third step stands beside it, or faces another sector than the one before.
     let closed = [goal_step(0, 44), window_step(1, 3, 5, 6)].concat();
-    let beside = [closed.clone(), window_step(2, 3, 0, 9).to_vec()].concat();
+    let beside = [closed.clone(), window_step(2, 3, 0, 4).to_vec()].concat();
+    let walled = [closed.clone(), window_step(2, 3, 0, 9).to_vec()].concat();
     let apart = [closed.clone(), window_step(3, 3, 0, 9).to_vec()].concat();
-    let again = [closed.clone(), window_step(0, 1, 0, 9).to_vec()].concat();
+    let again = [closed.clone(), window_step(0, 1, 3, 3).to_vec()].concat();
     for side in sides() {
-        for (steps, due) in [(&closed, CLOSED), (&beside, CLOSED), (&apart, 10), (&again, 9)] {
+        for (steps, due) in [(&closed, CLOSED), (&beside, CLOSED), (&walled, ON_WALL), (&apart, 10), (&again, 9)] {
             let mut sheet = vec![OLD; 6400];
             assert_eq!(side.leg(&floor, steps, &mut sheet), due);
             assert!(sheet.iter().all(|byte| *byte == OLD));
         }
+    }
+}
+
+/// A file with a step on a wall is read; planned against the floor, the leg is refused (02, Job 3).
+#[test]
+fn a_file_with_a_step_on_a_wall_is_read() {
+    let (mut floor, steps) = leg_with_a_gap();
+    for side in sides() {
+        let mut file = vec![0; steps.len() + 6];
+        assert_eq!(side.leg_file_write(&steps, &mut file), 0);
+        let found = side.leg_file_read(&file);
+        let read = &file[found.start..found.start + found.length];
+        assert_eq!((found.number, read), (0, &steps[..]));
+        assert_eq!(side.leg(&floor, read, &mut vec![OLD; 6400]), 0);
+        floor[44] = 255;
+        assert_eq!(side.leg(&floor, read, &mut vec![OLD; 6400]), ON_WALL);
+        floor[44] = 1;
     }
 }

@@ -1,38 +1,87 @@
-//! The table of refusals sees what a call was lent, cost bytes among it.
+//! The table of refusals sees what a call was lent, cost bytes among it: 16 (02, Job 3).
 
-use oracle::floors::{goal_step, one_wall, uniform};
-use oracle::refusals::{Given, Row, Table};
+use oracle::floors::{Step, all_windows, goal_step, one_wall, uniform, window_step};
+use oracle::refusals::{Given, ON_WALL, number};
+use oracle::subject::Previous;
 
-/// The table with a row that looks at the cost of the goal's cell, in place of the last row of each step.
-fn table<'a>() -> Table<'a> {
-    let mut table = Table::document_01();
-    table.each_step[4] = Row { number: 16, holds: |s| s[2] == 0 && s.costs.get(usize::from(s[1])) == Some(&255) };
-    table
+/// The number of a sector call with no previous field.
+fn sector(costs: &[u8], step: &Step) -> u8 {
+    number(&Given { costs: Some(costs), sheet: Some(100), steps: Some(step), ..Given::default() })
 }
 
-#[test]
-fn a_row_sees_the_costs_of_a_sector() {
-    let step = goal_step(3, 44);
-    let number = |costs: &[u8]| {
-        table().number(&Given { costs: Some(costs), sheet: Some(100), steps: Some(&step), ..Given::default() })
-    };
-    assert_eq!((number(&one_wall(44)), number(&one_wall(45))), (16, 0));
-    // A length that is wrong comes first.
-    assert_eq!(number(&uniform(255)[..99]), 1);
-}
-
-#[test]
-fn a_row_sees_the_costs_of_the_sector_that_a_step_of_a_leg_names() {
+/// The number of a leg over a floor of costs 1 with walls at these places.
+fn leg(walls: &[usize], steps: &[Step]) -> u8 {
     let mut floor = vec![1; 6400];
-    floor[9 * 100 + 44] = 255;
-    let number = |sector: usize| {
-        let given = Given { leg: true, costs: Some(&floor), sheet: Some(6400), ..Given::default() };
-        table().number(&Given { steps: Some(&goal_step(sector, 44)), ..given })
-    };
-    assert_eq!((number(9), number(8), number(63), number(64)), (16, 0, 0, 4));
+    walls.iter().for_each(|wall| floor[*wall] = 255);
+    number(&Given {
+        leg: true,
+        costs: Some(&floor),
+        sheet: Some(6400),
+        steps: Some(&steps.concat()),
+        ..Given::default()
+    })
+}
+
+fn changed(step: Step, byte: usize, value: u8) -> Step {
+    let mut step = step;
+    step[byte] = value;
+    step
+}
+
+#[test]
+fn a_goal_on_a_wall() {
+    let step = goal_step(3, 44);
+    assert_eq!((sector(&one_wall(44), &step), sector(&one_wall(45), &step)), (ON_WALL, 0));
+    assert_eq!((sector(&uniform(254), &step), sector(&uniform(0), &step)), (0, 0));
+    // A length that is wrong comes first.
+    assert_eq!(sector(&uniform(255)[..99], &step), 1);
+}
+
+/// Of all 220 windows: one wall is under a window cell exactly where it lies on the edge, from first to last.
+#[test]
+fn any_window_cell_on_a_wall() {
+    for step in all_windows() {
+        for wall in 0..100u8 {
+            let between = (step[3]..=step[4]).contains(&wall);
+            let within = between && [wall < 10, wall % 10 == 9, wall > 89, wall % 10 == 0][usize::from(step[5])];
+            assert_eq!(sector(&one_wall(usize::from(wall)), &step), if within { ON_WALL } else { 0 });
+        }
+    }
+}
+
+#[test]
+fn what_the_mark_leaves_unread_is_not_looked_at() {
+    let window = changed(window_step(0, 1, 2, 5), 1, 44);
+    assert_eq!(sector(&one_wall(44), &window), 0);
+    let goal = [0, 44, 0, 9, 99, 1, 0, 0];
+    assert_eq!((sector(&one_wall(9), &goal), sector(&one_wall(59), &goal)), (0, 0));
+}
+
+#[test]
+fn a_leg_looks_at_the_sector_that_a_step_names() {
+    let west = window_step(10, 3, 2, 5);
+    assert_eq!((leg(&[944], &[goal_step(9, 44)]), leg(&[844], &[goal_step(9, 44)])), (ON_WALL, 0));
+    assert_eq!((leg(&[1030], &[goal_step(9, 44), west]), leg(&[930], &[goal_step(9, 44), west])), (ON_WALL, 0));
+    // The goal byte of the second step is not read, and sector 64 has no costs.
+    assert_eq!(leg(&[1044], &[goal_step(9, 44), changed(west, 1, 44)]), 0);
+    assert_eq!(leg(&[44], &[goal_step(64, 44)]), 4);
+}
+
+/// After 8 of the same step, before 4 of the next, 9, 10 and 12.
+#[test]
+fn its_place_among_the_numbers() {
+    let (goal, west) = (goal_step(9, 44), window_step(10, 3, 2, 5));
+    let turned = changed(changed(west, 3, 50), 4, 20);
+    assert_eq!((leg(&[1020], &[goal, turned]), leg(&[944], &[goal, turned])), (8, ON_WALL));
+    assert_eq!(leg(&[944], &[goal, changed(west, 0, 64)]), ON_WALL);
+    assert_eq!((leg(&[1030], &[west]), leg(&[1030], &[goal, west, west])), (ON_WALL, ON_WALL));
+    assert_eq!(leg(&[1230], &[goal, window_step(12, 3, 2, 5)]), ON_WALL);
+    let previous = Some(Previous { lent: true, numbers: &[0; 99] });
+    let given = Given { costs: Some(&[255; 100]), sheet: Some(100), steps: Some(&goal), previous, ..Given::default() };
+    assert_eq!((number(&given), number(&Given { costs: Some(&[1; 100]), ..given })), (ON_WALL, 12));
 }
 
 #[test]
 fn a_call_without_costs_has_none_to_look_at() {
-    assert_eq!(table().number(&Given { sheet: Some(100), steps: Some(&goal_step(0, 44)), ..Given::default() }), 0);
+    assert_eq!(number(&Given { sheet: Some(100), steps: Some(&goal_step(0, 44)), ..Given::default() }), 0);
 }

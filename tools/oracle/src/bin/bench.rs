@@ -11,7 +11,7 @@ use oracle::command;
 use oracle::floors::{self, Rng, Step};
 use oracle::library::Library;
 use oracle::model::Model;
-use oracle::oracle::{Oracle, cost_field, route_step};
+use oracle::oracle::{cost_field, route_step, rust_built};
 use oracle::subject::*;
 use reference::flowfields::fields::Field;
 use reference::flowfields::fields::cost_field::CostField;
@@ -41,15 +41,13 @@ struct Input {
 /// A window comes with a previous field, as in a leg; a goal with none.
 fn input(rng: &mut Rng, open: bool, window: bool) -> Input {
     let percent = rng.below(50);
-    let costs = if open { floors::uniform(1) } else { floors::walls(rng, percent, &[1, 2, 10, 200]) };
+    let mut costs = if open { floors::uniform(1) } else { floors::walls(rng, percent, &[1, 2, 10, 200]) };
     let side = rng.below(4);
     let (a, b) = (rng.below(10), rng.below(10));
     let step =
         if window { floors::window_step(0, side, a.min(b), a.max(b)) } else { floors::goal_step(0, rng.below(CELLS)) };
-    let previous = window.then(|| {
-        let (costs, step) = (floors::any(rng), floors::any_step(rng));
-        Oracle.build(&costs, Oracle.init(&costs, &step).field).field.field
-    });
+    floors::open(rng, &mut costs, &step);
+    let previous = window.then(|| rust_built(&floors::any(rng), &floors::any_step(rng)).field);
     Input {
         costs,
         step,
@@ -145,14 +143,21 @@ fn goes_on(leg: &Leg, steps: usize, wanted: Floor) -> bool {
 fn leg(rng: &mut Rng, wanted: Floor) -> Leg {
     let mut leg = Leg { floor: vec![1; 64 * CELLS], steps: floors::straight_leg(16) };
     for k in 0..16 {
-        let at = usize::from(leg.steps[8 * k]) * CELLS;
-        let open = wanted == Floor::Open;
-        leg.floor[at..at + CELLS].copy_from_slice(&input(rng, open, false).costs);
+        draw(rng, &mut leg, k, wanted == Floor::Open);
         while !goes_on(&leg, k + 1, wanted) {
-            leg.floor[at..at + CELLS].copy_from_slice(&input(rng, open, false).costs);
+            draw(rng, &mut leg, k, wanted == Floor::Open);
         }
     }
     leg
+}
+
+/// The costs of the k-th step's sector, from 0, with no wall under its goal or its window cells.
+fn draw(rng: &mut Rng, leg: &mut Leg, k: usize, open: bool) {
+    let step = &leg.steps[8 * k..8 * (k + 1)];
+    let at = usize::from(step[0]) * CELLS;
+    let mut costs = input(rng, open, false).costs;
+    floors::open(rng, &mut costs, step);
+    leg.floor[at..at + CELLS].copy_from_slice(&costs);
 }
 
 fn as_a_leg(leg: &Leg, sheet: &mut [u8]) -> u8 {

@@ -9,7 +9,8 @@ use oracle::command;
 use oracle::groups::{Clean, Difference, GROUPS, Group, Met};
 use oracle::judges::Judge;
 use oracle::library::Library;
-use oracle::model::{Model, Slip};
+use oracle::model::{CLOSED, Model, Slip};
+use oracle::refusals::ON_WALL;
 use oracle::subject::Subject;
 
 /// What is held to the oracle.
@@ -89,17 +90,28 @@ fn report_clean(group: &Group, clean: &Clean, start: Instant) {
     let seconds = start.elapsed().as_secs_f64();
     println!("{:<20} {:>9} inputs alike  {seconds:>7.1} s  numbers {}", group.name, clean.inputs, numbers.join(", "));
     println!("{:<20} decided by: {}", "", judged(&clean.judged));
+    if let Some(words) = left_out(clean) {
+        println!("{:<20} {words}", "");
+    }
     if !clean.met.is_empty() {
         println!("{:<20} met: {}", "", met(&clean.met));
     }
 }
 
-/// How many inputs met what, the places at which 15 was found together.
+/// How many inputs have a goal or a window cell of cost 255.
+fn left_out(clean: &Clean) -> Option<String> {
+    let count = clean.numbers[usize::from(ON_WALL)];
+    (count > 0).then(|| format!("left out of the comparison with the Rust, being 16: {count}"))
+}
+
+/// How many inputs met what, the places at which 15 was found together, and those of 16.
 fn met(counts: &BTreeMap<Met, usize>) -> String {
-    let (closed, kinds): (Vec<_>, Vec<_>) = counts.iter().partition(|(met, _)| matches!(met, Met::Closed { .. }));
+    let placed = |met: &Met| matches!(met, Met::Closed { .. } | Met::OnWall { .. });
+    let (places, kinds): (Vec<_>, Vec<_>) = counts.iter().partition(|(met, _)| placed(met));
     let mut words: Vec<String> = kinds.iter().map(|(met, count)| format!("{met} {count}")).collect();
-    let inputs: usize = closed.iter().map(|(_, count)| **count).sum();
-    words.push(format!("15 at {} places of legs of 2 to 16 steps {inputs}", closed.len()));
+    let inputs: usize = places.iter().map(|(_, count)| **count).sum();
+    let number = if matches!(places.first(), Some((Met::OnWall { .. }, _))) { ON_WALL } else { CLOSED };
+    words.push(format!("{number} at {} places of legs of up to 16 steps {inputs}", places.len()));
     words.join(", ")
 }
 
@@ -141,6 +153,7 @@ fn compare(side: &dyn Subject, chosen: &Arguments) -> Result<(), String> {
         return Err("nothing was compared".to_string());
     }
     println!("{} inputs, no difference (seed {}); decided by: {}", all.inputs, chosen.seed, judged(&all.judged));
+    left_out(&all).into_iter().for_each(|words| println!("{words}"));
     Ok(())
 }
 

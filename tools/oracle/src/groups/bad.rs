@@ -4,7 +4,7 @@ use super::Cases;
 use super::good::{drawn, leg_case};
 use super::legs::closed_leg;
 use crate::cases::Case;
-use crate::floors::{self, Rng};
+use crate::floors::{self, Costs, Rng, Step};
 use crate::subject::*;
 
 /// Coordinates on either side of the edge and far off.
@@ -65,8 +65,8 @@ fn spoil_step(rng: &mut Rng, step: &mut [u8]) {
     step[at] = if rng.one_in(3) { rng.draw() as u8 } else { rng.pick(&near) };
 }
 
-fn bad_step(rng: &mut Rng) -> Vec<u8> {
-    let mut step = floors::any_step(rng).to_vec();
+fn bad_step(rng: &mut Rng, step: Step) -> Vec<u8> {
+    let mut step = step.to_vec();
     for _ in 0..rng.below(3) {
         spoil_step(rng, &mut step);
     }
@@ -77,10 +77,16 @@ fn bad_step(rng: &mut Rng) -> Vec<u8> {
     step
 }
 
-fn bad_costs(rng: &mut Rng) -> Vec<u8> {
-    let mut costs = floors::any(rng).to_vec();
+fn bad_costs(rng: &mut Rng, costs: Costs) -> Vec<u8> {
+    let mut costs = costs.to_vec();
     spoil_length(rng, &mut costs, 12);
     costs
+}
+
+/// Costs and a step, each perhaps spoiled.
+fn bad_input(rng: &mut Rng) -> (Vec<u8>, Vec<u8>) {
+    let (costs, step) = floors::any_with_step(rng);
+    (bad_costs(rng, costs), bad_step(rng, step))
 }
 
 fn bad_sheet(rng: &mut Rng) -> Vec<u8> {
@@ -97,7 +103,10 @@ fn bad_previous(rng: &mut Rng) -> (bool, Vec<u32>) {
 }
 
 pub fn inits(rng: Rng, inputs: usize) -> Cases {
-    Box::new(drawn(rng, inputs, |rng| Case { costs: bad_costs(rng), steps: bad_step(rng), ..Case::of(Call::Init) }))
+    Box::new(drawn(rng, inputs, |rng| {
+        let (costs, steps) = bad_input(rng);
+        Case { costs, steps, ..Case::of(Call::Init) }
+    }))
 }
 
 pub fn builds(rng: Rng, inputs: usize) -> Cases {
@@ -109,14 +118,16 @@ pub fn builds(rng: Rng, inputs: usize) -> Cases {
         if rng.one_in(3) {
             field.los_corners[rng.below(CELLS)] = rng.pick(&[99, 100, 101, 1 << 32, usize::MAX]);
         }
-        Case { costs: bad_costs(rng), field, ..Case::of(Call::Build) }
+        let costs = floors::any(rng);
+        Case { costs: bad_costs(rng, costs), field, ..Case::of(Call::Build) }
     }))
 }
 
 pub fn flows_new(rng: Rng, inputs: usize) -> Cases {
     Box::new(drawn(rng, inputs, |rng| {
         let (previous_lent, previous) = bad_previous(rng);
-        let (steps, field, sheet) = (bad_step(rng), floors::any_field(rng), bad_sheet(rng));
+        let step = floors::any_step(rng);
+        let (steps, field, sheet) = (bad_step(rng, step), floors::any_field(rng), bad_sheet(rng));
         Case { steps, field, previous_lent, previous, sheet, ..Case::of(Call::FlowNew) }
     }))
 }
@@ -132,7 +143,7 @@ pub fn flows_build(rng: Rng, inputs: usize) -> Cases {
 pub fn sectors(rng: Rng, inputs: usize) -> Cases {
     Box::new(drawn(rng, inputs, |rng| {
         let (previous_lent, previous) = bad_previous(rng);
-        let (costs, steps, sheet) = (bad_costs(rng), bad_step(rng), bad_sheet(rng));
+        let ((costs, steps), sheet) = (bad_input(rng), bad_sheet(rng));
         Case { costs, steps, previous_lent, previous, sheet, ..Case::of(Call::Sector) }
     }))
 }

@@ -1,11 +1,11 @@
-//! Inputs that the table takes.
+//! Inputs that the table takes, but for goals and window cells of cost 255.
 
 use std::iter;
 
 use super::Cases;
 use crate::cases::{Ask, Case};
 use crate::floors::{self, Costs, Rng, Step};
-use crate::oracle::Oracle;
+use crate::oracle::{rust_built, rust_started};
 use crate::subject::*;
 
 /// So many drawn cases.
@@ -61,11 +61,15 @@ fn init_case(costs: Costs, step: Step) -> Case {
 
 pub fn inits(rng: Rng, inputs: usize) -> Cases {
     let full = in_full().map(|(costs, step)| init_case(costs, step));
-    Box::new(full.chain(drawn(rng, inputs, |rng| init_case(floors::any(rng), floors::any_step(rng)))))
+    Box::new(full.chain(drawn(rng, inputs, |rng| {
+        let (costs, step) = floors::any_with_step(rng);
+        init_case(costs, step)
+    })))
 }
 
+/// What the Rust starts, also where `init` refuses with 16: the field is then one given by hand.
 fn started_case(costs: Costs, step: Step) -> Case {
-    let field = Oracle.init(&costs, &step).field;
+    let field = rust_started(&costs, &step);
     Case { costs: costs.to_vec(), field, ..Case::of(Call::Build) }
 }
 
@@ -79,7 +83,7 @@ pub fn builds_by_hand(rng: Rng, inputs: usize) -> Cases {
         let costs = floors::any(rng);
         // Now and then a started field built on other costs.
         let field = if rng.one_in(8) {
-            Oracle.init(&floors::any(rng), &floors::any_step(rng)).field
+            rust_started(&floors::any(rng), &floors::any_step(rng))
         } else {
             floors::any_field(rng)
         };
@@ -92,8 +96,8 @@ fn field_for_flow(rng: &mut Rng, step: &Step) -> IntegrationField {
     let costs = floors::any(rng);
     match rng.below(4) {
         0 => floors::any_field(rng),
-        1 => Oracle.init(&costs, step).field,
-        _ => Oracle.build(&costs, Oracle.init(&costs, step).field).field,
+        1 => rust_started(&costs, step),
+        _ => rust_built(&costs, step),
     }
 }
 
@@ -114,8 +118,7 @@ pub fn flows_new(rng: Rng, inputs: usize) -> Cases {
     // Every window with each of twenty previous fields.
     let windows = floors::all_windows().into_iter().flat_map(|step| iter::repeat_n(step, 20));
     let full = windows.map(move |step| {
-        let costs = floors::uniform(1);
-        let field = Oracle.build(&costs, Oracle.init(&costs, &step).field).field;
+        let field = rust_built(&floors::uniform(1), &step);
         flow_case(&mut first, step, field)
     });
     Box::new(full.chain(drawn(rng, inputs, any_flow_case)))
@@ -154,7 +157,7 @@ pub fn sectors(rng: Rng, inputs: usize) -> Cases {
     let mut first = rng.clone();
     let full = in_full().map(move |(costs, step)| sector_case(&mut first, costs, step));
     Box::new(full.chain(drawn(rng, inputs, |rng| {
-        let (costs, step) = (floors::any(rng), floors::any_step(rng));
+        let (costs, step) = floors::any_with_step(rng);
         sector_case(rng, costs, step)
     })))
 }
@@ -177,10 +180,15 @@ pub(super) fn leg_sheet(rng: &mut Rng) -> Vec<u8> {
     (0..64 * CELLS).map(|i| old.wrapping_add(i as u8)).collect()
 }
 
+/// Walls under goals and window cells are left one time in four.
 pub(super) fn leg_case(rng: &mut Rng) -> Case {
     let sheet = leg_sheet(rng);
     let most = rng.pick(&[1, 2, 3, 5, 16]);
-    Case { costs: floors::any_whole_floor(rng), steps: floors::any_leg(rng, most), sheet, ..Case::of(Call::Leg) }
+    let (mut costs, steps) = (floors::any_whole_floor(rng), floors::any_leg(rng, most));
+    if !rng.one_in(4) {
+        floors::open_leg(rng, &mut costs, &steps);
+    }
+    Case { costs, steps, sheet, ..Case::of(Call::Leg) }
 }
 
 /// A leg holds as much as many sectors, so a twentieth of the inputs.

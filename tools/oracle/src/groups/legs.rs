@@ -1,4 +1,5 @@
-//! Legs whose windows face cells that were not reached (02, Job 2), and what such legs have to meet.
+//! Legs whose windows face cells that were not reached (02, Job 2), legs with walls under goals and windows (02, Job 3), and
+//! what such legs have to meet.
 
 use std::fmt;
 
@@ -6,10 +7,11 @@ use super::Cases;
 use super::good::{drawn, leg_sheet};
 use crate::cases::Case;
 use crate::floors::{self, Rng, edge_cell};
-use crate::model::{Model, Plan, PlannedStep};
+use crate::model::{CLOSED, Model, Plan, PlannedStep};
+use crate::refusals::{Given, ON_WALL, Table, each, first, named_cells};
 use crate::subject::*;
 
-/// What a leg meets. All but `Closed` and `OneCellClosed` are of legs that are planned, since only those are written.
+/// What a leg meets. All before `OneCellClosed` are of legs that are planned, since only those are written.
 #[derive(Clone, Copy, PartialEq, Eq, PartialOrd, Ord, Debug)]
 pub enum Met {
     /// Windows, and every cell of them counts.
@@ -20,16 +22,31 @@ pub enum Met {
     GapBetween,
     /// A cell that counts though the cell straight across is not reached.
     BySideAlone,
-    /// A cell that does not count, of cost 255.
-    LeftOutWall,
-    /// A cell that does not count, of another cost.
-    LeftOutFloor,
     /// A window of one cell, which counts.
     OneCell,
     /// A window of one cell, which does not.
     OneCellClosed,
     /// No cell counts at this step, from 1, of a leg of so many.
     Closed { steps: usize, at: usize },
+    /// A wall under the goal or a window cell of this step, from 1, of a leg of so many.
+    OnWall { steps: usize, at: usize },
+    /// 16 where another number, or none, would be due without it.
+    InsteadOf(u8),
+    /// 16 by one wall alone.
+    OneWall(Place),
+    /// 8 at a step that has a wall at an end of its window.
+    OrderFirst,
+    /// A leg that is taken, with a wall under the goal byte of a window step.
+    UnreadWall,
+}
+
+/// Where a step has its wall.
+#[derive(Clone, Copy, PartialEq, Eq, PartialOrd, Ord, Debug)]
+pub enum Place {
+    Goal,
+    First,
+    Between,
+    Last,
 }
 
 impl fmt::Display for Met {
@@ -39,11 +56,18 @@ impl fmt::Display for Met {
             Met::SomeCount => write!(f, "some cells count"),
             Met::GapBetween => write!(f, "a gap between counting cells"),
             Met::BySideAlone => write!(f, "a cell counts by a side alone"),
-            Met::LeftOutWall => write!(f, "a wall does not count"),
-            Met::LeftOutFloor => write!(f, "a floor cell does not count"),
             Met::OneCell => write!(f, "a window of one cell"),
             Met::OneCellClosed => write!(f, "a window of one cell that does not count"),
             Met::Closed { steps, at } => write!(f, "15 at step {at} of {steps}"),
+            Met::OnWall { steps, at } => write!(f, "16 at step {at} of {steps}"),
+            Met::InsteadOf(0) => write!(f, "16 alone"),
+            Met::InsteadOf(number) => write!(f, "16 before {number}"),
+            Met::OneWall(Place::Goal) => write!(f, "a wall under the goal"),
+            Met::OneWall(Place::First) => write!(f, "one under the first window cell"),
+            Met::OneWall(Place::Between) => write!(f, "one between"),
+            Met::OneWall(Place::Last) => write!(f, "one under the last"),
+            Met::OrderFirst => write!(f, "8 before 16"),
+            Met::UnreadWall => write!(f, "a wall under a goal byte that is not read"),
         }
     }
 }
@@ -54,16 +78,8 @@ fn places() -> impl Iterator<Item = (usize, usize)> {
 }
 
 /// What a leg with some cell that does not count may meet, but for the place of 15.
-pub fn leg_kinds() -> [Met; 7] {
-    [
-        Met::SomeCount,
-        Met::GapBetween,
-        Met::BySideAlone,
-        Met::LeftOutWall,
-        Met::LeftOutFloor,
-        Met::OneCell,
-        Met::OneCellClosed,
-    ]
+pub fn leg_kinds() -> [Met; 5] {
+    [Met::SomeCount, Met::GapBetween, Met::BySideAlone, Met::OneCell, Met::OneCellClosed]
 }
 
 /// All that legs with gaps must meet.
@@ -100,27 +116,28 @@ fn met_at(case: &Case, plan: &Plan, k: usize) -> Vec<Met> {
     let along = |cell: usize| if boundary.is_multiple_of(2) { cell % 10 } else { cell / 10 };
     let straight = |cell: usize| before[edge_cell((boundary + 2) % 4, along(cell))] % 65536;
     let left_out: Vec<usize> = window.iter().copied().filter(|cell| !counting.contains(cell)).collect();
-    let cost = |cell: usize| case.costs[plan.steps[k].sector * CELLS + cell];
     let inside = |cell: &usize| counting.first() < Some(cell) && Some(cell) < counting.last();
     let kinds = [
         (Met::SomeCount, !left_out.is_empty()),
         (Met::GapBetween, left_out.iter().any(inside)),
         (Met::BySideAlone, counting.iter().any(|cell| straight(*cell) == 65535)),
-        (Met::LeftOutWall, left_out.iter().any(|cell| cost(*cell) == 255)),
-        (Met::LeftOutFloor, left_out.iter().any(|cell| cost(*cell) != 255)),
         (Met::OneCell, window.len() == 1),
     ];
     kinds.into_iter().filter(|(_, holds)| *holds).map(|(kind, _)| kind).collect()
 }
 
-/// A leg of so many steps on sectors with at most so many walls in a hundred cells.
+/// A leg of so many steps on sectors with at most so many walls in a hundred cells, none under a goal or a window cell.
 fn leg_with_walls(rng: &mut Rng, steps: usize, most: usize) -> Case {
-    Case {
-        costs: (0..64).flat_map(|_| floors::with_closed_parts(rng, most)).collect(),
-        steps: floors::leg_of(rng, steps),
-        sheet: leg_sheet(rng),
-        ..Case::of(Call::Leg)
-    }
+    let mut costs: Vec<u8> = (0..64).flat_map(|_| floors::with_closed_parts(rng, most)).collect();
+    let steps = floors::leg_of(rng, steps);
+    floors::open_leg(rng, &mut costs, &steps);
+    Case { costs, steps, sheet: leg_sheet(rng), ..Case::of(Call::Leg) }
+}
+
+/// What the table is given of a leg.
+fn given(case: &Case) -> Given<'_> {
+    let (costs, sheet, steps) = (Some(&case.costs[..]), Some(case.sheet.len()), Some(&case.steps[..]));
+    Given { leg: true, costs, sheet, steps, ..Given::default() }
 }
 
 /// Walls in front of the window of step `at`, from 1: on the cells that face it, or around them.
@@ -145,6 +162,10 @@ pub fn closed_leg(rng: &mut Rng, steps: usize, at: usize) -> Case {
     loop {
         let mut case = leg_with_walls(rng, steps, 12);
         close_window(rng, &mut case, at);
+        // The walls may have come under a window cell or the goal of the step before.
+        if Table::documents().number(&given(&case)) != 0 {
+            continue;
+        }
         let plan = Model::PLAIN.plan(&case.costs, &case.steps);
         if plan.closed && plan.steps.len() + 1 == at {
             return case;
@@ -185,4 +206,145 @@ pub fn gaps(rng: Rng, inputs: usize) -> Cases {
     let mut first = rng.clone();
     let full = places().map(move |(steps, at)| closed_leg(&mut first, steps, at));
     Box::new(full.chain(drawn(rng, inputs / 20, gap_leg)))
+}
+
+/// Each step of each number of steps.
+fn every_step() -> impl Iterator<Item = (usize, usize)> {
+    (1..=16).flat_map(|steps| (1..=steps).map(move |at| (steps, at)))
+}
+
+/// All that legs with walls under goals and windows must meet.
+pub(super) fn all_on_walls() -> Vec<Met> {
+    let places = every_step().map(|(steps, at)| Met::OnWall { steps, at });
+    let instead = [0, 4, 5, 6, 7, 8, 9, 10, CLOSED].map(Met::InsteadOf);
+    let walls = [Place::Goal, Place::First, Place::Between, Place::Last].map(Met::OneWall);
+    places.chain(instead).chain(walls).chain([Met::OrderFirst, Met::UnreadWall]).collect()
+}
+
+/// Kinds of legs with walls under goals and windows, and some of the steps at which they may be.
+pub fn wall_kinds() -> impl Iterator<Item = Met> {
+    let places = [(1, 1), (16, 1), (12, 7), (16, 16)].map(|(steps, at)| Met::OnWall { steps, at });
+    places.into_iter().chain(all_on_walls().into_iter().filter(|met| !matches!(met, Met::OnWall { .. })))
+}
+
+/// What a leg meets that may have walls under its goal and its window cells.
+pub(super) fn met_on_walls(case: &Case) -> Vec<Met> {
+    let (given, table) = (given(case), Table::documents());
+    let wall = |step: &[u8], cell: usize| case.costs.get(usize::from(step[0]) * CELLS + cell) == Some(&255);
+    let at = each(&given).position(|step| first(&table.each_step, &step).is_some());
+    let step = at.map(|at| &case.steps[8 * at..8 * (at + 1)]);
+    match (table.number(&given), at, step) {
+        (ON_WALL, Some(at), Some(step)) => {
+            let walls: Vec<usize> = named_cells(step).into_iter().filter(|cell| wall(step, *cell)).collect();
+            let alone = (walls.len() == 1).then(|| Met::OneWall(place_of(step, walls[0])));
+            let found = [Met::OnWall { steps: case.steps.len() / 8, at: at + 1 }, Met::InsteadOf(without_walls(case))];
+            found.into_iter().chain(alone).collect()
+        }
+        (8, _, Some(step)) if wall(step, step[3].into()) || wall(step, step[4].into()) => vec![Met::OrderFirst],
+        (0, ..) if case.steps.chunks(8).any(|step| step[2] == 1 && wall(step, step[1].into())) => vec![Met::UnreadWall],
+        _ => Vec::new(),
+    }
+}
+
+fn place_of(step: &[u8], cell: usize) -> Place {
+    match step[2] {
+        0 => Place::Goal,
+        _ if cell == usize::from(step[3]) => Place::First,
+        _ if cell == usize::from(step[4]) => Place::Last,
+        _ => Place::Between,
+    }
+}
+
+/// The number of a leg if walls were not looked at.
+fn without_walls(case: &Case) -> u8 {
+    let mut table = Table::documents();
+    table.each_step[5].holds = |_| false;
+    match table.number(&given(case)) {
+        0 if Model::PLAIN.plan(&case.costs, &case.steps).closed => CLOSED,
+        number => number,
+    }
+}
+
+/// A wall under the goal or a window cell of step `at`, from 1, or under the same cell so many sectors on.
+fn put_wall(rng: &mut Rng, case: &mut Case, at: usize, on: usize) {
+    let step = &case.steps[8 * (at - 1)..8 * at];
+    let (sector, cell) = ((usize::from(step[0]) + on) % 64, rng.pick(&named_cells(step)));
+    case.costs[sector * CELLS + cell] = 255;
+}
+
+/// The goal bytes of window steps, which are not read, made to name walls.
+fn name_walls(rng: &mut Rng, case: &mut Case) {
+    for step in case.steps.chunks_mut(8).filter(|step| step[2] == 1) {
+        let at = usize::from(step[0]) * CELLS;
+        let walls: Vec<u8> = (0..100).filter(|cell| case.costs[at + usize::from(*cell)] == 255).collect();
+        if !walls.is_empty() {
+            step[1] = rng.pick(&walls);
+        }
+    }
+}
+
+/// Two bytes of a window step made others, so that one of 4 to 8 is due.
+fn spoil(rng: &mut Rng, step: &mut [u8]) {
+    let (first, last) = (step[3], step[4]);
+    let changes = [
+        [(2, 2), (6, 0)],
+        [(6, 1), (7, 255)],
+        [(2, 0), (1, 100)],
+        [(3, 100), (4, 99)],
+        [(5, 4), (5, 255)],
+        [(3, 44), (4, 55)],
+        [(3, last), (4, first)],
+    ];
+    rng.pick(&changes).into_iter().for_each(|(byte, value)| step[byte] = value);
+}
+
+/// A leg of so many steps with a wall under the goal or a window cell of step `at`, from 1, and now and then something
+/// else that is refused, before it or behind it, or the wall where it is not looked at.
+fn leg_on_walls(rng: &mut Rng, steps: usize, at: usize, kind: usize) -> Case {
+    let closed = 2 + rng.below(steps.max(2) - 1);
+    let mut case = match kind {
+        1 if steps > 1 => closed_leg(rng, steps, closed),
+        _ => leg_with_walls(rng, steps, 12),
+    };
+    let (byte, other) = (8 * (at - 1), 8 * rng.below(steps));
+    let on = if kind == 7 { rng.pick(&[1, 63]) } else { 0 };
+    if kind != 6 {
+        put_wall(rng, &mut case, at, on);
+    }
+    match kind {
+        2 | 3 if at < steps => spoil(rng, &mut case.steps[8 * at..8 * (at + 1)]),
+        4 if other != byte => case.steps[other] = case.steps[byte],
+        5 if other != byte => case.steps[other] = (case.steps[other] + 27) % 64,
+        6 => name_walls(rng, &mut case),
+        8 => case.steps[byte..].swap(3, 4),
+        _ => {}
+    }
+    case
+}
+
+/// Any such leg.
+fn any_leg_on_walls(rng: &mut Rng) -> Case {
+    let steps = if rng.one_in(2) { 1 + rng.below(4) } else { 1 + rng.below(16) };
+    let (at, kind) = (1 + rng.below(steps), rng.below(9));
+    leg_on_walls(rng, steps, at, kind)
+}
+
+/// Such a leg that meets a kind.
+pub fn leg_on_walls_that_meets(rng: &mut Rng, kind: Met) -> Case {
+    loop {
+        let case = match kind {
+            Met::OnWall { steps, at } => leg_on_walls(rng, steps, at, 0),
+            _ => any_leg_on_walls(rng),
+        };
+        if met_on_walls(&case).contains(&kind) {
+            return case;
+        }
+    }
+}
+
+/// 16 at each step of each number of steps, then a twentieth of the inputs, as of legs.
+pub fn on_walls(rng: Rng, inputs: usize) -> Cases {
+    let mut first = rng.clone();
+    let full = every_step().map(move |(steps, at)| leg_on_walls(&mut first, steps, at, 0));
+    Box::new(full.chain(drawn(rng, inputs / 20, any_leg_on_walls)))
 }

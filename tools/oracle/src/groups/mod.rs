@@ -9,13 +9,16 @@ mod legs;
 
 use std::collections::BTreeMap;
 
-pub use legs::{Met, closed_leg, leg_kinds, leg_that_counts, leg_that_meets};
+pub use legs::{
+    Met, Place, closed_leg, leg_kinds, leg_on_walls_that_meets, leg_that_counts, leg_that_meets, wall_kinds,
+};
 
 use crate::cases::{Case, Outcome};
 use crate::floors::Rng;
 use crate::judges::{self, Judge, Judges};
 use crate::model::CLOSED;
 use crate::oracle::{self, Oracle};
+use crate::refusals::ON_WALL;
 use crate::shrink;
 use crate::subject::{Call, Subject};
 
@@ -39,7 +42,7 @@ pub const GROUPS: &[Group] = &[
     Group { name: "walk steep", needs: &[Call::WalkSteep], cases: good::steep_walks, reaches: &[0] },
     Group { name: "line end", needs: &[Call::LineEnd], cases: good::line_ends, reaches: &[0] },
     Group { name: "readers", needs: &[Call::Readers], cases: good::readers, reaches: &[0] },
-    Group { name: "init", needs: &[Call::Init], cases: good::inits, reaches: &[0] },
+    Group { name: "init", needs: &[Call::Init], cases: good::inits, reaches: &[0, ON_WALL] },
     Group { name: "build started", needs: &[Call::Build], cases: good::builds_started, reaches: &[0] },
     Group { name: "build by hand", needs: &[Call::Build], cases: good::builds_by_hand, reaches: &[0] },
     Group { name: "flow new", needs: &[Call::FlowNew], cases: good::flows_new, reaches: &[0] },
@@ -50,17 +53,23 @@ pub const GROUPS: &[Group] = &[
         cases: good::flows_both,
         reaches: &[0],
     },
-    Group { name: "sector", needs: &[Call::Sector], cases: good::sectors, reaches: &[0] },
-    Group { name: "sector, two walls", needs: &[Call::Sector], cases: good::two_walls, reaches: &[0] },
-    Group { name: "leg", needs: &[Call::Leg], cases: good::legs, reaches: &[0, CLOSED] },
+    Group { name: "sector", needs: &[Call::Sector], cases: good::sectors, reaches: &[0, ON_WALL] },
+    Group { name: "sector, two walls", needs: &[Call::Sector], cases: good::two_walls, reaches: &[0, ON_WALL] },
+    Group { name: "leg", needs: &[Call::Leg], cases: good::legs, reaches: &[0, CLOSED, ON_WALL] },
     Group { name: GAPS, needs: &[Call::Leg], cases: legs::gaps, reaches: &[0, CLOSED] },
+    Group { name: ON_WALLS, needs: &[Call::Leg], cases: legs::on_walls, reaches: &[0, 8, CLOSED, ON_WALL] },
     Group { name: "file write", needs: &[Call::LegFileWrite], cases: leg_files::writes, reaches: &[0, 2, 3] },
     Group { name: "file read", needs: &[Call::LegFileRead], cases: leg_files::reads, reaches: &[0, 14] },
     Group { name: "line refusals", needs: &[Call::Line], cases: bad::lines, reaches: &[0, 13] },
     Group { name: "walk shallow refusals", needs: &[Call::WalkShallow], cases: bad::shallow_walks, reaches: &[0, 13] },
     Group { name: "walk steep refusals", needs: &[Call::WalkSteep], cases: bad::steep_walks, reaches: &[0, 13] },
     Group { name: "line end refusals", needs: &[Call::LineEnd], cases: bad::line_ends, reaches: &[0, 13] },
-    Group { name: "init refusals", needs: &[Call::Init], cases: bad::inits, reaches: &[0, 1, 3, 4, 5, 6, 7, 8] },
+    Group {
+        name: "init refusals",
+        needs: &[Call::Init],
+        cases: bad::inits,
+        reaches: &[0, 1, 3, 4, 5, 6, 7, 8, ON_WALL],
+    },
     Group { name: "build refusals", needs: &[Call::Build], cases: bad::builds, reaches: &[0, 1, 11] },
     Group {
         name: "flow new refusals",
@@ -73,24 +82,28 @@ pub const GROUPS: &[Group] = &[
         name: "sector refusals",
         needs: &[Call::Sector],
         cases: bad::sectors,
-        reaches: &[0, 1, 2, 3, 4, 5, 6, 7, 8, 12],
+        reaches: &[0, 1, 2, 3, 4, 5, 6, 7, 8, 12, ON_WALL],
     },
     Group {
         name: "leg refusals",
         needs: &[Call::Leg],
         cases: bad::legs,
-        reaches: &[0, 1, 2, 3, 4, 5, 6, 7, 8, 9, 10, CLOSED],
+        reaches: &[0, 1, 2, 3, 4, 5, 6, 7, 8, 9, 10, CLOSED, ON_WALL],
     },
 ];
 
 /// Legs whose windows face cells that were not reached.
 const GAPS: &str = "leg, gaps";
 
+/// Legs with walls under goals and window cells.
+const ON_WALLS: &str = "leg, on walls";
+
 /// What a group that found no difference saw.
 #[derive(Clone, Default)]
 pub struct Clean {
     pub inputs: usize,
-    /// How often each number was due.
+    /// How often each number was due. 16 is due where the Rust would open a wall: so many inputs are left out of the
+    /// comparison with it.
     pub numbers: [usize; 21],
     /// How many inputs each judge decided, by its place in `Judge::ALL`. A build has two: fields and waves.
     pub judged: [usize; 4],
@@ -134,7 +147,20 @@ fn compared(case: &Case, side: &dyn Subject) -> Compared {
 impl Group {
     /// What the inputs must have met besides numbers.
     fn meets(&self) -> Vec<Met> {
-        if self.name == GAPS { legs::all() } else { Vec::new() }
+        match self.name {
+            GAPS => legs::all(),
+            ON_WALLS => legs::all_on_walls(),
+            _ => Vec::new(),
+        }
+    }
+
+    /// What of that an input meets.
+    fn met(&self, case: &Case) -> Vec<Met> {
+        match self.name {
+            GAPS => legs::met(case),
+            ON_WALLS => legs::met_on_walls(case),
+            _ => Vec::new(),
+        }
     }
 
     /// The judges of the group: those of its calls, and the table where it must have reached a refusal of the table's,
@@ -150,12 +176,9 @@ impl Group {
 
     pub fn run(&self, side: &dyn Subject, seed: u64, inputs: usize) -> Result<Clean, Box<Difference>> {
         let mut clean = Clean::default();
-        let meets = !self.meets().is_empty();
         for case in (self.cases)(Rng::new(seed), inputs) {
             clean.inputs += 1;
-            if meets {
-                legs::met(&case).into_iter().for_each(|met| *clean.met.entry(met).or_default() += 1);
-            }
+            self.met(&case).into_iter().for_each(|met| *clean.met.entry(met).or_default() += 1);
             let Compared { due, judges, found } = compared(&case, side);
             clean.numbers[usize::from(due.number)] += 1;
             for (count, decided) in clean.judged.iter_mut().zip(judges) {

@@ -44,16 +44,12 @@ impl Model {
         let mut sight = Sight { cells: cells.try_into().expect("a hundred costs"), corners: Vec::new() };
         if step[2] == 1 {
             for cell in window {
-                if !(self.slips(Slip::WallKeptUnderWindow) && sight.wall(*cell)) {
-                    sight.cells[*cell] = PORTAL;
-                }
+                sight.cells[*cell] = PORTAL;
                 sight.corners.push(*cell);
             }
         } else {
             let goal = usize::from(step[1]);
-            if !(self.slips(Slip::WallKeptUnderGoal) && sight.wall(goal)) {
-                sight.cells[goal] = GOAL;
-            }
+            sight.cells[goal] = GOAL;
             self.spread(&mut sight, costs, goal);
         }
         if self.slip != Slip::None {

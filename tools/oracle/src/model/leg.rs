@@ -4,6 +4,7 @@
 use super::flow::{BITS, PORTAL_START, sides_along};
 use super::integration::window_cells;
 use super::{Model, Slip, beside};
+use crate::refusals::{Given, ON_WALL, Table};
 use crate::subject::*;
 
 /// The number of a leg with a window in which no cell counts.
@@ -31,6 +32,13 @@ fn part(sector: usize) -> std::ops::Range<usize> {
     sector * CELLS..(sector + 1) * CELLS
 }
 
+/// Whether the table takes a leg, 16 left aside.
+pub(super) fn taken_but_for_walls(floor: &[u8], steps: &[u8]) -> bool {
+    let mut table = Table::documents();
+    table.each_step[5].holds = |_| false;
+    table.number(&Given { leg: true, costs: Some(floor), steps: Some(steps), ..Given::default() }) == 0
+}
+
 impl Model {
     /// Plans the steps of a leg that the table takes, and writes nothing.
     pub fn plan(&self, floor: &[u8], steps: &[u8]) -> Plan {
@@ -41,7 +49,7 @@ impl Model {
             let window = window_cells(step);
             let costs = &floor[part(sector)];
             let previous = before.as_ref().map(|field| &field.field[..]);
-            let counting = previous.map_or(Vec::new(), |field| self.counting_cells(costs, step, &window, field));
+            let counting = previous.map_or(Vec::new(), |field| self.counting_cells(step, &window, field));
             if k > 0 && counting.is_empty() && self.refuses_closed(k) {
                 plan.closed = true;
                 break;
@@ -60,8 +68,8 @@ impl Model {
         !(self.slips(Slip::ClosedPlanned) || (self.slips(Slip::ClosedAtSecondStep) && k > 1))
     }
 
-    /// The window cells that count, in order; a slip looks at their own costs.
-    fn counting_cells(&self, costs: &[u8], step: &[u8], window: &[usize], previous: &[u32]) -> Vec<usize> {
+    /// The window cells that count, in order.
+    fn counting_cells(&self, step: &[u8], window: &[usize], previous: &[u32]) -> Vec<usize> {
         let boundary = usize::from(step[5]);
         let counts = |cell: &usize| self.counts(*cell, boundary, window, previous);
         let counting: Vec<usize> = window.iter().copied().filter(counts).collect();
@@ -72,7 +80,6 @@ impl Model {
             Slip::EveryCellCounts => window.to_vec(),
             Slip::OneCountsForAll if !counting.is_empty() => window.to_vec(),
             Slip::GapsFilled => window.iter().copied().filter(between).collect(),
-            Slip::WallNeverCounts => counting.into_iter().filter(|cell| costs[*cell] != 255).collect(),
             _ => counting,
         }
     }
@@ -129,15 +136,11 @@ impl Model {
         (field, self.flow_bytes(&field.field, starting))
     }
 
-    /// A cell that does not count is wall or floor by its own cost.
+    /// A cell that does not count is what its own cost makes of it; a slip makes it a wall.
     fn own_costs(&self, costs: &[u8], left_out: &[usize]) -> Vec<u8> {
         let mut own = costs.to_vec();
-        for cell in left_out {
-            match self.slip {
-                Slip::LeftOutWalled => own[*cell] = 255,
-                Slip::LeftOutOpened => own[*cell] = own[*cell].min(254),
-                _ => {}
-            }
+        if self.slips(Slip::LeftOutWalled) {
+            left_out.iter().for_each(|cell| own[*cell] = 255);
         }
         own
     }
@@ -167,9 +170,13 @@ impl Model {
         if plan.closed { CLOSED } else { 0 }
     }
 
-    /// The number of a leg that the table refuses; a slip plans it before 10 is judged.
+    /// The number of a leg that the table refuses; a slip plans it before 10, or 16, is judged.
     pub(super) fn refused_leg(&self, number: u8, floor: &[u8], steps: &[u8]) -> u8 {
-        let early = number == 10 && self.slips(Slip::ClosedBeforeTen) && self.plan(floor, steps).closed;
-        if early { CLOSED } else { number }
+        let early = match self.slip {
+            Slip::ClosedBeforeTen => number == 10,
+            Slip::ClosedBeforeWalls => number == ON_WALL && taken_but_for_walls(floor, steps),
+            _ => false,
+        };
+        if early && self.plan(floor, steps).closed { CLOSED } else { number }
     }
 }

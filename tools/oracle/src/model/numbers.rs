@@ -1,7 +1,8 @@
-//! Refusals of the model: the table of document 01, or the same with a slip in it.
+//! Refusals of the model: the table of the documents, or the same with a slip in it.
 
+use super::leg::taken_but_for_walls;
 use super::{Model, Slip};
-use crate::refusals::{self, Given, Table, first};
+use crate::refusals::{self, Given, Judged, ON_WALL, Table, first, named_cells};
 
 /// What comes of a call.
 pub(super) enum Verdict {
@@ -21,11 +22,15 @@ impl Model {
     }
 
     fn number(&self, given: &Given) -> u8 {
-        let mut table = Table::document_01();
+        let mut table = Table::documents();
         self.slip_in_step(&mut table);
+        self.slip_on_walls(&mut table, given);
         self.slip_elsewhere(&mut table);
-        let early = self.early(&table, given);
-        early.unwrap_or_else(|| table.number(given))
+        let due = self.early(&table, given).or_else(|| self.late(given));
+        match due.unwrap_or_else(|| table.number(given)) {
+            ON_WALL if self.slips(Slip::OnWallCounting) && !counting_wall(given) => 0,
+            number => number,
+        }
     }
 
     fn slip_in_step(&self, table: &mut Table) {
@@ -37,6 +42,33 @@ impl Model {
             Slip::GoalJudgedWithWindow => rows[1].holds = |s| s[1] > 99,
             Slip::WindowJudgedWithGoal => rows[2].holds = |s| s[3] > 99 || s[4] > 99 || s[5] > 3,
             Slip::OrderBeforeEdge => rows.swap(3, 4),
+            _ => {}
+        }
+    }
+
+    /// Slips in the row of 16, which is the last of each step.
+    fn slip_on_walls(&self, table: &mut Table, given: &Given) {
+        let rows = &mut table.each_step;
+        match self.slip {
+            Slip::OnWallFirstCell => rows[5].holds = |s| wall_named(s, if s[2] == 0 { 1 } else { 3 }),
+            Slip::OnWallEndCells => rows[5].holds = |s| if s[2] == 0 { wall_named(s, 1) } else { wall_at_end(s) },
+            Slip::OnWallGoalAlone => rows[5].holds = |s| s[2] == 0 && wall_named(s, 1),
+            Slip::OnWallWindowAlone => rows[5].holds = |s| s[2] == 1 && s.on_wall(),
+            Slip::OnWallGoalByte => rows[5].holds = |s| s.on_wall() || wall_named(s, 1),
+            Slip::OnWallWindowBytes => rows[5].holds = |s| s.on_wall() || wall_at_end(s),
+            Slip::OnWallByIndex => {
+                rows[5].holds = |s| s.on_wall() || (s[2] == 1 && (s[3]..=s[4]).any(|cell| s.is_wall(usize::from(cell))))
+            }
+            Slip::OnWallAt254 => {
+                rows[5].holds = |s| named_cells(s.step).iter().any(|cell| s.costs.get(*cell) >= Some(&254))
+            }
+            Slip::OnWallBeforeOrder => {
+                rows.swap(4, 5);
+                rows[4].holds = |s| s.on_wall() || (s[2] == 1 && wall_at_end(s));
+            }
+            Slip::OnWallInit if given.sheet.is_none() => rows[5].holds = |_| false,
+            Slip::OnWallSector if given.sheet.is_some() && !given.leg => rows[5].holds = |_| false,
+            Slip::OnWallLeg if given.leg => rows[5].holds = |_| false,
             _ => {}
         }
     }
@@ -92,4 +124,49 @@ impl Model {
             _ => None,
         }
     }
+
+    /// A number that a slip puts before 16, or 16 found on other costs.
+    fn late(&self, given: &Given) -> Option<u8> {
+        let before = match self.slip {
+            Slip::OnWallAfterSteps => 4..=8,
+            Slip::OnWallAfterNine => 9..=9,
+            Slip::OnWallAfterTen => 10..=10,
+            Slip::OnWallAfterTwelve => 12..=12,
+            Slip::OnWallOtherSector if given.leg => return Some(on_the_sector_before(given)),
+            _ => return None,
+        };
+        let mut others = Table::documents();
+        others.each_step[5].holds = |_| false;
+        Some(others.number(given)).filter(|number| before.contains(number))
+    }
+}
+
+/// Whether the cell that a byte of the step names is a wall, read or not.
+fn wall_named(s: &Judged, byte: usize) -> bool {
+    s.is_wall(usize::from(s[byte]))
+}
+
+fn wall_at_end(s: &Judged) -> bool {
+    wall_named(s, 3) || wall_named(s, 4)
+}
+
+/// The number of a leg where each step is held to the costs of the sector numbered before its own.
+fn on_the_sector_before(given: &Given) -> u8 {
+    let mut floor = given.costs.unwrap_or(&[]).to_vec();
+    let by = 100.min(floor.len());
+    floor.rotate_right(by);
+    Table::documents().number(&Given { costs: Some(&floor), ..*given })
+}
+
+/// Whether a leg that is refused with 16 has its wall under the goal, or under a window cell that counts.
+fn counting_wall(given: &Given) -> bool {
+    let (Some(floor), Some(steps)) = (given.costs.filter(|_| given.leg), given.steps) else { return true };
+    let Some(at) = refusals::each(given).position(|step| step.on_wall()) else { return true };
+    let steps = &steps[..8 * (at + 1)];
+    if at == 0 || !taken_but_for_walls(floor, steps) {
+        return true;
+    }
+    let plan = Model::PLAIN.plan(floor, steps);
+    let wall = |cell: &usize| floor[100 * usize::from(steps[8 * at]) + cell] == 255;
+    plan.steps.get(at).is_some_and(|step| step.counting.iter().any(wall))
 }
