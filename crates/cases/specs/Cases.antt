@@ -1,4 +1,4 @@
--- The starred cases of document 01 (01, "Cases"): one table, one proof by computation from the definitions.
+-- The starred cases of document 01 (01, "Cases"), one of them a refusal since document 02: one table, one proof by computation from the definitions.
 -- Assumes nothing.
 use mathlib.Core.Path.{_≡_, refl}
 use mathlib.Core.Bool.{Bool, true, false, cond}
@@ -12,7 +12,7 @@ use Rattle.nearest_line.specs.Table.{table}
 use Rattle.nearest_line.specs.Line.{toward, nearest, shallow, steep, line}
 use Rattle.line_end.specs.LineEnd.{gradient, intercept, floor, rowAt, firstEnding, slantedEnd, endBy, lineEnd}
 use Rattle.route.specs.Window.{onEdge, edge, cellsBetween}
-use Rattle.route.specs.Step.{portalOf}
+use Rattle.route.specs.Step.{portalOf, stepNumberOn}
 use Rattle.route.specs.Target.{targetOf}
 use Rattle.integration_field.specs.Diagonal.{betweenWalls}
 use Rattle.integration_field.specs.Listed.{listOf}
@@ -21,7 +21,7 @@ use Rattle.integration_field.specs.Rest.{total}
 use Rattle.integration_field.specs.Build.{isEmpty, settle, build}
 use Rattle.started_field.specs.Sight.{walls, withPortals, withGoal, marked, lineMarked, seen, extended, sideTried, wallMet, neighbourLooked, lookedAround, waveLooked, sightAfter}
 use Rattle.started_field.specs.CornerLine.{cornerLine}
-use Rattle.started_field.specs.Started.{sightFrom, startedFrom, startedAt, started}
+use Rattle.started_field.specs.Started.{sightFrom, startedFrom, startedAt, started, initNumber}
 use Rattle.flow_bits.specs.Byte.{isGoal, isPortalGoal, hasLineOfSight, isWall}
 use Rattle.flow_byte.specs.New.{startOf, facingBits, facingChoice, windowBits, newByte, newBytes}
 use Rattle.flow_byte.specs.Look as look
@@ -95,8 +95,8 @@ cases =
     ∷ case (
     unbuilt (wallAnd 55 ones) (goal 44) (45 ∷ []) ++ built (wallAnd 55 ones) (goal 44) (45 ∷ []) ++ flow (wallAnd 55 ones) (goal 44) (45 ∷ [])
     ) (0x4040003 ∷ 0x4040003 ∷ 0x18 ∷ [])
-    -- Goal on cost 255: 0x20000.
-    ∷ case (unbuilt (wallAnd 44 ones) (goal 44) (44 ∷ [])) (0x20000 ∷ [])
+    -- Goal on cost 255: refused with 16 since 02, "Job 3".
+    ∷ case (initNumber (wallAnd 44 ones) (goal 44) ∷ []) (16 ∷ [])
     -- Walls 1 and 10, goal 44, else 1: cell 0 ends 65535, flow 0xE0.
     ∷ case (built (wallAnd 1 (wallAnd 10 ones)) (goal 44) (0 ∷ []) ++ flow (wallAnd 1 (wallAnd 10 ones)) (goal 44) (0 ∷ [])) (65535 ∷ 0xE0 ∷ [])
     -- All 1, East window 9 to 99: cell 0 holds 9; waves 9; flow 0x12; cell 9, no previous field, 0x92.
@@ -116,5 +116,5 @@ cases =
     ∷ []
 
 pub as-expected : map (λ (c : Case). c .given) cases ≡ map (λ (c : Case). c .expected) cases
-unfolding onEdge stepped table toward nearest shallow steep line gradient intercept floor rowAt firstEnding slantedEnd endBy lineEnd add sub mul div neg ofInt edge cellsBetween targetOf betweenWalls relaxed offeredAround offeredBy changedFrom next total isEmpty settle build walls withPortals withGoal marked lineMarked seen extended sideTried wallMet neighbourLooked lookedAround waveLooked sightAfter cornerLine sightFrom startedFrom startedAt started startOf facingBits facingChoice windowBits newByte newBytes look.seen lookAround pointed builtByte flowBuild sectorBytes
+unfolding onEdge stepped table toward nearest shallow steep line gradient intercept floor rowAt firstEnding slantedEnd endBy lineEnd add sub mul div neg ofInt edge cellsBetween targetOf betweenWalls relaxed offeredAround offeredBy changedFrom next total isEmpty settle build walls withPortals withGoal marked lineMarked seen extended sideTried wallMet neighbourLooked lookedAround waveLooked sightAfter cornerLine sightFrom startedFrom startedAt started initNumber stepNumberOn startOf facingBits facingChoice windowBits newByte newBytes look.seen lookAround pointed builtByte flowBuild sectorBytes
 as-expected = refl

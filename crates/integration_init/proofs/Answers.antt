@@ -7,7 +7,7 @@ use mathlib.Core.List.{List}
 use Prim.Native.Nat.{ℕ}
 use lib.ListN.{length}
 use borrow.Author.Tests.{eq-eqb, ne-eqb}
-use Rattle.route.specs.Step.{stepNumber}
+use Rattle.route.specs.Step.{stepNumberOn}
 use Rattle.route.specs.Target.{targetOf}
 use Rattle.started_field.specs.declared.InitAnswer.{InitAnswer}
 use Rattle.started_field.specs.Started.{started, initNumber, initRefused, initAccepted, initAnswer, StartedField}
@@ -21,11 +21,11 @@ module _ (costs step : List ℕ) where
   costs-refused h = rw (ne-eqb (length costs) 100 h)
 
   module _ (hundred : length costs ≡ 100) where
-    pub step-refused : (stepNumber step ≡ 0 → ⊥) → initRefused (stepNumber step) ≡ initAnswer costs step
+    pub step-refused : (stepNumberOn costs step ≡ 0 → ⊥) → initRefused (stepNumberOn costs step) ≡ initAnswer costs step
     unfolding initAnswer initNumber
-    step-refused h = rw (eq-eqb (length costs) 100 hundred, ne-eqb (stepNumber step) 0 h)
+    step-refused h = rw (eq-eqb (length costs) 100 hundred, ne-eqb (stepNumberOn costs step) 0 h)
 
-    pub accepts : stepNumber step ≡ 0 → initAccepted (started costs (targetOf step)) ≡ initAnswer costs step
+    pub accepts : stepNumberOn costs step ≡ 0 → initAccepted (started costs (targetOf step)) ≡ initAnswer costs step
     unfolding initAnswer initNumber
     accepts e = rw (eq-eqb (length costs) 100 hundred, e)
 

@@ -473,7 +473,7 @@ fn refused(number: u8) -> InitAnswer
     }
 }
 
-// Starts a field on 100 cost bytes for a step of 8 bytes, or answers why not: 1, 3, or 4 to 8.
+// Starts a field on 100 cost bytes for a step of 8 bytes, or answers why not: 1, 3, 4 to 8, or 16.
 pub fn init(costs: &[u8], step: &[u8]) -> InitAnswer
     ensures answer { λ r. ⌜ r ≡ initAnswer (now (costs .entry)) (now (step .entry)) ⌝ }
     ensures started { λ r. ⌜ (r .number ≡ 0 → StartedField (now (costs .entry)) (targetOf (now (step .entry))) (r .field)) ⌝ }
@@ -482,7 +482,7 @@ pub fn init(costs: &[u8], step: &[u8]) -> InitAnswer
     if costs.len() != 100 {
         return refused(1);
     }
-    let number = step_numbers::step_number(step);
+    let number = step_numbers::step_number_on(costs, step);
     if number != 0 {
         return refused(number);
     }

@@ -10,7 +10,7 @@ ghost use lib.ListN.{length};
 ghost use Rattle.utilities.specs.Compass.{sideOf};
 ghost use Rattle.route.specs.Table.{firstNumber};
 ghost use Rattle.sectors.specs.Floor.{across};
-ghost use Rattle.leg_plan.specs.Leg.{stepsOf, names, namesTwice, someGoal, outOfOrder, isSector, apart, eachRows, judgedRows, legNumber, legSheet};
+ghost use Rattle.leg_plan.specs.Leg.{stepsOf, names, namesTwice, someGoal, outOfOrder, isSector, apart, floorNumber, eachRows, judgedRows, legNumber, legSheet};
 ghost use Rattle.leg_plan.specs.Inner.{LegReady, copied};
 ghost use Rattle.leg_plan.specs.Promise.{LegPlanned};
 ghost use Rattle.leg.specs.Inner.{StepPlanned, StepReady, StepsPlanned, CopyReady};
@@ -21,15 +21,29 @@ fn wide(byte: u8) -> usize
     byte as usize
 }
 
-// 4 to 8 for the first step that is refused, else 0.
-fn each_step(steps: &[u8]) -> u8
-    ensures { λ r. ⌜ r ≡ firstNumber (eachRows (stepsOf (now (steps .entry)))) ⌝ }
+// 4 to 8, or 16, for a step that is refused on its own sector's costs, else 0. A sector that is off the floor has no costs to cut.
+fn floor_number(floor: &[u8], step: &[u8]) -> u8
+    requires { ⌜ (length (now floor) ≡ 6400) × (length (now step) ≡ 8) ⌝ }
+    ensures { λ r. ⌜ r ≡ floorNumber (now (floor .entry)) (now (step .entry)) ⌝ }
+{
+    let sector = step[0];
+    if 63 < sector {
+        return 4;
+    }
+    let at = wide(sector) * 100;
+    step_numbers::step_number_on(&floor[at..at + 100], step)
+}
+
+// 4 to 8, or 16, for the first step that is refused, else 0.
+fn each_step(floor: &[u8], steps: &[u8]) -> u8
+    requires { ⌜ length (now floor) ≡ 6400 ⌝ }
+    ensures { λ r. ⌜ r ≡ firstNumber (eachRows (now (floor .entry)) (stepsOf (now (steps .entry)))) ⌝ }
 {
     let count = steps.len() / 8;
     let mut k = 0;
     while k < count {
         let at = k * 8;
-        let number = step_numbers::step_number(&steps[at..at + 8]);
+        let number = floor_number(floor, &steps[at..at + 8]);
         if number != 0 {
             return number;
         }
@@ -127,7 +141,7 @@ fn is_apart(steps: &[u8]) -> bool
     false
 }
 
-// The table's number for a leg with a sheet of so many bytes, before a step is planned: 1 to 10.
+// The table's number for a leg with a sheet of so many bytes, before a step is planned: 1 to 10, or 16.
 fn leg_number(floor: &[u8], steps: &[u8], sheet_length: usize) -> u8
     ensures { λ r. ⌜ ((sheet : List ℕ) → length sheet ≡ «sheet_length» → r ≡ firstNumber (judgedRows (now (floor .entry)) (now (steps .entry)) sheet)) ⌝ }
 {
@@ -140,7 +154,7 @@ fn leg_number(floor: &[u8], steps: &[u8], sheet_length: usize) -> u8
     if step_list::is_no_step_list(steps) {
         return 3;
     }
-    let number = each_step(steps);
+    let number = each_step(floor, steps);
     if number != 0 {
         return number;
     }

@@ -1,5 +1,5 @@
 -- The number of a leg, down the table.
---     each-first, each-none    numbers 4 to 8: a step that is refused decides, else what comes below
+--     each-first, each-none    numbers 4 to 8 and 16: a step that is refused decides, else what comes below
 --     number-9 .. number-0     where no step is refused: 9 decides before 10, and 10 before none
 --     Judged, judged           what is known where nothing is refused before a step is planned
 --     judged-first             a number that is judged before then is the leg's
@@ -15,25 +15,11 @@ use lib.Dec.{eqb}
 use lib.ListN.{length, getD}
 use borrow.Author.Tests.{eqb-true, eqb-false, eq-eqb}
 use Rattle.route.specs.Table.{Row, row, firstNumber}
-use Rattle.route.specs.Step.{isWindow, eachStep, noStepList}
-use Rattle.route.proofs.Accepted.{each-step}
-use Rattle.leg_plan.specs.Leg.{stepsOf, namesTwice, someGoal, outOfOrder, apart, eachRows, someClosed, judgedRows, legNumber}
+use Rattle.route.specs.Step.{isWindow, noStepList}
+use Rattle.route.proofs.Walls.{each-step-on, accepted-on}
+use Rattle.leg_plan.specs.Leg.{stepsOf, namesTwice, someGoal, outOfOrder, apart, floorNumber, eachRows, someClosed, judgedRows, legNumber}
 use Rattle.leg_plan.specs.Inner.{stepAt, LegReady}
 use Rattle.leg_plan.proofs.Steps.{neither, steps-count, step-of, step-long}
-
--- ---- numbers 4 to 8, and what comes below them
-
--- a step that is refused decides
-pub each-first : (ss : List (List ℕ)) (rest : List Row) → eqb (firstNumber (eachRows ss)) 0 ≡ false
-    → firstNumber (eachRows ss ++ rest) ≡ firstNumber (eachRows ss)
-each-first [] rest h = absurd (true≢false h)
-each-first (s ∷ ss) rest h = go (eqb (eachStep s) 0) h (each-first ss rest)
-  where
-    go : (b : Bool) → eqb (cond (not b) (eachStep s) (firstNumber (eachRows ss))) 0 ≡ false
-        → (eqb (firstNumber (eachRows ss)) 0 ≡ false → firstNumber (eachRows ss ++ rest) ≡ firstNumber (eachRows ss))
-        → cond (not b) (eachStep s) (firstNumber (eachRows ss ++ rest)) ≡ cond (not b) (eachStep s) (firstNumber (eachRows ss))
-    go true k ih = ih k
-    go false k ih = refl
 
 -- a number that is not 0 stays the first
 rows-first : (a b : List Row) → (firstNumber a ≡ 0 → ⊥) → firstNumber (a ++ b) ≡ firstNumber a
@@ -45,30 +31,53 @@ rows-first (r ∷ a) b h = go (r .holds) h (rows-first a b)
     go true h ih = refl
     go false h ih = ih h
 
--- a list of steps of which none is refused, step by step
-each-head : (s : List ℕ) (ss : List (List ℕ)) → firstNumber (eachRows (s ∷ ss)) ≡ 0 → (eachStep s ≡ 0) × (firstNumber (eachRows ss) ≡ 0)
-each-head s ss = go (eqb (eachStep s) 0) refl
-  where
-    go : (b : Bool) → eqb (eachStep s) 0 ≡ b → cond (not b) (eachStep s) (firstNumber (eachRows ss)) ≡ 0 → (eachStep s ≡ 0) × (firstNumber (eachRows ss) ≡ 0)
-    go true q e = (eqb-true (eachStep s) 0 q, e)
-    go false q e = absurd (eqb-false (eachStep s) 0 q e)
+-- ---- numbers 4 to 8 and 16 of each step, and what comes below them
 
-pub each-none : (ss : List (List ℕ)) (rest : List Row) → firstNumber (eachRows ss) ≡ 0 → firstNumber (eachRows ss ++ rest) ≡ firstNumber rest
-each-none [] rest h = refl
-each-none (s ∷ ss) rest h = let k = each-head s ss h in rw (k .0) (each-none ss rest (k .1))
+module _ (floor : List ℕ) where
+  -- a step that is refused decides
+  pub each-first : (ss : List (List ℕ)) (rest : List Row) → eqb (firstNumber (eachRows floor ss)) 0 ≡ false
+      → firstNumber (eachRows floor ss ++ rest) ≡ firstNumber (eachRows floor ss)
+  each-first [] rest h = absurd (true≢false h)
+  each-first (s ∷ ss) rest h = go (eqb (floorNumber floor s) 0) h (each-first ss rest)
+    where
+      go : (b : Bool) → eqb (cond (not b) (floorNumber floor s) (firstNumber (eachRows floor ss))) 0 ≡ false
+          → (eqb (firstNumber (eachRows floor ss)) 0 ≡ false → firstNumber (eachRows floor ss ++ rest) ≡ firstNumber (eachRows floor ss))
+          → cond (not b) (floorNumber floor s) (firstNumber (eachRows floor ss ++ rest)) ≡ cond (not b) (floorNumber floor s) (firstNumber (eachRows floor ss))
+      go true k ih = ih k
+      go false k ih = refl
 
-pub each-good : (ss : List (List ℕ)) → firstNumber (eachRows ss) ≡ 0 → (k : ℕ) → k < length ss → eachStep (getD ss k []) ≡ 0
-each-good [] e k h = absurd (omega arith)
-each-good (s ∷ ss) e zero h = each-head s ss e .0
-each-good (s ∷ ss) e (suc k) h = each-good ss (each-head s ss e .1) k (omega arith)
+  -- a list of steps of which none is refused, step by step
+  each-head : (s : List ℕ) (ss : List (List ℕ)) → firstNumber (eachRows floor (s ∷ ss)) ≡ 0 → (floorNumber floor s ≡ 0) × (firstNumber (eachRows floor ss) ≡ 0)
+  each-head s ss = go (eqb (floorNumber floor s) 0) refl
+    where
+      go : (b : Bool) → eqb (floorNumber floor s) 0 ≡ b → cond (not b) (floorNumber floor s) (firstNumber (eachRows floor ss)) ≡ 0
+          → (floorNumber floor s ≡ 0) × (firstNumber (eachRows floor ss) ≡ 0)
+      go true q e = (eqb-true (floorNumber floor s) 0 q, e)
+      go false q e = absurd (eqb-false (floorNumber floor s) 0 q e)
+
+  pub each-none : (ss : List (List ℕ)) (rest : List Row) → firstNumber (eachRows floor ss) ≡ 0 → firstNumber (eachRows floor ss ++ rest) ≡ firstNumber rest
+  each-none [] rest h = refl
+  each-none (s ∷ ss) rest h = let k = each-head s ss h in rw (k .0) (each-none ss rest (k .1))
+
+  pub each-good : (ss : List (List ℕ)) → firstNumber (eachRows floor ss) ≡ 0 → (k : ℕ) → k < length ss → floorNumber floor (getD ss k []) ≡ 0
+  each-good [] e k h = absurd (omega arith)
+  each-good (s ∷ ss) e zero h = each-head s ss e .0
+  each-good (s ∷ ss) e (suc k) h = each-good ss (each-head s ss e .1) k (omega arith)
+
+  each-zero : (ss : List (List ℕ)) (rest : List Row) → firstNumber (eachRows floor ss ++ rest) ≡ 0 → firstNumber (eachRows floor ss) ≡ 0
+  each-zero ss rest e = go (eqb (firstNumber (eachRows floor ss)) 0) refl
+    where
+      go : (b : Bool) → eqb (firstNumber (eachRows floor ss)) 0 ≡ b → firstNumber (eachRows floor ss) ≡ 0
+      go true q = eqb-true (firstNumber (eachRows floor ss)) 0 q
+      go false q = sym (each-first ss rest q) ∙ e
 
 -- ---- numbers 9 and 10
 
 module _ (floor steps sheet : List ℕ) (floor-full : length floor ≡ 6400) (sheet-full : length sheet ≡ 6400)
-    (list : noStepList steps ≡ false) (each : firstNumber (eachRows (stepsOf steps)) ≡ 0) where
+    (list : noStepList steps ≡ false) (each : firstNumber (eachRows floor (stepsOf steps)) ≡ 0) where
   nine-then-ten : firstNumber (judgedRows floor steps sheet) ≡ firstNumber (row 9 (outOfOrder (stepsOf steps)) ∷ row 10 (apart (stepsOf steps)) ∷ [])
   unfolding judgedRows
-  nine-then-ten = rw (eq-eqb (length floor) 6400 floor-full, eq-eqb (length sheet) 6400 sheet-full, list) (each-none (stepsOf steps) _ each)
+  nine-then-ten = rw (eq-eqb (length floor) 6400 floor-full, eq-eqb (length sheet) 6400 sheet-full, list) (each-none floor (stepsOf steps) _ each)
 
   pub number-9 : outOfOrder (stepsOf steps) ≡ true → firstNumber (judgedRows floor steps sheet) ≡ 9
   number-9 h = nine-then-ten ∙ rw h
@@ -82,18 +91,11 @@ module _ (floor steps sheet : List ℕ) (floor-full : length floor ≡ 6400) (sh
 
 -- ---- nothing refused before a step is planned
 
-each-zero : (ss : List (List ℕ)) (rest : List Row) → firstNumber (eachRows ss ++ rest) ≡ 0 → firstNumber (eachRows ss) ≡ 0
-each-zero ss rest e = go (eqb (firstNumber (eachRows ss)) 0) refl
-  where
-    go : (b : Bool) → eqb (firstNumber (eachRows ss)) 0 ≡ b → firstNumber (eachRows ss) ≡ 0
-    go true q = eqb-true (firstNumber (eachRows ss)) 0 q
-    go false q = sym (each-first ss rest q) ∙ e
-
 pub record Judged (floor steps sheet : List ℕ) : Type 0 where
   pub floor-full : length floor ≡ 6400
   pub sheet-full : length sheet ≡ 6400
   pub list : noStepList steps ≡ false
-  pub each : firstNumber (eachRows (stepsOf steps)) ≡ 0
+  pub each : firstNumber (eachRows floor (stepsOf steps)) ≡ 0
   pub ordered : outOfOrder (stepsOf steps) ≡ false
   pub faced : apart (stepsOf steps) ≡ false
 
@@ -111,13 +113,13 @@ module _ (floor steps sheet : List ℕ) where
       last false false e = (refl, refl)
 
       go : (a b c : Bool) → eqb (length floor) 6400 ≡ a → eqb (length sheet) 6400 ≡ b → noStepList steps ≡ c
-          → cond (not a) 1 (cond (not b) 2 (cond c 3 (firstNumber (eachRows (stepsOf steps) ++ rest)))) ≡ 0 → Judged floor steps sheet
+          → cond (not a) 1 (cond (not b) 2 (cond c 3 (firstNumber (eachRows floor (stepsOf steps) ++ rest)))) ≡ 0 → Judged floor steps sheet
       go false b c p q r e = absurd (omega arith)
       go true false c p q r e = absurd (omega arith)
       go true true true p q r e = absurd (omega arith)
       go true true false p q r e =
-          let z = each-zero (stepsOf steps) rest e in
-          let l = last (outOfOrder (stepsOf steps)) (apart (stepsOf steps)) (sym (each-none (stepsOf steps) rest z) ∙ e) in
+          let z = each-zero floor (stepsOf steps) rest e in
+          let l = last (outOfOrder (stepsOf steps)) (apart (stepsOf steps)) (sym (each-none floor (stepsOf steps) rest z) ∙ e) in
           record {
             floor-full = eqb-true (length floor) 6400 p;
             sheet-full = eqb-true (length sheet) 6400 q;
@@ -136,7 +138,7 @@ module _ (floor steps sheet : List ℕ) where
   last-number : Judged floor steps sheet → legNumber floor steps sheet ≡ cond (someClosed floor (stepsOf steps)) 15 0
   unfolding legNumber judgedRows
   last-number j = rw (eq-eqb (length floor) 6400 (j .floor-full), eq-eqb (length sheet) 6400 (j .sheet-full), j .list)
-      (ap firstNumber (append-assoc (eachRows (stepsOf steps)) _ _) ∙ each-none (stepsOf steps) _ (j .each) ∙ rw (j .ordered, j .faced))
+      (ap firstNumber (append-assoc (eachRows floor (stepsOf steps)) _ _) ∙ each-none floor (stepsOf steps) _ (j .each) ∙ rw (j .ordered, j .faced))
 
   pub closed-15 : Judged floor steps sheet → someClosed floor (stepsOf steps) ≡ true → legNumber floor steps sheet ≡ 15
   closed-15 j e = last-number j ∙ rw e
@@ -165,7 +167,7 @@ ordered-once (s ∷ ss) e = neither (isWindow s || someGoal ss) (namesTwice (s �
 pub ready : {floor steps sheet : List ℕ} → Judged floor steps sheet → LegReady floor steps
 ready {floor} {steps} j = record {
   floor-full = j .floor-full;
-  accepted = λ k h. each-step (stepAt steps k) (step-long steps k h) ∙ ap eachStep (sym (step-of steps k h))
-      ∙ each-good (stepsOf steps) (j .each) k (omega (arith, steps-count steps));
+  accepted = λ k h. accepted-on _ (stepAt steps k) (each-step-on _ (stepAt steps k) (step-long steps k h) ∙ ap (floorNumber floor) (sym (step-of steps k h))
+      ∙ each-good floor (stepsOf steps) (j .each) k (omega (arith, steps-count steps)));
   named-once = ordered-once (stepsOf steps) (j .ordered);
 }

@@ -1,7 +1,7 @@
 -- The steps of a list of bytes, from a place on.
 --     steps-count, step-of                how many there are, and each by its place
 --     from-start, from-here, from-done    all of them; one, and the rest; none
---     lent-step, behind, judged-at        a step, the steps behind it and its number, by the bytes as they are lent
+--     lent-step, behind                   a step, and the steps behind it, by the bytes as they are lent
 --     sector-at, mark-at, boundary-at     a byte of a step, by its place in the list; `before-at` the sector of the step before
 -- Assumes nothing.
 use mathlib.Core.Path.{_≡_, refl, sym, ap, _∙_}
@@ -12,8 +12,7 @@ use native.Mathlib.Nat.{add-zero}
 use native.Mathlib.Omega.{arith}
 use lib.ListN.{length, getD, take, drop, length-take, length-drop}
 use lib.Seq.{drop-drop, take-all, getD-take, getD-drop}
-use Rattle.route.specs.Step.{sectorOf, markOf, boundaryByte, eachStep, stepNumber}
-use Rattle.route.proofs.Accepted.{each-step}
+use Rattle.route.specs.Step.{sectorOf, markOf, boundaryByte}
 use Rattle.leg_plan.specs.Leg.{stepsIn, stepsOf}
 use Rattle.leg_plan.specs.Inner.{stepAt}
 
@@ -78,9 +77,6 @@ module _ (steps : List ℕ) where
       let e : k * 8 + 8 ≡ (k + 1) * 8 = omega arith in
       let n : length (drop ((k + 1) * 8) steps) / 8 ≡ length steps / 8 - (k + 1) = rw length-drop (omega arith) in
       ap stepsOf (take-all (length steps - (k * 8 + 8)) (drop (k * 8 + 8) steps) (omega (arith, length-drop (k * 8 + 8) steps))) ∙ rw (e, n)
-
-  pub judged-at : (k : ℕ) → k < length steps / 8 → stepNumber (take (k * 8 + 8 - k * 8) (drop (k * 8) steps)) ≡ eachStep (stepAt steps k)
-  judged-at k h = ap stepNumber (lent-step k) ∙ each-step (stepAt steps k) (step-long k h)
 
   byte-at : (k j : ℕ) → j < 8 → getD (stepAt steps k) j 0 ≡ getD steps (k * 8 + j) 0
   byte-at k j h = rw (getD-take, getD-drop)

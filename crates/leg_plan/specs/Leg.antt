@@ -1,4 +1,4 @@
--- A leg (01, "A leg, the added entry"; 02, "Job 2"): its number, and the sheet that it leaves.
+-- A leg (01, "A leg, the added entry"; 02, "Job 2" and "Job 3"): its number, and the sheet that it leaves.
 -- Assumes nothing.
 use mathlib.Core.Bool.{Bool, true, false, cond, not, _||_}
 use mathlib.Core.List.{List, [], _∷_, _++_}
@@ -6,7 +6,7 @@ use Prim.Native.Nat.{ℕ, zero, suc, _+_, _*_, _/_}
 use lib.Dec.{eqb}
 use lib.ListN.{length, take, drop}
 use Rattle.route.specs.Table.{Row, row, firstNumber}
-use Rattle.route.specs.Step.{sectorOf, isWindow, boundaryOf, portalOf, eachStep, noStepList}
+use Rattle.route.specs.Step.{sectorOf, isWindow, boundaryOf, portalOf, eachStepOn, noStepList}
 use Rattle.sectors.specs.declared.Across.{Across}
 use Rattle.sectors.specs.declared.Across.the-variants.{Sector, OffFloor}
 use Rattle.sectors.specs.Floor.{across}
@@ -28,10 +28,14 @@ stepsOf bytes = stepsIn (length bytes / 8) bytes
 
 -- ---- the table, "each step" and "whole leg"
 
--- 4 to 8 for one step before the next step
-abbrev pub eachRows : List (List ℕ) → List Row
-eachRows [] = []
-eachRows (s ∷ ss) = row (eachStep s) (not (eqb (eachStep s) 0)) ∷ eachRows ss
+-- the number of a step on its own sector's costs: 4 to 8, or 16 (02, "Job 3": any window cell, also one that does not count)
+abbrev pub floorNumber : List ℕ → List ℕ → ℕ
+floorNumber floor step = eachStepOn (part floor (sectorOf step)) step
+
+-- 4 to 8 and 16 for one step before the next step
+abbrev pub eachRows : List ℕ → List (List ℕ) → List Row
+eachRows floor [] = []
+eachRows floor (s ∷ ss) = row (floorNumber floor s) (not (eqb (floorNumber floor s) 0)) ∷ eachRows floor ss
 
 -- a step of the list names the sector
 abbrev pub names : ℕ → List (List ℕ) → Bool
@@ -89,13 +93,13 @@ someClosed floor steps = closedFrom floor steps false []
 
 -- ---- its number
 
--- the table's lines 1, 2, 3, each step's 4 to 8, 9 and 10, which are judged before a step is planned
+-- the table's lines 1, 2, 3, each step's 4 to 8 and 16, 9 and 10, which are judged before a step is planned
 unfoldable pub judgedRows : List ℕ → List ℕ → List ℕ → List Row
 judgedRows floor steps sheet =
     row 1 (not (eqb (length floor) 6400))
     ∷ row 2 (not (eqb (length sheet) 6400))
     ∷ row 3 (noStepList steps)
-    ∷ (eachRows (stepsOf steps) ++ (row 9 (outOfOrder (stepsOf steps)) ∷ row 10 (apart (stepsOf steps)) ∷ []))
+    ∷ (eachRows floor (stepsOf steps) ++ (row 9 (outOfOrder (stepsOf steps)) ∷ row 10 (apart (stepsOf steps)) ∷ []))
 
 -- and 15 after 10
 unfoldable pub legNumber : List ℕ → List ℕ → List ℕ → ℕ

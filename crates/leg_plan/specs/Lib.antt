@@ -1,3 +1,4 @@
 pub mod Leg
 pub mod Inner
 pub mod Promise
+pub mod Walls

@@ -90,12 +90,15 @@ fn main() {
     replay(1, b"line_end", 8);
     replay(2, b"readers", 8);
     replay(3, b"init", 610);
+    replay(3, b"init.table", 610);
     replay(4, b"build", 1104);
     replay(5, b"flow_new", 910);
     replay(6, b"flow_build", 601);
     replay(7, b"sector", 1112);
+    replay(7, b"sector.table", 1112);
     replay(8, b"leg", 3330);
     replay(8, b"leg.model", 3330);
+    replay(8, b"leg.table", 3330);
     replay(9, b"refusals.table", 160);
     replay(10, b"leg_file_write.model", 314);
     replay(11, b"leg_file_read.model", 154);

@@ -21,21 +21,21 @@ fn settled(number: u8, same: bool) -> u8 {
 
 fn init_number(record: &[u8], costs: &[u8], step: &[u8]) -> u8 {
     let answer = integration_init::init(costs, step);
-    settled(answer.number, same_init(answer, part(record, 155, 156)))
+    settled(answer.number, same_init(answer, part(record, 157, 158)))
 }
 
 fn build_number(record: &[u8], answer: BuildAnswer) -> u8 {
-    settled(answer.number, same_build(answer, part(record, 155, 156)))
+    settled(answer.number, same_build(answer, part(record, 157, 158)))
 }
 
 fn line_number(record: &[u8]) -> u8 {
     let line = line_of(part(record, 15, 19));
-    settled(line.number, same_line(line, part(record, 155, 156)))
+    settled(line.number, same_line(line, part(record, 157, 158)))
 }
 
 fn line_end_number(record: &[u8]) -> u8 {
     let end = end_of(part(record, 15, 19));
-    settled(end.number, same_end(end, part(record, 155, 156)))
+    settled(end.number, same_end(end, part(record, 157, 158)))
 }
 
 // A field of zeros with a record's count and its one corner.
@@ -49,6 +49,13 @@ fn given_field(record: &[u8]) -> IntegrationField {
         field: [0; 100],
         los_corners,
         count: short_at(record, 10, 11),
+    }
+}
+
+// A wall put at its place among the costs, where there is such a place.
+fn put_wall(costs: &mut [u8], wall: usize) {
+    if wall < costs.len() {
+        costs[wall] = 255;
     }
 }
 
@@ -73,7 +80,7 @@ fn call_number(record: &[u8], costs: &[u8], step: &[u8], previous: &[u32], sheet
 }
 
 // A record: the call, lengths of costs, sheet and step, has_previous, length of previous, corner count, a corner's place and
-// value, four coordinates, 136 step bytes; number, four zeros.
+// value, four coordinates, the place of one wall among the costs, 136 step bytes; number, two zeros.
 pub fn refusal_agrees(record: &[u8]) -> bool {
     let costs_length = short_at(record, 1, 2);
     let sheet_length = short_at(record, 3, 4);
@@ -82,16 +89,17 @@ pub fn refusal_agrees(record: &[u8]) -> bool {
     if costs_length > 6401 || sheet_length > 6401 || step_length > 136 || previous_length > 101 {
         return false;
     }
-    let costs = [1u8; 6401];
+    let mut costs = [1u8; 6401];
+    put_wall(&mut costs, short_at(record, 19, 20));
     let previous = [0u32; 101];
     let mut sheet = [0x55u8; 6401];
     let number = call_number(
         record,
         part(&costs, 0, costs_length),
-        part(record, 19, 19 + step_length),
+        part(record, 21, 21 + step_length),
         &previous[0..previous_length],
         front(&mut sheet, sheet_length),
     );
     let before = [0x55u8; 6401];
-    number == byte_at(record, 155) && (number == 0 || check::same(&sheet, &before))
+    number == byte_at(record, 157) && (number == 0 || check::same(&sheet, &before))
 }

@@ -31,7 +31,7 @@ fn sector_number(
     if sheet_length != 100 {
         return 2;
     }
-    let number = step_numbers::step_number(step);
+    let number = step_numbers::step_number_on(costs, step);
     if number != 0 {
         return number;
     }

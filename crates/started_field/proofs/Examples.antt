@@ -3,9 +3,10 @@
 use mathlib.Core.Path.{_≡_, refl}
 use mathlib.Core.List.{List, [], _∷_, _++_}
 use Prim.Native.Nat.{ℕ, _+_}
-use lib.ListN.{getD, replicate}
+use lib.ListN.{getD, set, replicate}
 use Rattle.utilities.specs.declared.CompassDir.the-variants.{North, East}
 use Rattle.fields.specs.Cell.{stepped}
+use Rattle.route.specs.Step.{stepNumberOn}
 use Rattle.integration_field.specs.Diagonal.{betweenWalls}
 use Rattle.started_field.specs.Sight.{
   walls,
@@ -24,7 +25,7 @@ use Rattle.started_field.specs.Sight.{
   sightAfter,
 }
 use Rattle.started_field.specs.CornerLine.{cornerLine}
-use Rattle.started_field.specs.Started.{startedAt}
+use Rattle.started_field.specs.Started.{startedAt, initNumber}
 
 -- the words of an open cell and of a wall
 abbrev free : ℕ
@@ -46,17 +47,28 @@ pub walls-of-255 : walls (1 ∷ 254 ∷ 255 ∷ []) ≡ free ∷ free ∷ wall �
 unfolding walls
 walls-of-255 = refl
 
--- the goal is put over a wall too
-pub goal-over-wall : withGoal 0 (wall ∷ free ∷ []) ≡ 0x20000 ∷ free ∷ []
-unfolding withGoal
-goal-over-wall = refl
+-- `init` refuses a goal of cost 255 with 16 (02, "Job 3"), after 1, and takes it beside such a cell
+abbrev wallAt44 : List ℕ
+wallAt44 = set (replicate 100 1) 44 255
 
--- window cells are put over walls too, and listed
-pub window-put : startedAt (255 ∷ 1 ∷ []) (0 ∷ []) .field ≡ 0x80000 ∷ free ∷ []
+pub goal-of-255 : initNumber wallAt44 (0 ∷ 44 ∷ 0 ∷ 0 ∷ 0 ∷ 0 ∷ 0 ∷ 0 ∷ []) ≡ 16
+unfolding initNumber stepNumberOn
+goal-of-255 = refl
+
+pub goal-beside-255 : initNumber wallAt44 (0 ∷ 45 ∷ 0 ∷ 0 ∷ 0 ∷ 0 ∷ 0 ∷ 0 ∷ []) ≡ 0
+unfolding initNumber stepNumberOn
+goal-beside-255 = refl
+
+pub costs-first : initNumber (255 ∷ []) (replicate 8 0) ≡ 1
+unfolding initNumber stepNumberOn
+costs-first = refl
+
+-- window cells are put, and listed
+pub window-put : startedAt (1 ∷ 1 ∷ []) (0 ∷ []) .field ≡ 0x80000 ∷ free ∷ []
 unfolding startedAt withPortals walls
 window-put = refl
 
-pub window-listed : startedAt (255 ∷ 1 ∷ []) (0 ∷ []) .count ≡ 1
+pub window-listed : startedAt (1 ∷ 1 ∷ []) (0 ∷ []) .count ≡ 1
 unfolding startedAt
 window-listed = refl
 

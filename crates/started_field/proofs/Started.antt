@@ -12,9 +12,10 @@ use native.Mathlib.Omega.{arith}
 use lib.Dec.{eqb}
 use lib.ListN.{length}
 use borrow.Author.Tests.{eqb-true, eqb-false}
-use Rattle.route.specs.Step.{stepNumber}
+use Rattle.route.specs.Step.{stepNumber, stepNumberOn}
 use Rattle.route.specs.Target.{Target, to-goal, to-window, byWindow, TargetIn, targetOf}
 use Rattle.route.proofs.Targets.{target-in}
+use Rattle.route.proofs.Walls.{accepted-on}
 use Rattle.integration_field.specs.declared.IntegrationField.{IntegrationField}
 use Rattle.integration_field.specs.Listed.{withCorners}
 use Rattle.integration_field.proofs.Lists.{padded-length, padded-beyond, corners-listed}
@@ -89,8 +90,8 @@ pub accepted : (costs step : List ℕ) → initNumber costs step ≡ 0 → (leng
 unfolding initNumber
 accepted costs step e = go (eqb (length costs) 100) refl e
   where
-    go : (b : Bool) → eqb (length costs) 100 ≡ b → cond (not b) 1 (stepNumber step) ≡ 0 → (length costs ≡ 100) × (stepNumber step ≡ 0)
-    go true q z = (eqb-true (length costs) 100 q, z)
+    go : (b : Bool) → eqb (length costs) 100 ≡ b → cond (not b) 1 (stepNumberOn costs step) ≡ 0 → (length costs ≡ 100) × (stepNumber step ≡ 0)
+    go true q z = (eqb-true (length costs) 100 q, accepted-on costs step z)
     go false q z = absurd (omega arith)
 
 -- its costs, and the target of its step

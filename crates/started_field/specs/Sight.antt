@@ -28,7 +28,7 @@ unfoldable pub withPortals : List ℕ → List ℕ → List ℕ
 withPortals [] cells = cells
 withPortals (n ∷ ns) cells = withPortals ns (set cells n 0x80000)
 
--- .. or the goal becomes 0x20000, over a wall too.
+-- .. or the goal becomes 0x20000.
 unfoldable pub withGoal : ℕ → List ℕ → List ℕ
 withGoal goal cells = set cells goal 0x20000
 

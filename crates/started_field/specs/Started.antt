@@ -6,7 +6,7 @@ use mathlib.Core.List.{List}
 use Prim.Native.Nat.{ℕ, _≤_}
 use lib.Dec.{eqb}
 use lib.ListN.{length, getD}
-use Rattle.route.specs.Step.{stepNumber}
+use Rattle.route.specs.Step.{stepNumberOn}
 use Rattle.route.specs.Target.{Target, to-goal, to-window, targetOf}
 use Rattle.integration_field.specs.declared.IntegrationField.{IntegrationField}
 use Rattle.integration_field.specs.Listed.{listOf, withCorners, zeroField}
@@ -32,9 +32,9 @@ unfoldable pub started : List ℕ → Target → IntegrationField
 started costs (to-goal goal) = startedFrom costs goal
 started costs (to-window window) = startedAt costs window
 
--- 1 for cost bytes that are not 100, else the step's number: 3, 4 to 8, or 0
+-- 1 for cost bytes that are not 100, else the step's number on them: 3, 4 to 8, 16 (02, "Job 3"), or 0
 unfoldable pub initNumber : List ℕ → List ℕ → ℕ
-initNumber costs step = cond (not (eqb (length costs) 100)) 1 (stepNumber step)
+initNumber costs step = cond (not (eqb (length costs) 100)) 1 (stepNumberOn costs step)
 
 -- A refusal answers its number with every other part zero; an accepted call's number is 0, and its field that of the step's target.
 abbrev pub initRefused : ℕ → InitAnswer

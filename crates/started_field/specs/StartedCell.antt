@@ -18,7 +18,7 @@ pub data SightCell (x : ℕ) : Type 0 where
   corner : (v : ℕ) → v ≤ 110 → x ≡ v + 0x4040000 → SightCell x
   unseen : x ≡ 65535 → SightCell x
 
--- The goal stays: 0x20000 at the goal, over a wall too, and GOAL nowhere else.
+-- The goal stays: 0x20000 at the goal, and GOAL nowhere else.
 pub record GoalStays (goal : ℕ) (cells : List ℕ) : Type 0 where
   pub goal-cell : getD cells goal 0 ≡ 0x20000
   pub goal-only : (i : ℕ) → i < 100 → isGoal (getD cells i 0) ≡ true → i ≡ goal

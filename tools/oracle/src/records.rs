@@ -12,19 +12,24 @@
 //! | flow_new | 910 | 8 step, 100 cells of 32 bits, has_previous, 100 previous of 32 bits | number, 100 sheet |
 //! | flow_build | 601 | 100 cells of 32 bits, 100 sheet | number, 100 sheet |
 //! | sector | 1112 | 100 costs, 8 step, has_previous, 100 previous of 32 bits | number, waves, count, 100 corners, 100 cells of 32 bits, 100 sheet |
-//! | leg, leg.model | 3330 | step count, 128 steps, 16 times 100 costs | number, 16 times 100 sheet |
-//! | refusals.table | 160 | see below | number, 4 zeros |
+//! | init.table, sector.table | 610, 1112 | as init and sector | as init and sector |
+//! | leg, leg.model, leg.table | 3330 | step count, 128 steps, 16 times 100 costs | number, 16 times 100 sheet |
+//! | refusals.table | 160 | see below | number, 2 zeros |
 //! | leg_file_write.model | 314 | list length, buffer length, buffer's byte, list in 150 places | number, buffer in 160 places |
 //! | leg_file_read.model | 154 | file length, file in 150 places | number, start, length of the part |
 //!
 //! A file whose name has no dot holds answers of the Rust; its wave counts are those of the counted copy. Behind a dot
-//! stands the judge of a file that has no Rust: `table`, the reading of document 01's table of refusals, or `model`, the
+//! stands the judge of a file that has no Rust: `table`, the reading of the documents' table of refusals, or `model`, the
 //! model of the documents.
 //!
-//! flow_new, flow_build, sector: the flow calls do not look at a field's list, so none is recorded
-//! (count 0). The sheet lent to `flow_new` and to the sector call holds 0x55 in every byte.
+//! flow_new, flow_build, sector, sector.table: the flow calls do not look at a field's list, so none is recorded
+//! (count 0). The sheet lent to `flow_new` and to the sector call holds 0x55 in every byte, and still does where the
+//! number is not 0.
 //!
-//! leg, leg.model: the k-th 100 costs and sheet bytes are those of the sector that step k names. Cost bytes of
+//! init.table, sector.table: the floors and steps of `init` and of `sector` as they were drawn, with a wall under the goal
+//! or a window cell (number 16); there these walls are floor. leg.table: legs with such a step (16, or 8 before it).
+//!
+//! leg, leg.model, leg.table: the k-th 100 costs and sheet bytes are those of the sector that step k names. Cost bytes of
 //! sectors not named are 1; every byte of the sheet is 0x55 before the call, and those of sectors not
 //! named still are after it, as all are where the number is not 0. What stands beyond the last step is 0.
 //! In `leg` every window cell counts; in `leg.model` some window has a cell that does not.
@@ -32,9 +37,9 @@
 //! refusals.table: call (0 init, 1 build, 2 flow_new, 3 flow_build, 4 sector, 5 leg, 6 line, 7 line_end), then
 //! in 16 bits each costs length, sheet length, step bytes' length; has_previous; in 16 bits each
 //! previous length, corner count; the place of one corner, and in 16 bits its value (every other
-//! corner is 0); 4 coordinates; 136 step bytes. What a call does not have is not read. All lent costs
-//! are 1, sheet bytes 0x55, previous numbers and cells 0. Where the number is 0 the call is accepted,
-//! and only its number is recorded.
+//! corner is 0); 4 coordinates; in 16 bits the place of one wall among the costs, 65535 where there is none; 136 step
+//! bytes. What a call does not have is not read. All other lent costs are 1, sheet bytes 0x55, previous numbers and cells
+//! 0. Where the number is 0 the call is accepted, and only its number is recorded.
 //!
 //! leg_file_write.model: list length, buffer length, the byte that fills the buffer before the call,
 //! number, 150 places for the list, 160 for the buffer after the call. leg_file_read.model: file length,
@@ -48,7 +53,8 @@ use crate::floors::{self, Costs, Rng, Step};
 use crate::groups;
 use crate::judges::{self, Judge};
 use crate::model::{Model, Slip};
-use crate::oracle::Oracle;
+use crate::oracle::{Oracle, rust_built, rust_started};
+use crate::refusals::named_cells;
 use crate::subject::*;
 
 /// The seed of what is drawn.
@@ -90,13 +96,16 @@ pub fn sections() -> Vec<Section> {
         Section { name: "line", length: 16, records: lines() },
         Section { name: "line_end", length: 8, records: line_ends() },
         Section { name: "readers", length: 8, records: readers() },
-        Section { name: "init", length: 610, records: inits(rng()) },
+        Section { name: "init", length: 610, records: inits(rng(), open_inputs) },
+        Section { name: "init.table", length: 610, records: inits(rng(), inputs_on_walls) },
         Section { name: "build", length: 1104, records: builds(rng()) },
         Section { name: "flow_new", length: 910, records: flows_new(rng()) },
         Section { name: "flow_build", length: 601, records: flows_build(rng()) },
-        Section { name: "sector", length: 1112, records: sectors(rng()) },
-        Section { name: "leg", length: 3330, records: legs(rng(), true) },
-        Section { name: "leg.model", length: 3330, records: legs(rng(), false) },
+        Section { name: "sector", length: 1112, records: sectors(rng(), some_open) },
+        Section { name: "sector.table", length: 1112, records: sectors(rng(), some_on_walls) },
+        Section { name: "leg", length: 3330, records: legs(rng(), Judge::Published) },
+        Section { name: "leg.model", length: 3330, records: legs(rng(), Judge::Model) },
+        Section { name: "leg.table", length: 3330, records: legs(rng(), Judge::Table) },
         Section { name: "refusals.table", length: 160, records: refusals() },
         Section { name: "leg_file_write.model", length: 314, records: file_writes(rng()) },
         Section { name: "leg_file_read.model", length: 154, records: file_reads(rng()) },
@@ -199,6 +208,19 @@ fn inputs(rng: &mut Rng) -> Vec<(Costs, Step)> {
     list
 }
 
+/// The same, with walls under the goal and the window cells made floor.
+fn open_inputs(rng: &mut Rng) -> Vec<(Costs, Step)> {
+    let mut list = inputs(rng);
+    list.iter_mut().for_each(|(costs, step)| floors::open(rng, costs, step));
+    list
+}
+
+/// Those that have such a wall.
+fn inputs_on_walls(rng: &mut Rng) -> Vec<(Costs, Step)> {
+    let on_wall = |(costs, step): &(Costs, Step)| named_cells(step).iter().any(|cell| costs[*cell] == 255);
+    inputs(rng).into_iter().filter(on_wall).collect()
+}
+
 fn any_window(rng: &mut Rng) -> Step {
     let (boundary, first, length) = (rng.below(4), rng.below(10), rng.below(10));
     floors::window_step(rng.below(64), boundary, first, (first + length).min(9))
@@ -214,7 +236,7 @@ fn init((costs, step): (Costs, Step)) -> Vec<u8> {
     record
 }
 
-fn inits(mut rng: Rng) -> Vec<Vec<u8>> {
+fn inits(mut rng: Rng, inputs: fn(&mut Rng) -> Vec<(Costs, Step)>) -> Vec<Vec<u8>> {
     inputs(&mut rng).into_iter().map(init).collect()
 }
 
@@ -235,11 +257,10 @@ fn by_hand(rng: &mut Rng) -> IntegrationField {
     IntegrationField::new(field.field, field.corners())
 }
 
-/// Started fields, then fields given by hand.
+/// Fields that the Rust starts, then others given by hand.
 fn builds(mut rng: Rng) -> Vec<Vec<u8>> {
     let started = inputs(&mut rng).into_iter().skip(1).step_by(4);
-    let mut records: Vec<Vec<u8>> =
-        started.map(|(costs, step)| build(costs, Oracle.init(&costs, &step).field)).collect();
+    let mut records: Vec<Vec<u8>> = started.map(|(costs, step)| build(costs, rust_started(&costs, &step))).collect();
     records.extend((0..20).map(|_| build(floors::any(&mut rng), by_hand(&mut rng))));
     records
 }
@@ -264,8 +285,7 @@ fn flow_new(step: Step, field: IntegrationField, (lent, numbers): (bool, Vec<u32
 
 /// A built field of a floor of any kind.
 fn built(rng: &mut Rng, step: &Step) -> IntegrationField {
-    let costs = floors::any(rng);
-    Oracle.build(&costs, Oracle.init(&costs, step).field).field
+    rust_built(&floors::any(rng), step)
 }
 
 /// Each boundary with every kind of previous field, then goals, then fields given by hand.
@@ -324,15 +344,23 @@ fn sector(costs: Costs, step: Step, (lent, numbers): (bool, Vec<u32>)) -> Vec<u8
 }
 
 /// Goal 99 and sector 63, then a part of the floors.
-fn sectors(mut rng: Rng) -> Vec<Vec<u8>> {
+fn some_open(rng: &mut Rng) -> Vec<(Costs, Step)> {
     let edges = [(floors::one_wall(44), floors::goal_step(0, 99)), (floors::uniform(1), floors::goal_step(63, 44))];
-    let some = inputs(&mut rng).into_iter().step_by(3);
-    let all: Vec<(Costs, Step)> = edges.into_iter().chain(some).collect();
-    all.into_iter().map(|(costs, step)| sector(costs, step, previous(&mut rng))).collect()
+    edges.into_iter().chain(open_inputs(rng).into_iter().step_by(3)).collect()
 }
 
-/// A leg, and whether the Rust decides it. Cost bytes of sectors not named are made 1.
-fn leg(case: &Case) -> (bool, Vec<u8>) {
+/// Goal 99 and sector 63 with a wall under the goal, then a part of the floors with walls there.
+fn some_on_walls(rng: &mut Rng) -> Vec<(Costs, Step)> {
+    let edges = [(floors::one_wall(99), floors::goal_step(0, 99)), (floors::one_wall(44), floors::goal_step(63, 44))];
+    edges.into_iter().chain(inputs_on_walls(rng).into_iter().step_by(2)).collect()
+}
+
+fn sectors(mut rng: Rng, inputs: fn(&mut Rng) -> Vec<(Costs, Step)>) -> Vec<Vec<u8>> {
+    inputs(&mut rng).into_iter().map(|(costs, step)| sector(costs, step, previous(&mut rng))).collect()
+}
+
+/// A leg, and who decides it. Cost bytes of sectors not named are made 1.
+fn leg(case: &Case) -> (Judge, Vec<u8>) {
     let steps = &case.steps;
     let part = |step: &[u8]| usize::from(step[0]) * CELLS..(usize::from(step[0]) + 1) * CELLS;
     let mut floor = vec![1; 64 * CELLS];
@@ -351,21 +379,23 @@ fn leg(case: &Case) -> (bool, Vec<u8>) {
     record.extend(parts(&floor));
     record.push(number);
     record.extend(parts(&sheet));
-    (judges[Judge::Published as usize], record)
+    let judge = Judge::ALL.into_iter().find(|judge| judges[*judge as usize]);
+    (judge.expect("a judge decided the leg"), record)
 }
 
-/// A leg over floors of any kind.
+/// A leg over floors of any kind, but for walls under its goal and its window cells.
 fn leg_on_any(rng: &mut Rng, steps: Vec<u8>) -> Case {
     let mut costs = vec![1; 64 * CELLS];
     for step in steps.chunks(8) {
         let at = usize::from(step[0]) * CELLS;
         costs[at..at + CELLS].copy_from_slice(&floors::any(rng));
     }
+    floors::open_leg(rng, &mut costs, &steps);
     Case { costs, steps, ..Case::of(Call::Leg) }
 }
 
-/// Sixteen steps, legs of any length, then legs that meet each kind of window, and 15 at the first step that can have it,
-/// in the middle and at the last.
+/// Sixteen steps, legs of any length, then legs that meet each kind of window, 15 at the first step that can have it, in
+/// the middle and at the last, and legs with walls under goals and window cells, of each kind and at such steps.
 fn all_legs(mut rng: Rng) -> Vec<Case> {
     let mut cases = vec![leg_on_any(&mut rng, floors::straight_leg(16))];
     for most in [1, 2, 3, 5, 8, 12, 16] {
@@ -377,12 +407,13 @@ fn all_legs(mut rng: Rng) -> Vec<Case> {
     cases.extend([2, 4, 8, 16].map(|steps| groups::leg_that_counts(&mut rng, steps)));
     cases.extend(groups::leg_kinds().map(|kind| groups::leg_that_meets(&mut rng, kind)));
     cases.extend([(2, 2), (16, 2), (12, 7), (16, 16)].map(|(steps, at)| groups::closed_leg(&mut rng, steps, at)));
+    cases.extend(groups::wall_kinds().map(|kind| groups::leg_on_walls_that_meets(&mut rng, kind)));
     cases
 }
 
-/// The legs in which every window cell counts, which the Rust decides, or the others.
-fn legs(rng: Rng, by_rust: bool) -> Vec<Vec<u8>> {
-    all_legs(rng).iter().map(leg).filter(|(rust, _)| *rust == by_rust).map(|(_, record)| record).collect()
+/// The legs that a judge decides.
+fn legs(rng: Rng, judge: Judge) -> Vec<Vec<u8>> {
+    all_legs(rng).iter().map(leg).filter(|(by, _)| *by == judge).map(|(_, record)| record).collect()
 }
 
 /// One thing that is refused, or only just taken.
@@ -410,8 +441,10 @@ fn refusal(case: &Case) -> Vec<u8> {
     record.push(place as u8);
     record.extend(short(case.field.los_corners[place]));
     record.extend(coordinates(case.cells));
+    let wall = case.costs.iter().position(|cost| *cost != 1);
+    record.extend(short(wall.unwrap_or(65535)));
     record.extend(case.steps.iter().copied().chain(std::iter::repeat(0)).take(136));
-    record.extend([number, 0, 0, 0, 0]);
+    record.extend([number, 0, 0]);
     record
 }
 
@@ -512,6 +545,8 @@ fn refusals() -> Vec<Vec<u8>> {
     let steps = goals_at_limits().into_iter().chain(windows_at_limits()).enumerate();
     cases.extend(steps.map(|(k, step)| Case { steps: step.to_vec(), ..sound(calls[k % 6]) }));
     cases.extend(legs_at_limits().into_iter().map(|steps| Case { steps, ..sound(Call::Leg) }));
+    cases.extend([Call::Init, Call::Sector, Call::Leg].into_iter().flat_map(walls_at_limits));
+    cases.extend(legs_on_walls());
     cases.extend(lists_at_limits());
     cases.extend(previous_at_limits());
     for call in [Call::Line, Call::LineEnd] {
@@ -522,6 +557,69 @@ fn refusals() -> Vec<Vec<u8>> {
         }));
     }
     cases.iter().map(refusal).collect()
+}
+
+/// A call with nothing wrong with it but perhaps this step, and this one wall.
+fn on_wall(call: Call, step: Step, wall: usize) -> Case {
+    let mut case = Case { steps: step.to_vec(), ..sound(call) };
+    case.costs[wall] = 255;
+    case
+}
+
+/// A goal and a window with walls under them, beside them and under what is not read; a window turned about, with a wall at
+/// an end; lengths that are refused before.
+fn walls_at_limits(call: Call) -> Vec<Case> {
+    let (goal, east) = (floors::goal_step(0, 44), floors::window_step(0, 1, 2, 5));
+    let unread = [changed(goal, &[(3, 50), (4, 70), (5, 3)]), changed(east, &[(1, 44)])];
+    let turned = changed(east, &[(3, 59), (4, 29)]);
+    let goals = [44, 43, 45, 0].map(|wall| (goal, wall));
+    let windows = [29, 39, 49, 59, 19, 69, 38, 40].map(|wall| (east, wall));
+    let others = [(unread[0], 50), (unread[1], 44), (turned, 29), (turned, 59), (changed(goal, &[(2, 2)]), 44)];
+    let steps = goals.into_iter().chain(windows).chain(others);
+    let mut cases: Vec<Case> = steps.map(|(step, wall)| on_wall(call, step, wall)).collect();
+    let short = on_wall(call, goal, 44);
+    cases.push(Case { costs: short.costs[1..].to_vec(), ..short.clone() });
+    cases.push(Case { steps: goal[1..].to_vec(), ..short.clone() });
+    if call != Call::Init {
+        cases.push(Case { sheet: short.sheet[1..].to_vec(), ..short });
+    }
+    cases
+}
+
+/// Legs with one wall: under a step's window or under the same cell of another sector, and with 4 to 10 due at another step.
+/// Previous fields of another length than 100, with a wall under the goal.
+fn legs_on_walls() -> Vec<Case> {
+    let goal = floors::goal_step(0, 44);
+    let window = |sector: usize, boundary: usize| floors::window_step(sector, boundary, 2, 5);
+    let west = window(1, 3);
+    let turned = changed(west, &[(3, 50), (4, 20)]);
+    let legs: [(&[Step], usize); 13] = [
+        (&[goal, west], 130),
+        (&[goal, west], 30),
+        (&[goal, west], 144),
+        (&[goal, west], 230),
+        (&[goal, turned], 120),
+        (&[goal, turned], 44),
+        (&[goal, changed(west, &[(2, 2)])], 44),
+        (&[goal, floors::goal_step(1, 100)], 44),
+        (&[goal, changed(west, &[(0, 64)])], 44),
+        (&[window(0, 1)], 39),
+        (&[goal, floors::goal_step(1, 44)], 144),
+        (&[goal, window(8, 2)], 893),
+        (&[goal, west, window(0, 1)], 39),
+    ];
+    let leg = |(steps, wall): (&[Step], usize)| {
+        let mut case = Case { steps: steps.concat(), ..sound(Call::Leg) };
+        case.costs[wall] = 255;
+        case
+    };
+    let sixteen = [Case { steps: floors::straight_leg(16), ..leg((&[], 859)) }];
+    let previous = [99, 100, 101].map(|length| Case {
+        previous_lent: true,
+        previous: vec![0; length],
+        ..on_wall(Call::Sector, goal, 44)
+    });
+    legs.into_iter().map(leg).chain(sixteen).chain(previous).collect()
 }
 
 /// Corner lists at the limits of 11.

@@ -4,6 +4,7 @@
 use oracle::judges::Judge;
 use oracle::model::{Model, Slip};
 use oracle::records::sections;
+use oracle::refusals::ON_WALL;
 use oracle::subject::*;
 
 /// Reads a record from its start.
@@ -66,7 +67,9 @@ fn a_file_without_a_rust_judge_says_so_in_its_name() {
         .filter(|section| !section.judges().contains(&Judge::Published))
         .map(|section| section.name)
         .collect();
-    assert_eq!(without, ["leg.model", "refusals.table", "leg_file_write.model", "leg_file_read.model"]);
+    let legs = ["leg.model", "leg.table"];
+    let due = [&["init.table", "sector.table"][..], &legs, &["refusals.table"]].concat();
+    assert_eq!(without, [&due[..], &["leg_file_write.model", "leg_file_read.model"]].concat());
     assert!(sections.iter().all(|section| section.name.contains('.') == without.contains(&section.name)));
 }
 
@@ -102,11 +105,14 @@ fn readers() {
 
 #[test]
 fn fields() {
-    each("init", |r| {
-        let answer = MODEL.init(r.bytes(100), r.bytes(8));
-        let (number, list, cells) = (r.byte(), r.list(), r.cells());
-        assert_eq!(answer, InitAnswer { number, field: field(cells, list) });
-    });
+    for (name, due) in [("init", 0), ("init.table", ON_WALL)] {
+        each(name, |r| {
+            let answer = MODEL.init(r.bytes(100), r.bytes(8));
+            let (number, list, cells) = (r.byte(), r.list(), r.cells());
+            assert_eq!(answer, InitAnswer { number, field: field(cells, list) });
+            assert_eq!(number, due);
+        });
+    }
     each("build", |r| {
         let (costs, cells, list) = (r.bytes(100), r.cells(), r.list());
         let answer = MODEL.build(costs, field(cells, list));
@@ -132,19 +138,25 @@ fn flows() {
 
 #[test]
 fn sectors() {
-    each("sector", |r| {
+    for (name, due) in [("sector", 0), ("sector.table", ON_WALL)] {
+        sectors_of(name, due);
+    }
+}
+
+fn sectors_of(name: &str, due: u8) {
+    each(name, |r| {
         let (costs, step, lent, numbers) = (r.bytes(100), r.bytes(8), r.byte() == 1, r.cells());
         let mut sheet = [0x55; CELLS];
         let answer = MODEL.sector(costs, step, Previous { lent, numbers: &numbers }, &mut sheet);
         let (number, waves, list, cells) = (r.byte(), usize::from(r.byte()), r.list(), r.cells());
         assert_eq!(answer, BuildAnswer { number, field: field(cells, list), waves });
-        assert_eq!(sheet, r.bytes(100));
+        assert_eq!((&sheet[..], number), (r.bytes(100), due));
     });
 }
 
 #[test]
 fn legs() {
-    for name in ["leg", "leg.model"] {
+    for name in ["leg", "leg.model", "leg.table"] {
         legs_of(name);
     }
 }
@@ -162,6 +174,10 @@ fn legs_of(name: &str) {
         }
         assert_eq!(MODEL.leg(&floor, steps, &mut sheet), number);
         assert_eq!(sheet, expected);
+        if name == "leg.table" {
+            assert!([8, ON_WALL].contains(&number));
+            return;
+        }
         let plan = MODEL.plan(&floor, steps);
         let whole = !plan.closed && plan.steps.iter().all(|step| step.counting == step.window);
         assert_eq!(whole, name == "leg");
@@ -172,10 +188,11 @@ fn legs_of(name: &str) {
 fn refusals() {
     each("refusals.table", |r| {
         let call = r.byte();
-        let (costs, mut sheet, length) = (vec![1; r.short()], vec![0x55; r.short()], r.short());
+        let (mut costs, mut sheet, length) = (vec![1; r.short()], vec![0x55; r.short()], r.short());
         let (lent, numbers, count) = (r.byte() == 1, vec![0; r.short()], r.short());
         let (place, corner) = (usize::from(r.byte()), r.short());
-        let (cells, steps, number) = ([r.cell(), r.cell()], &r.bytes(136)[..length], r.byte());
+        let (cells, wall, steps, number) = ([r.cell(), r.cell()], r.short(), &r.bytes(136)[..length], r.byte());
+        costs.iter_mut().skip(wall).take(1).for_each(|cost| *cost = 255);
         let mut given = IntegrationField { count, ..IntegrationField::ZERO };
         given.los_corners[place] = corner;
         let previous = Previous { lent, numbers: &numbers };

@@ -7,8 +7,9 @@ use borrow.Author.Needs.{needs}
 use denote.Ref.{now}
 use Rattle.integration_field.specs.declared.IntegrationField.{IntegrationField}
 use Rattle.started_field.specs.Started.{started, initRefused}
-use Rattle.route.specs.Step.{stepNumber}
+use Rattle.route.specs.Step.{stepNumberOn}
 use Rattle.route.proofs.Targets.{made-target, made-held}
+use Rattle.route.proofs.Walls.{accepted-on}
 use Rattle.integration_init.proofs.Answers.{costs-refused, step-refused, accepts, promised}
 use Rattle.integration_init.proofs.init.Statement.{statement}
 use Rattle.integration_init.proofs.init.Tie as tie
@@ -20,18 +21,18 @@ returns c = let a = c .before .before .before .before .args in
 returns-2 : tie.Need-returns-2
 returns-2 c = let a = c .before .before .before .before .before .before .args in
     promised (now (a .costs)) (now (a .step)) _
-    (c .refused2 .ensures ∙ ap initRefused (c .before .before .step-number .ensures) ∙ step-refused (now (a .costs)) (now (a .step)) (c .before .before .before .if1 .left) (λ e. c .before .if2 .taken (c .before .before .step-number .ensures ∙ e)))
+    (c .refused2 .ensures ∙ ap initRefused (c .before .before .step-number-on .ensures) ∙ step-refused (now (a .costs)) (now (a .step)) (c .before .before .before .if1 .left) (λ e. c .before .if2 .taken (c .before .before .step-number-on .ensures ∙ e)))
 
 -- the step is good, and its target is held
 abbrev start : tie.After-as-target → tie.Start
 start c = c .before .before .before .before .before .before .before
 
-good : (c : tie.After-as-target) → stepNumber (now (start c .args .step)) ≡ 0
-good c = sym (c .before .before .before .step-number .ensures) ∙ c .before .before .if2 .left
+good : (c : tie.After-as-target) → stepNumberOn (now (start c .args .costs)) (now (start c .args .step)) ≡ 0
+good c = sym (c .before .before .before .step-number-on .ensures) ∙ c .before .before .if2 .left
 
 start-requires : tie.Need-start-requires
 start-requires c κs =
-    (c .before .before .before .before .if1 .left, made-held (now (start c .args .step)) (c .before .new .result) (c .as-target .result) (c .before .new .ensures) (c .as-target .ensures) (good c))
+    (c .before .before .before .before .if1 .left, made-held (now (start c .args .step)) (c .before .new .result) (c .as-target .result) (c .before .new .ensures) (c .as-target .ensures) (accepted-on _ _ (good c)))
 
 returns-3 : tie.Need-returns-3
 returns-3 c =

@@ -1,23 +1,24 @@
 -- `leg::each_step` meets its contract. The loop's invariant: the steps from place k on decide.
 -- Assumes nothing.
 use borrow.Author.Needs.{needs}
-use mathlib.Core.Path.{_≡_, sym, _∙_}
+use mathlib.Core.Path.{_≡_, sym, ap, _∙_}
 use Prim.Native.Nat.{_-_, _/_, _≤_}
 use native.Mathlib.Omega.{arith}
 use denote.Ref.{now}
 use lib.ListN.{length}
 use Rattle.route.specs.Table.{firstNumber}
-use Rattle.leg_plan.specs.Leg.{stepsOf, eachRows}
+use Rattle.leg_plan.specs.Leg.{stepsOf, floorNumber, eachRows}
+use Rattle.leg_plan.specs.Inner.{stepAt}
 use Rattle.route.proofs.Rows.{tests}
-use Rattle.leg_plan.proofs.Steps.{stepsFrom, from-start, from-here, from-done, judged-at}
+use Rattle.leg_plan.proofs.Steps.{stepsFrom, from-start, from-here, from-done, lent-step, step-long}
 use Rattle.leg.proofs.each_step.Statement.{statement}
 use Rattle.leg.proofs.each_step.Tie as tie
 
 abbrev Inv-loop : tie.InvT-loop
-Inv-loop steps count k₀ k = (k ≤ length steps / 8) × (firstNumber (eachRows (stepsOf steps)) ≡ firstNumber (eachRows (stepsFrom steps k)))
+Inv-loop floor steps count k₀ k = (k ≤ length steps / 8) × (firstNumber (eachRows floor (stepsOf steps)) ≡ firstNumber (eachRows floor (stepsFrom steps k)))
 
 abbrev μ-loop : tie.MeasureT-loop
-μ-loop steps count k₀ k = length steps / 8 - k
+μ-loop floor steps count k₀ k = length steps / 8 - k
 
 loop-holds : tie.Need-loop-holds Inv-loop μ-loop
 loop-holds c = (omega arith, search from-start)
@@ -25,27 +26,40 @@ loop-holds c = (omega arith, search from-start)
 mul-at : tie.Need-mul-at Inv-loop μ-loop
 mul-at c = omega arith
 
-add-step-number : tie.Need-add-step-number Inv-loop μ-loop
-add-step-number c = omega arith
+add-floor-number : tie.Need-add-floor-number Inv-loop μ-loop
+add-floor-number c = omega arith
 
-sub-step-number : tie.Need-sub-step-number Inv-loop μ-loop
-sub-step-number c = omega arith
+sub-floor-number : tie.Need-sub-floor-number Inv-loop μ-loop
+sub-floor-number c = omega arith
 
-part-step-number-start : tie.Need-part-step-number-start Inv-loop μ-loop
-part-step-number-start c = omega arith
+part-floor-number-start : tie.Need-part-floor-number-start Inv-loop μ-loop
+part-floor-number-start c = omega arith
 
-part-step-number-end : tie.Need-part-step-number-end Inv-loop μ-loop
-part-step-number-end c = omega arith
+part-floor-number-end : tie.Need-part-floor-number-end Inv-loop μ-loop
+part-floor-number-end c = omega arith
 
-step-number-requires : tie.Need-step-number-requires Inv-loop μ-loop
-step-number-requires c κs = search needs
+floor-number-requires : tie.Need-floor-number-requires Inv-loop μ-loop
+floor-number-requires c κs =
+    let at = c .before .before in
+    let start = at .before .before .before in
+    let steps = now (start .args .steps) in
+    (start .pre, ap length (lent-step steps (at .loop .k)) ∙ step-long steps (at .loop .k) (omega arith))
+
+-- from where a step is judged: the loop's head, the start, and the step's number
+abbrev Done : Type 0
+Done = tie.After-floor-number Inv-loop μ-loop
+
+abbrev start : Done → tie.Start Inv-loop μ-loop
+start j = j .before .before .before .before .before .before
+
+number : (j : Done) → let a = start j .args in
+    j .floor-number .result ≡ floorNumber (now (a .floor)) (stepAt (now (a .steps)) (j .before .before .before .loop .k))
+number j =
+    let a = start j .args in
+    j .floor-number .ensures ∙ ap (floorNumber (now (a .floor))) (lent-step (now (a .steps)) (j .before .before .before .loop .k))
 
 returns : tie.Need-returns Inv-loop μ-loop
-returns c =
-    let judged = c .before in
-    let at = judged .before .before .before in
-    let number = judged .step-number .ensures ∙ judged-at (now (at .before .before .args .steps)) (at .loop .k) (omega arith) in
-    search (tests, at .loop .inv .1, from-here, sym number)
+returns c = let j = c .before in search (tests, j .before .before .before .loop .inv .1, from-here, sym (number j))
 
 add-k : tie.Need-add-k Inv-loop μ-loop
 add-k c = omega arith
@@ -55,10 +69,8 @@ loop-less c = omega arith
 
 loop-again : tie.Need-loop-again Inv-loop μ-loop
 loop-again c =
-    let judged = c .before in
-    let at = judged .before .before .before in
-    let number = judged .step-number .ensures ∙ judged-at (now (at .before .before .args .steps)) (at .loop .k) (omega arith) in
-    (omega arith, search (tests, at .loop .inv .1, from-here, sym number ∙ c .if1 .left))
+    let j = c .before in
+    (omega arith, search (tests, j .before .before .before .loop .inv .1, from-here, sym (number j) ∙ c .if1 .left))
 
 returns-2 : tie.Need-returns-2 Inv-loop μ-loop
 returns-2 c = search (c .before .loop .inv .1, from-done)
@@ -71,11 +83,11 @@ each-step-spec =
     μ-loop
     loop-holds
     mul-at
-    add-step-number
-    sub-step-number
-    part-step-number-start
-    part-step-number-end
-    step-number-requires
+    add-floor-number
+    sub-floor-number
+    part-floor-number-start
+    part-floor-number-end
+    floor-number-requires
     returns
     add-k
     loop-less

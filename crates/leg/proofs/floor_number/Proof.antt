@@ -1,0 +1,73 @@
+-- `leg::floor_number` meets its contract: 4 for a sector that is off the floor, else the number on the part of the floor that is cut for it.
+-- Assumes nothing.
+use mathlib.Core.Path.{_≡_, ap, _∙_}
+use mathlib.Core.List.{List}
+use Prim.Native.Nat.{ℕ, _+_, _-_, _*_}
+use native.Mathlib.Omega.{arith}
+use borrow.Author.Needs.{needs}
+use denote.Ref.{now}
+use lib.ListN.{length, take, drop}
+use Rattle.route.specs.Step.{sectorOf, eachStepOn, stepNumberOn}
+use Rattle.route.proofs.Rows.{tests}
+use Rattle.route.proofs.Walls.{each-step-on}
+use Rattle.leg_plan.specs.Leg.{floorNumber}
+use Rattle.leg.proofs.floor_number.Statement.{statement}
+use Rattle.leg.proofs.floor_number.Tie as tie
+
+-- the part as it is lent
+cut : (floor step : List ℕ) (at : ℕ) → at ≡ sectorOf step * 100 → length step ≡ 8
+    → stepNumberOn (take (at + 100 - at) (drop at floor)) step ≡ floorNumber floor step
+cut floor step at e h = let n : at + 100 - at ≡ 100 = omega arith in rw (n, e) (each-step-on _ step h)
+
+-- from where the sector is read: the call
+abbrev start : tie.After-wide → tie.Start
+start w = w .before .before .before .before .before
+
+shared-slice-read-sector : tie.Need-shared-slice-read-sector
+shared-slice-read-sector c = omega (arith, c .before .before .before .pre .1)
+
+returns : tie.Need-returns
+unfolding eachStepOn
+returns c = search tests
+
+wide-requires : tie.Need-wide-requires
+wide-requires c κs = search needs
+
+mul-at : tie.Need-mul-at
+mul-at c = search needs
+
+add-step-number-on : tie.Need-add-step-number-on
+add-step-number-on c = search needs
+
+sub-step-number-on : tie.Need-sub-step-number-on
+sub-step-number-on c = search needs
+
+part-step-number-on-start : tie.Need-part-step-number-on-start
+part-step-number-on-start c = search needs
+
+part-step-number-on-end : tie.Need-part-step-number-on-end
+part-step-number-on-end c = omega (arith, start c .pre .0, c .before .if1 .left, c .wide .ensures)
+
+step-number-on-requires : tie.Need-step-number-on-requires
+step-number-on-requires c κs = search needs
+
+returns-2 : tie.Need-returns-2
+returns-2 c =
+    let w = c .before .before in
+    let a = start w .args in
+    c .step-number-on .ensures ∙ cut (now (a .floor)) (now (a .step)) _ (ap (λ (n : ℕ). n * 100) (w .wide .ensures)) (start w .pre .1)
+
+pub floor-number-spec : {M : Type 1} → statement M
+floor-number-spec =
+    tie.close
+    (tie.spec
+    shared-slice-read-sector
+    returns
+    wide-requires
+    mul-at
+    add-step-number-on
+    sub-step-number-on
+    part-step-number-on-start
+    part-step-number-on-end
+    step-number-on-requires
+    returns-2)
