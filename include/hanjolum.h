@@ -19,8 +19,8 @@
  * Floating point.  Sight uses single precision, rounded to nearest: leave the processor's mode as a C program starts.
  *
  * Cells.  A sector is ten by ten cells; the cell at a column and a row has the index row * 10 + column, row 0 is north.
- * A cost field is 100 cost bytes by index; 255 is a wall, save under a goal or a window cell. A sheet of a sector is
- * 100 flow bytes by index.
+ * A cost field is 100 cost bytes by index; 255 is a wall, and no goal and no window cell may stand on one (16). A sheet of
+ * a sector is 100 flow bytes by index.
  * A floor is 64 sectors of 100 cost bytes one after the other, sector s at column s % 8 and row s / 8 of the floor;
  * a floor's sheet is laid out alike.
  *
@@ -46,6 +46,7 @@
  *     6   mark 1: a window cell over 99, or boundary over 3
  *     7   mark 1: a window cell off the named edge (North row 0, East column 9, South row 9, West column 0)
  *     8   mark 1: first cell after last
+ *     16  mark 0: goal of cost 255; mark 1: a cell of the window of cost 255
  *     9   leg: first step with a window, later one without, or a sector named twice
  *     10  leg: the sector across the boundary is not that of the step before, or is off the floor
  *     11  building by hand: corner count over 100, or a listed corner over 99
@@ -53,8 +54,9 @@
  *     13  a column or row outside 0 to 9
  *     14  leg file: mark, version, count or length wrong
  *     15  leg: a window with no counting cell, found when its step is planned, after 10
- * In a leg 4 to 8 are judged for one step before the next. The writer of a leg file judges 3 as a leg does, and then 2
- * for a buffer that is not exactly as long as the file.
+ * In a leg 4 to 8 and 16 are judged for one step before the next, 16 on the costs of the step's own sector, and for every
+ * cell of a window, also for one that would not count. The writer of a leg file judges 3 as a leg does, and then 2 for a
+ * buffer that is not exactly as long as the file.
  *
  * Time and stack.  Every call ends, on all input. Each wave is one call on the stack, of 1,280 bytes in the compiled
  * archive, and there are at most 101 at a time: no call needs as much as 150,000 bytes (read off the archive, not proved).
@@ -169,7 +171,7 @@ typedef struct {
  * cell always does.
  * With a window, and no cost of 0, the arrows lead from every reached cell into the window in at most 99 moves, over no
  * wall and between no two walls. With a goal that is not promised: behind a wall two arrows may point at each other.
- * Numbers 1, 2, 3, 4 to 8, 12.
+ * Numbers 1, 2, 3, 4 to 8, 16, 12.
  */
 HanjolumBuildAnswer hanjolum_sector(
     const uint8_t *costs, size_t costs_length,
@@ -182,13 +184,13 @@ HanjolumBuildAnswer hanjolum_sector(
  * Plans a leg of 1 to 16 steps over a floor, from the goal back: the first step has the goal, each later one a window
  * that faces the sector of the step before it in the list. Each step's built field serves as previous field of the next.
  * A window cell counts only if a cell that it faces was reached in the sector of the step before: the one straight across,
- * or one that faces its neighbour in the window. A cell that does not count is as any cell of its sector, wall or floor by
- * its cost: the field does not start from it, and its arrow is that of any floor. With no cost of 0 the arrows of a sector
- * left by a window lead into one of the cells that count. A window of which no cell counts is 15. (hanjolum_sector, called
- * by itself, starts from the whole window.)
+ * or one that faces its neighbour in the window. A cell that does not count is as any floor of its sector: the field does
+ * not start from it, and its arrow is that of any floor. With no cost of 0 the arrows of a sector left by a window lead
+ * into one of the cells that count. A window of which no cell counts is 15. (hanjolum_sector, called by itself, starts
+ * from the whole window.)
  * All steps are planned before the sheet is written: a refusal, 15 too, leaves every byte of it. Writes the 100 bytes of
  * each named sector to the sheet, at sector * 100; all other bytes of the sheet stay as they were.
- * Answers its number: 0, 1 to 10, or 15.
+ * Answers its number: 0, 1 to 10, 15 or 16.
  */
 uint8_t hanjolum_leg(
     const uint8_t *floor, size_t floor_length,
@@ -213,7 +215,7 @@ HanjolumLegFile hanjolum_leg_file_read(const uint8_t *file, size_t file_length);
 
 /*
  * The field that a step starts on 100 cost bytes: walls, and the goal with what is in its sight, or the window cells.
- * Numbers 1, 3, 4 to 8.
+ * Numbers 1, 3, 4 to 8, 16.
  */
 HanjolumInitAnswer hanjolum_init(
     const uint8_t *costs, size_t costs_length,
