@@ -30,7 +30,7 @@ ghost use Rattle.leg_plan.specs.Promise.{LegPlanned};
 ghost use Rattle.leg_file.specs.File.{writeNumber, writtenFile, fileSteps, fileAnswer};
 ghost use Rattle.leg_file.specs.Promise.{ReadBack, WrittenSame};
 
-// The sector call: the field that a step starts, built, and its flow bytes, or number 1, 2, 3, 4 to 8, or 12.
+// The sector call: the field that a step starts, built, and its flow bytes, or number 1, 2, 3, 4 to 8, 16, or 12.
 #[no_mangle]
 pub extern "C" fn hanjolum_sector(
     costs: &[u8],
@@ -46,7 +46,7 @@ pub extern "C" fn hanjolum_sector(
     sector::plan_sector(costs, step, has_previous, previous, sheet)
 }
 
-// A leg of one to sixteen steps, planned onto the sheet of a floor: 0, or number 1 to 10.
+// A leg of one to sixteen steps, planned onto the sheet of a floor: 0, or number 1 to 10, 15, or 16.
 #[no_mangle]
 pub extern "C" fn hanjolum_leg(floor: &[u8], steps: &[u8], sheet: &mut [u8]) -> u8
     ensures number { λ r. ⌜ r ≡ legNumber (now (floor .entry)) (now (steps .entry)) (now (sheet .entry)) ⌝ }
@@ -76,7 +76,7 @@ pub extern "C" fn hanjolum_leg_file_read(file: &[u8]) -> LegFile
     leg_reader::locate(file)
 }
 
-// The field that a step starts on a sector's costs, or number 1, 3, or 4 to 8.
+// The field that a step starts on a sector's costs, or number 1, 3, 4 to 8, or 16.
 #[no_mangle]
 pub extern "C" fn hanjolum_init(costs: &[u8], step: &[u8]) -> InitAnswer
     ensures answer { λ r. ⌜ r ≡ initAnswer (now (costs .entry)) (now (step .entry)) ⌝ }
