@@ -60,13 +60,14 @@ static int counts(const uint32_t *field, const uint8_t *next)
     return 0;
 }
 
-/* The waves of a sector, or -1 where the next step, if there is one, could not be planned behind it. */
+/* The waves of a sector, or -1 where it is refused, having a wall under its goal or its window, or where the next step, if
+   there is one, could not be planned behind it. */
 static long waves_of(const uint8_t *costs, const uint8_t *step, const uint8_t *next)
 {
     uint8_t scratch[HANJOLUM_CELLS];
     HanjolumBuildAnswer built =
         hanjolum_sector(costs, HANJOLUM_CELLS, step, HANJOLUM_STEP, false, NULL, 0, scratch, sizeof scratch);
-    return next == NULL || counts(built.field.field, next) ? (long)built.waves : -1;
+    return built.number == 0 && (next == NULL || counts(built.field.field, next)) ? (long)built.waves : -1;
 }
 
 /* Changes a sector's costs until its field takes many waves; answers how many. The sector before it in the list is open,
