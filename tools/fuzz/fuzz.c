@@ -1,8 +1,9 @@
 /*
  * Random calls through the C interface, with every lent buffer fenced by pages that no access is allowed to.
  * Lengths go from 0 past every limit, bytes are any or nearly good. A refused call must leave its sheet as it was and
- * answer zeros, and a leg must leave the sectors that it does not name. A fault, and a run in which no call was accepted or
- * none refused, no leg of several steps planned or none refused with 15, is one line on standard error and exit status 1.
+ * answer zeros, and a leg must leave the sectors that it does not name. No step is accepted with a wall under its goal or a
+ * window cell. A fault, and a run in which no call was accepted or none refused, no leg of several steps planned, none
+ * refused with 15, or init, the sector call or a leg never refused with 16, is one line on standard error and exit status 1.
  */
 #define _DEFAULT_SOURCE
 #include <stdio.h>
@@ -146,8 +147,8 @@ static int zeros(const void *part, size_t length)
 }
 
 /* How many calls answered 0, and how many a number; how many legs of several steps were planned, and how many had a window
-   in which no cell counts. */
-static unsigned long accepted, turned_away, planned, closed;
+   in which no cell counts; how many of init, sector calls and legs had a step on a wall. */
+static unsigned long accepted, turned_away, planned, closed, on_wall[3];
 
 static void counted(uint8_t number)
 {
@@ -166,6 +167,36 @@ static void line(HanjolumLine l)
         fail("a refused line has cells");
     if (l.count > 10)
         fail("a line has more than ten cells");
+}
+
+/* A wall under the goal or a window cell of the step at a place, as far as there are costs, or NULL. The costs of a leg's
+   step begin where its sector stands. */
+static uint8_t *wall_under(const Fenced *costs, const Fenced *route, size_t at, int leg)
+{
+    const uint8_t *s = route->at + at;
+    size_t first = s[2] ? s[3] : s[1], last = s[2] ? s[4] : s[1], own = leg ? 100 * (size_t)s[0] : 0;
+    for (size_t cell = first; cell <= last && own + cell < costs->length; cell += s[2] && s[5] % 2 ? 10 : 1)
+        if (costs->at[own + cell] == HANJOLUM_WALL)
+            return costs->at + own + cell;
+    return NULL;
+}
+
+/* Makes the walls under the steps of a leg floor. */
+static void open_steps(const Fenced *costs, const Fenced *route)
+{
+    uint8_t *wall;
+    for (size_t i = 0; i + 8 <= route->length; i += 8)
+        while ((wall = wall_under(costs, route, i, 1)) != NULL)
+            *wall = 1;
+}
+
+/* Looks at 16, which init (0), a sector call (1) and a leg (2) have: the steps of an accepted call stand on no wall. */
+static void walls(int call, uint8_t number, const Fenced *costs, const Fenced *route)
+{
+    on_wall[call] += number == 16;
+    for (size_t i = 0; number == 0 && i < route->length; i += 8)
+        if (wall_under(costs, route, i, call == 2) != NULL)
+            fail("a step on a wall is accepted");
 }
 
 static uint8_t before[SPACE];
@@ -205,6 +236,7 @@ static void a_leg(const Fenced *costs, const Fenced *route, Fenced *sheet)
     uint64_t named = 0;
     uint8_t number = hanjolum_leg(costs->at, costs->length, route->at, route->length, sheet->at, sheet->length);
     kept(number, sheet);
+    walls(2, number, costs, route);
     closed += number == 15;
     planned += number == 0 && route->length > 8;
     for (size_t i = 0; number == 0 && i < route->length; i += 8)
@@ -225,6 +257,8 @@ static void round_of_calls(Fenced *costs, Fenced *route, Fenced *previous, Fence
     place(sheet, near(leg ? 6400 : 100));
     fill(costs);
     steps(route, leg);
+    if (leg && below(2))
+        open_steps(costs, route);
     fill(previous);
     fill(sheet);
     memcpy(before, sheet->at, sheet->length);
@@ -237,9 +271,11 @@ static void round_of_calls(Fenced *costs, Fenced *route, Fenced *previous, Fence
     bool has = below(2);
     HanjolumBuildAnswer a = hanjolum_sector(costs->at, costs->length, route->at, route->length, has, numbers, count, sheet->at, sheet->length);
     kept(a.number, sheet);
+    walls(1, a.number, costs, route);
     refused(a.number, a.field, a.waves);
     HanjolumInitAnswer i = hanjolum_init(costs->at, costs->length, route->at, route->length);
     counted(i.number);
+    walls(0, i.number, costs, route);
     refused(i.number, i.field, 0);
     HanjolumBuildAnswer b = hanjolum_build(costs->at, costs->length, field());
     counted(b.number);
@@ -282,8 +318,11 @@ static void report(unsigned long rounds)
         fail("no call was accepted, or none was refused");
     if (planned == 0 || closed == 0)
         fail("no leg of several steps was planned, or none was refused with 15");
-    printf("%lu rounds of calls, %lu accepted and %lu refused, %lu legs of several steps planned and %lu refused with 15, nothing found\n",
-           rounds, accepted, turned_away, planned, closed);
+    if (on_wall[0] == 0 || on_wall[1] == 0 || on_wall[2] == 0)
+        fail("init, the sector call or a leg was never refused with 16");
+    printf("%lu rounds of calls, %lu accepted and %lu refused, %lu legs of several steps planned and %lu refused with 15, "
+           "%lu init, %lu sector calls and %lu legs refused with 16, nothing found\n",
+           rounds, accepted, turned_away, planned, closed, on_wall[0], on_wall[1], on_wall[2]);
     written();
 }
 
