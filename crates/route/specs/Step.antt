@@ -77,13 +77,13 @@ eachStep s = firstNumber (stepRows s)
 unfoldable pub stepNumber : List ℕ → ℕ
 stepNumber s = firstNumber (row 3 (not (eqb (length s) 8)) ∷ stepRows s)
 
--- ---- on its sector's costs
+-- ---- on its sector's costs (02, "Job 3")
 
--- a cell has cost 255: it is a wall
+-- a cell of cost 255 (02, "Job 3")
 abbrev pub isWallCost : List ℕ → ℕ → Bool
 isWallCost costs i = eqb (getD costs i 0) 255
 
--- some cell of a list has
+-- some cell of a list is one (02, "Job 3": any window cell)
 abbrev pub someWallCost : List ℕ → List ℕ → Bool
 someWallCost costs [] = false
 someWallCost costs (i ∷ cells) = isWallCost costs i || someWallCost costs cells
