@@ -57,7 +57,7 @@ module _ {costs window cells corners built : List ℕ} (s : Sector costs window 
     pub no-window : Among x window → ⊥
     pub no-wall : getD costs x 0 ≡ 255 → ⊥
 
-  window-word : (x : ℕ) → Among x window → getD built x 0 ≡ 0x80000
+  pub window-word : (x : ℕ) → Among x window → getD built x 0 ≡ 0x80000
   window-word x a = go (s .least .attained x)
     where
       was : getD cells x 0 ≡ 0x80000

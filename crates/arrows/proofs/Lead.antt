@@ -2,6 +2,7 @@
 --     arrows-lead      from every reached cell, after at most 99 moves, each to a lower cell and none between two walls; and all of 0xE0
 --                      stands exactly on walls and unreached cells
 --     build-arrows     the same as it is promised of `FlowField::build`
+--     window-flow      a window cell's byte: its flags, and the bits of its window
 --     leads-once       following is determined: two ways to follow the arrows from a cell make as many moves
 --     move-read        and is the same by the direction that a byte reads as
 -- Assumes nothing.
@@ -40,7 +41,7 @@ use Rattle.flow_byte.specs.New.{isIn, startOf, windowBits, newByte, newBytes}
 use Rattle.flow_byte.specs.Look.{lookedByte, lookAround, pointed, builtByte, flowBuild}
 use Rattle.arrows.specs.Arrows.{Reached, arrow, Away, Cuts, Move, Leads, ends, moves, ArrowsLead}
 use Rattle.arrows.specs.Promise.{WindowSector, builtCells, BuildArrows}
-use Rattle.arrows.proofs.Fall.{is-in, in-among, Sector, value, Plain, wall-word, by-kind, Lower, falls, rank, rank-less, rank-few}
+use Rattle.arrows.proofs.Fall.{is-in, in-among, Sector, value, Plain, window-word, wall-word, by-kind, Lower, falls, rank, rank-less, rank-few}
 use Rattle.arrows.proofs.Around.{Sees, differ, near-in, reached-there, reached-back, sees-beside}
 use Rattle.arrows.proofs.Look.{Found, found, Nothing, nothing}
 use Rattle.arrows.proofs.Moves.{away, reads-so, away-once}
@@ -78,13 +79,16 @@ module _ (costs window cells corners built : List ℕ) (s : Sector costs window 
       go true e = absurd (a (in-among x window e))
       go false e = refl
 
-  window-byte : (x : ℕ) → x < 100 → Among x window → getD built x 0 ≡ 0x80000 → Kept (getD bytes x 0)
+  -- it can be walked from the start, so that it does not look
+  window-byte : (x : ℕ) → x < 100 → Among x window → getD built x 0 ≡ 0x80000 → getD bytes x 0 ≡ bitOr 0x90 (windowBits portal has previous x)
   unfolding newByte startOf builtByte
   window-byte x h a e =
       let b = windowBits portal has previous x in
-      let k = portal-kept b (window-bits portal has previous x) in
       let n : newAt x ≡ bitOr 0x90 b = rw (e, is-in x window a) in
-      rw (made x h, n, k .pathable) k
+      rw (made x h, n, portal-kept b (window-bits portal has previous x) .pathable)
+
+  window-kept : (x : ℕ) → x < 100 → Among x window → getD built x 0 ≡ 0x80000 → Kept (getD bytes x 0)
+  window-kept x h a e = rw (window-byte x h a e) (portal-kept (windowBits portal has previous x) (window-bits portal has previous x))
 
   wall-byte : (x : ℕ) → x < 100 → (Among x window → ⊥) → getD built x 0 ≡ 0x200FFFF → getD bytes x 0 ≡ 0xE0
   unfolding newByte startOf builtByte
@@ -208,7 +212,7 @@ module _ (costs window cells corners built : List ℕ) (s : Sector costs window 
 
   marked-cell : (x : ℕ) → x < 100 → isImpassable (getD bytes x 0) ≡ true → Wall costs target x ⊎ (Reached built x → ⊥)
   marked-cell x h m =
-      by-kind s x h (λ a e. absurd (true≢false (sym m ∙ window-byte x h a e .unmarked)))
+      by-kind s x h (λ a e. absurd (true≢false (sym m ∙ window-kept x h a e .unmarked)))
       (λ c a e. inl (record { impassable = c; not-goal = λ g. g; not-window = λ w. a (mem-among x window w) }))
       (λ p l. inr (λ r. (let n = next-of x p l (omega arith) in true≢false (sym m ∙ ap isImpassable (n .byte) ∙ next-pointed n .unmarked))))
 
@@ -252,6 +256,17 @@ arrows-lead costs (to-goal goal) w portal has previous = absurd (true≢false (s
 arrows-lead costs (to-window window) w portal has previous =
     sector-arrows costs window (cells costs window w) (corners costs window w) (builtCells costs (to-window window)) (sector costs window w)
     (λ x h. w .no-zero x h) portal has previous
+
+-- a window cell's byte there: its flags, and the bits of its window
+pub window-flow : (costs window : List ℕ) → WindowSector costs (to-window window) → (portal : PortalWindow) (has : Bool) (previous : List ℕ)
+    → (x : ℕ) → x < 100 → List·Memᴰ x window
+    → getD (flowBuild (builtCells costs (to-window window)) (newBytes portal window (builtCells costs (to-window window)) has previous)) x 0
+    ≡ bitOr 0x90 (windowBits portal has previous x)
+window-flow costs window w portal has previous x h m =
+    let a = mem-among x window m in
+    let s = sector costs window w in
+    window-byte costs window (cells costs window w) (corners costs window w) (builtCells costs (to-window window)) s (λ y l. w .no-zero y l) portal has previous x h a
+    (window-word s x a)
 
 -- for a call that writes what building makes of a sheet of 100 bytes
 pub build-arrows : (cells entry exit : List ℕ) → (length entry ≡ 100 → exit ≡ flowBuild cells entry) → BuildArrows cells entry exit

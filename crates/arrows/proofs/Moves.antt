@@ -72,7 +72,7 @@ module _ (d : CompassDir) (x y : ℕ) where
       }
 
 -- bits that point somewhere, to no two opposite sides, are those of the direction that they read as: computed once, for all sixteen
-abbrev isArrow : ℕ → Bool
+abbrev pub isArrow : ℕ → Bool
 isArrow a = ltb 0 a && leb (northward a + southward a) 1 && leb (eastward a + westward a) 1
 
 unless : (a b : Bool) → a ≡ true → (not a || b) ≡ true → b ≡ true

@@ -109,11 +109,11 @@ pairs side x y h e f l =
 -- ---- what a window cell compares
 
 -- a value that is not an end cell's
-seen-inner : (end : Bool) (value : ℕ) → unlessEnd end value < 65535 → (end ≡ false) × (value < 65535)
+pub seen-inner : (end : Bool) (value : ℕ) → unlessEnd end value < 65535 → (end ≡ false) × (value < 65535)
 seen-inner true value h = absurd (omega arith)
 seen-inner false value h = (refl, h)
 
-one-below : (a b c : ℕ) → (ltb a 65535 || (ltb b 65535 || ltb c 65535)) ≡ true → (a < 65535) ⊎ ((b < 65535) ⊎ (c < 65535))
+pub one-below : (a b c : ℕ) → (ltb a 65535 || (ltb b 65535 || ltb c 65535)) ≡ true → (a < 65535) ⊎ ((b < 65535) ⊎ (c < 65535))
 one-below a b c e = go (ltb a 65535) (ltb b 65535) refl refl e
   where
     go : (p q : Bool) → ltb a 65535 ≡ p → ltb b 65535 ≡ q → (p || (q || ltb c 65535)) ≡ true → (a < 65535) ⊎ ((b < 65535) ⊎ (c < 65535))
