@@ -1,0 +1,63 @@
+-- Places on the floor.
+--     sector-in, cell-in    a sector's cell, by its place
+--     arrow-is              the arrow of a place is that of its sector's part of the sheet
+--     points                an arrow points from a place to another, by its bits
+--     inside                a move inside a sector is one on the floor
+-- Assumes nothing.
+use mathlib.Core.Path.{_≡_, sym, ap, ap₂, _∙_}
+use mathlib.Core.Bool.{true, _&&_, and-eq-true-iff}
+use mathlib.Core.List.{List}
+use Prim.Native.Nat.{ℕ, _+_, _*_, _%_, _<_}
+use native.Mathlib.Omega.{arith}
+use lib.Dec.{ltb, leb}
+use lib.ListN.{getD, drop}
+use lib.Seq.{getD-take, getD-drop}
+use borrow.Author.Tests.{ltb-true, leb-true}
+use Rattle.arrows.specs.Arrows.{arrow, northward, eastward, southward, westward, Away}
+use Rattle.arrows.proofs.Moves.{isArrow}
+use Rattle.leg_plan.specs.Leg.{part}
+use Rattle.journey.specs.Place.{Place, placeOf, sectorIn, cellIn, Points, arrowAt}
+
+module _ (s x : ℕ) (h : x < 100) where
+  pub sector-in : sectorIn (placeOf s x) ≡ s
+  sector-in = omega arith
+
+  pub cell-in : cellIn (placeOf s x) ≡ x
+  cell-in = omega arith
+
+  pub arrow-is : (sheet : List ℕ) → arrowAt sheet (placeOf s x) ≡ arrow (part sheet s) x
+  arrow-is sheet =
+      ap (λ (i : ℕ). getD sheet i 0 % 16) (ap₂ (λ (a b : ℕ). a * 100 + b) sector-in cell-in)
+      ∙ sym (ap (λ (b : ℕ). b % 16) (getD-take 100 (drop (s * 100) sheet) x 0 h ∙ getD-drop (s * 100) sheet x 0))
+
+-- a place of a sector of the floor
+on-floor : (s x : ℕ) → s < 64 → x < 100 → (placeOf s x .row < 80) × (placeOf s x .column < 80)
+on-floor s x h l = (omega arith, omega arith)
+
+module _ (a s t x y : ℕ) (h : t < 64) (l : y < 100) where
+  pub points : isArrow a ≡ true → placeOf t y .row + northward a ≡ placeOf s x .row + southward a
+      → placeOf t y .column + westward a ≡ placeOf s x .column + eastward a → Points a (placeOf s x) (placeOf t y)
+  points e r c =
+      let p = and-eq-true-iff (ltb 0 a && leb (northward a + southward a) 1) (leb (eastward a + westward a) 1) .0 e in
+      let q = and-eq-true-iff (ltb 0 a) (leb (northward a + southward a) 1) .0 (p .0) in
+      record {
+        rows = r;
+        columns = c;
+        somewhere = ltb-true 0 a (q .0);
+        not-north-south = leb-true (northward a + southward a) 1 (q .1);
+        not-east-west = leb-true (eastward a + westward a) 1 (p .1);
+        row-on = on-floor t y h l .0;
+        column-on = on-floor t y h l .1;
+      }
+
+-- a move inside a sector is one on the floor
+pub inside : {a : ℕ} (s x y : ℕ) → s < 64 → y < 100 → Away a x y → Points a (placeOf s x) (placeOf s y)
+inside s x y h l w = record {
+  rows = omega (arith, w .rows);
+  columns = omega (arith, w .columns);
+  somewhere = w .somewhere;
+  not-north-south = w .not-north-south;
+  not-east-west = w .not-east-west;
+  row-on = on-floor s y h l .0;
+  column-on = on-floor s y h l .1;
+}

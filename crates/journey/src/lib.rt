@@ -1,0 +1,1 @@
+// Following a leg's arrows over the whole floor: definitions and theorems, with no code.
