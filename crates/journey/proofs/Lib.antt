@@ -1,2 +1,4 @@
 pub mod Places
 pub mod Crossing
+pub mod Before
+pub mod Arrives

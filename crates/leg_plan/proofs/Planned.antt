@@ -30,7 +30,7 @@ pub part-hundred : (l : List ℕ) (sector : ℕ) → length l ≡ 6400 → secto
 part-hundred l sector e h = simp (length-take, length-drop) (omega arith)
 
 module _ (floor steps sheet : List ℕ) (ready : LegReady floor steps) (sheet-full : length sheet ≡ 6400) where
-  good : (k : ℕ) → k < length (stepsOf steps) → stepNumber (stepOf (stepsOf steps) k) ≡ 0
+  pub good : (k : ℕ) → k < length (stepsOf steps) → stepNumber (stepOf (stepsOf steps) k) ≡ 0
   good k h =
       let g : k < length steps / 8 = omega (arith, steps-count steps) in
       ap stepNumber (step-of steps k g) ∙ ready .accepted k g
@@ -38,7 +38,7 @@ module _ (floor steps sheet : List ℕ) (ready : LegReady floor steps) (sheet-fu
   pub fits : Fits (stepsOf steps) sheet
   fits = record { in-floor = λ k h. accepted-step (stepOf (stepsOf steps) k) (good k h) .sector-in; full = sheet-full }
 
-  target-at : (k : ℕ) → k < length (stepsOf steps) → TargetIn (targetAt floor (stepsOf steps) k)
+  pub target-at : (k : ℕ) → k < length (stepsOf steps) → TargetIn (targetAt floor (stepsOf steps) k)
   target-at k h = leg-target-in (hasBefore k) (builtBefore floor (stepsOf steps) k) (stepOf (stepsOf steps) k) (good k h)
 
   pub leg-planned : LegPlanned floor (stepsOf steps) sheet (planned floor (stepsOf steps) sheet)
