@@ -27,6 +27,7 @@ ghost use Rattle.sector.specs.Sector.{sectorAnswer, sectorSheet};
 ghost use Rattle.sector.specs.Promise.{Planned};
 ghost use Rattle.leg_plan.specs.Leg.{stepsOf, legNumber, legSheet};
 ghost use Rattle.leg_plan.specs.Promise.{LegPlanned};
+ghost use Rattle.journey.specs.Journey.{LegArrives};
 ghost use Rattle.leg_file.specs.File.{writeNumber, writtenFile, fileSteps, fileAnswer};
 ghost use Rattle.leg_file.specs.Promise.{ReadBack, WrittenSame};
 
@@ -52,6 +53,7 @@ pub extern "C" fn hanjolum_leg(floor: &[u8], steps: &[u8], sheet: &mut [u8]) -> 
     ensures number { λ r. ⌜ r ≡ legNumber (now (floor .entry)) (now (steps .entry)) (now (sheet .entry)) ⌝ }
     ensures sheet { λ _. ⌜ now (sheet .exit) ≡ legSheet (now (floor .entry)) (now (steps .entry)) (now (sheet .entry)) ⌝ }
     ensures planned { λ r. ⌜ (r ≡ 0 → LegPlanned (now (floor .entry)) (stepsOf (now (steps .entry))) (now (sheet .entry)) (now (sheet .exit))) ⌝ }
+    ensures arrives { λ r. ⌜ (r ≡ 0 → LegArrives (now (floor .entry)) (stepsOf (now (steps .entry))) (now (sheet .exit))) ⌝ }
 {
     leg::plan_leg(floor, steps, sheet)
 }

@@ -13,6 +13,7 @@ ghost use Rattle.sectors.specs.Floor.{across};
 ghost use Rattle.leg_plan.specs.Leg.{stepsOf, names, namesTwice, someGoal, outOfOrder, isSector, apart, floorNumber, eachRows, judgedRows, legNumber, legSheet};
 ghost use Rattle.leg_plan.specs.Inner.{LegReady, copied};
 ghost use Rattle.leg_plan.specs.Promise.{LegPlanned};
+ghost use Rattle.journey.specs.Journey.{LegArrives};
 ghost use Rattle.leg.specs.Inner.{StepPlanned, StepReady, StepsPlanned, CopyReady};
 
 fn wide(byte: u8) -> usize
@@ -252,6 +253,7 @@ pub fn plan_leg(floor: &[u8], steps: &[u8], sheet: &mut [u8]) -> u8
     ensures number { λ r. ⌜ r ≡ legNumber (now (floor .entry)) (now (steps .entry)) (now (sheet .entry)) ⌝ }
     ensures sheet { λ _. ⌜ now (sheet .exit) ≡ legSheet (now (floor .entry)) (now (steps .entry)) (now (sheet .entry)) ⌝ }
     ensures planned { λ r. ⌜ (r ≡ 0 → LegPlanned (now (floor .entry)) (stepsOf (now (steps .entry))) (now (sheet .entry)) (now (sheet .exit))) ⌝ }
+    ensures arrives { λ r. ⌜ (r ≡ 0 → LegArrives (now (floor .entry)) (stepsOf (now (steps .entry))) (now (sheet .exit))) ⌝ }
 {
     let number = leg_number(floor, steps, sheet.len());
     if number != 0 {

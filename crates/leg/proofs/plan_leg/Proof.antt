@@ -2,14 +2,15 @@
 -- Assumes nothing.
 use mathlib.Core.Path.{_≡_, refl, sym, ap, _∙_}
 use mathlib.Core.List.{List}
-use Prim.Native.Nat.{ℕ}
+use Prim.Native.Nat.{ℕ, _≤_}
 use native.Mathlib.Omega.{arith}
+use lib.ListN.{getD}
 use denote.Ref.{now}
 use Rattle.route.specs.Table.{firstNumber}
 use Rattle.leg_plan.specs.Leg.{stepsOf, judgedRows}
 use Rattle.leg_plan.specs.Inner.{copied}
 use Rattle.leg_plan.proofs.Numbers.{Judged, judged, judged-first, closed-15, open-0, ready}
-use Rattle.leg_plan.proofs.Planned.{refuses, plans}
+use Rattle.journey.proofs.Promised.{refuses, plans}
 use Rattle.leg.proofs.Step.{copy-ready, copies}
 use borrow.Author.Needs.{needs}
 use Rattle.leg.proofs.plan_leg.Statement.{statement}
@@ -25,6 +26,10 @@ first n = n .leg-number .ensures (now (start n .args .sheet)) refl
 
 ok : (e : tie.Else1) → let a = start (e .before) .args in Judged (now (a .floor)) (now (a .steps)) (now (a .sheet))
 ok e = let a = start (e .before) .args in judged (now (a .floor)) (now (a .steps)) (now (a .sheet)) (sym (first (e .before)) ∙ e .if1 .left)
+
+-- the costs of a floor are bytes
+cost-bytes : (n : tie.After-leg-number) → (i : ℕ) → getD (now (start n .args .floor)) i 0 ≤ 255
+cost-bytes n i = omega (arith, n .before .before .before .shared-slice-known .given i)
 
 abbrev judging : tie.After-plan-steps → tie.Else1
 judging p = p .before .before
@@ -73,7 +78,7 @@ returns-3 c =
     let a = start (e .before) .args in
     let steps = now (a .steps) in
     let sheet = now (a .sheet) in
-    plans (now (a .floor)) steps sheet (open-0 (now (a .floor)) steps sheet (ok e) (sym (p .plan-steps .ensures .closed-is) ∙ left)) _
+    plans (now (a .floor)) steps sheet (cost-bytes (e .before)) (open-0 (now (a .floor)) steps sheet (ok e) (sym (p .plan-steps .ensures .closed-is) ∙ left)) _
     (c .before .before .copy-parts .ensures ∙ ap (λ (l : List ℕ). copied (stepsOf steps) l sheet) (p .plan-steps .ensures .wrote left)
     ∙ copies (ready (ok e)) _ sheet refl)
 
