@@ -3,3 +3,5 @@ pub mod Crossing
 pub mod Before
 pub mod Arrives
 pub mod Promised
+pub mod Once
+pub mod Examples
