@@ -2,15 +2,15 @@
 -- The cell's bits are those of the least of the values that it compares. One of them is below 65535, so the least is: what an end cell does not
 -- see (65536) is never chosen, and the cell that the bits stand for is reached. That cell lies one row or column on, over the boundary, and along
 -- it where the bits say so: the sector's column and row on the floor change with the boundary, and the cell's go round from 9 to 0 or back.
---     chosen      which of the compared values the bits stand for
---     lands       and where those bits point on the floor
---     crossing    both together
+--     straight, lower, higher    where the bits of a side point on the floor, alone or with those along its edge
+--     chosen                     which of the compared values a cell's bits stand for
+--     crossing                   both together
 -- Assumes nothing.
 use mathlib.Core.Path.{_≡_, refl, sym, ap, _∙_}
 use mathlib.Core.Bool.{Bool, true, false, cond, _&&_}
 use mathlib.Core.Logic.{_⊎_, inl, inr}
 use mathlib.Core.List.{List}
-use Prim.Native.Nat.{ℕ, _+_, _-_, _*_, _/_, _%_, _≤_, _<_}
+use Prim.Native.Nat.{ℕ, _+_, _-_, _/_, _%_, _≤_, _<_}
 use native.Mathlib.Omega.{arith}
 use lib.Dec.{leb, eqb}
 use borrow.Author.Tests.{eqb-true, eqb-false, eq-eqb, leb-true, leb-false, ltb-true}
@@ -93,6 +93,7 @@ module _ (s t x z b : ℕ) (h : z < 100) (few : b < 16) (is : isArrow b ≡ true
       let c : facing West z / 10 ≡ z / 10 = omega (arith, f) in
       (few, over-west s t x (facing West z) (facing-in West z) b is a u (omega (arith, f)) p q (rw c e))
 
+-- straight, and by the window's cell before x or behind it
 module _ (s t x : ℕ) (h : x < 100) (side : CompassDir) (on : onEdge side x ≡ true) (next : Arrives s side t) where
   straight : Lands (bitsOf side) (placeOf s x) (placeOf t (facing side x))
   straight =
@@ -104,11 +105,13 @@ module _ (s t x : ℕ) (h : x < 100) (side : CompassDir) (on : onEdge side x ≡
       next
 
   -- one cell of the edge back, where there is one before x
-  lower : (f : ℕ) → onEdge side f ≡ true → f < x
-      → Lands (bitsOf side + bitsOf (towardsLower side)) (placeOf s x) (placeOf t (facing side (x - stride side)))
+  abbrev ByLower : CompassDir → Type 0
+  ByLower d = Lands (bitsOf d + bitsOf (towardsLower d)) (placeOf s x) (placeOf t (facing d (x - stride d)))
+
+  lower : (f : ℕ) → onEdge side f ≡ true → f < x → ByLower side
   unfolding onEdge
   lower f p k =
-      by-edge (λ d. onEdge d f ≡ true → Arrives s d t → Lands (bitsOf d + bitsOf (towardsLower d)) (placeOf s x) (placeOf t (facing d (x - stride d)))) side x on
+      by-edge (λ d. onEdge d f ≡ true → Arrives s d t → ByLower d) side x on
       (λ u e a. let v = eqb-true (f / 10) 0 e in north s t x (x - 1) 9 (omega arith) (omega arith) refl a u (omega arith) refl refl (omega arith))
       (λ u e a. let v = eqb-true (f % 10) 9 e in east s t x (x - 10) 3 (omega arith) (omega arith) refl a u (omega arith) refl refl (omega arith))
       (λ u e a. let v = eqb-true (f / 10) 9 e in south s t x (x - 1) 12 (omega arith) (omega arith) refl a u (omega arith) refl refl (omega arith))
@@ -116,11 +119,13 @@ module _ (s t x : ℕ) (h : x < 100) (side : CompassDir) (on : onEdge side x ≡
       p next
 
   -- one on, where there is one behind x
-  higher : (f : ℕ) → f < 100 → onEdge side f ≡ true → x < f
-      → Lands (bitsOf side + bitsOf (opposite (towardsLower side))) (placeOf s x) (placeOf t (facing side (x + stride side)))
+  abbrev ByHigher : CompassDir → Type 0
+  ByHigher d = Lands (bitsOf d + bitsOf (opposite (towardsLower d))) (placeOf s x) (placeOf t (facing d (x + stride d)))
+
+  higher : (f : ℕ) → f < 100 → onEdge side f ≡ true → x < f → ByHigher side
   unfolding onEdge
   higher f j p k =
-      by-edge (λ d. onEdge d f ≡ true → Arrives s d t → Lands (bitsOf d + bitsOf (opposite (towardsLower d))) (placeOf s x) (placeOf t (facing d (x + stride d)))) side x on
+      by-edge (λ d. onEdge d f ≡ true → Arrives s d t → ByHigher d) side x on
       (λ u e a. let v = eqb-true (f / 10) 0 e in north s t x (x + 1) 3 (omega arith) (omega arith) refl a u (omega arith) refl refl (omega arith))
       (λ u e a. let v = eqb-true (f % 10) 9 e in east s t x (x + 10) 6 (omega arith) (omega arith) refl a u (omega arith) refl refl (omega arith))
       (λ u e a. let v = eqb-true (f / 10) 9 e in south s t x (x + 1) 6 (omega arith) (omega arith) refl a u (omega arith) refl refl (omega arith))
@@ -139,6 +144,7 @@ chosen : (side : CompassDir) (l s h : ℕ) → (s < 65535) ⊎ ((l < 65535) ⊎ 
 unfolding facingBits
 chosen side l s h some = go (leb s l) (leb s h) (leb l s) (leb l h) refl refl refl refl
   where
+    -- what is not above the others is below 65535
     least : {n : ℕ} → n ≤ s → n ≤ l → n ≤ h → (s < 65535) ⊎ ((l < 65535) ⊎ (h < 65535)) → n < 65535
     least a b c (inl v) = omega arith
     least a b c (inr (inl v)) = omega arith
@@ -149,7 +155,7 @@ chosen side l s h some = go (leb s l) (leb s h) (leb l s) (leb l h) refl refl re
         (cond (u && v) (bitsOf side + bitsOf (towardsLower side)) (bitsOf side + bitsOf (opposite (towardsLower side)))))
     go true true u v a b c d = by-straight refl (least (omega arith) (leb-true s l a) (leb-true s h b) some)
     go true false true true a b c d = by-lower refl (least (leb-true l s c) (omega arith) (leb-true l h d) some)
-    go true false true false a b c d = let e = leb-false l h d in let f = leb-false s h b in by-higher refl (least (omega arith) (omega arith) (omega arith) some)
+    go true false true false a b c d = by-higher refl (least (omega (arith, leb-false s h b)) (omega (arith, leb-false l h d)) (omega arith) some)
     go true false false v a b c d = let e = leb-false s h b in let f = leb-true s l a in by-higher refl (least (omega arith) (omega arith) (omega arith) some)
     go false q true true a b c d = by-lower refl (least (leb-true l s c) (omega arith) (leb-true l h d) some)
     go false q true false a b c d = let e = leb-false l h d in let f = leb-false s l a in by-higher refl (least (omega arith) (omega arith) (omega arith) some)
@@ -164,6 +170,7 @@ pub record Landing (previous : List ℕ) (s t x b : ℕ) : Type 0 where
   pub reached : Reached previous cell
   pub lands : Lands b (placeOf s x) (placeOf t cell)
 
+-- of a step of sector s that is not refused, whose boundary leads into sector t
 module _ (step previous : List ℕ) (good : stepNumber step ≡ 0) (on : isWindow step ≡ true) (s t : ℕ) (next : Arrives s (boundaryOf step) t)
     (x : ℕ) (m : WindowCell (to-window (countingCells previous step)) x) where
   abbrev side : CompassDir
@@ -197,11 +204,12 @@ module _ (step previous : List ℕ) (good : stepNumber step ≡ 0) (on : isWindo
       go (by-straight e v) = into x v (rw e ahead)
       go (by-lower e v) =
           let i = seen-inner _ _ v in
-          into (x - stride side) (i .1) (rw e (lower s t x (c .inside) side on-side next (firstOf step) (w .first-on) (omega (arith, c .from, eqb-false x (firstOf step) (i .0)))))
+          let k : firstOf step < x = omega (arith, c .from, eqb-false x (firstOf step) (i .0)) in
+          into (x - stride side) (i .1) (rw e (lower s t x (c .inside) side on-side next (firstOf step) (w .first-on) k))
       go (by-higher e v) =
           let i = seen-inner _ _ v in
-          into (x + stride side) (i .1)
-          (rw e (higher s t x (c .inside) side on-side next (lastOf step) (w .last-in) (w .last-on) (omega (arith, c .to, eqb-false x (lastOf step) (i .0)))))
+          let k : x < lastOf step = omega (arith, c .to, eqb-false x (lastOf step) (i .0)) in
+          into (x + stride side) (i .1) (rw e (higher s t x (c .inside) side on-side next (lastOf step) (w .last-in) (w .last-on) k))
 
   pub crossing : Landing previous s t x (windowBits (portalOf step) true previous x)
   unfolding windowBits
@@ -211,5 +219,6 @@ module _ (step previous : List ℕ) (good : stepNumber step ≡ 0) (on : isWindo
       go true e =
           let one = eqb-true (firstOf step) (lastOf step) e in
           let first : x ≡ firstOf step = omega (arith, c .from, c .to) in
-          into x (ltb-true (facingValue previous side x) 65535 (rw first (sym (one-straight step previous one) ∙ ap (counts (portalOf step) previous) (sym first) ∙ it-counts))) ahead
+          let told = sym (one-straight step previous one) ∙ ap (counts (portalOf step) previous) (sym first) ∙ it-counts in
+          into x (ltb-true (facingValue previous side x) 65535 (rw first told)) ahead
       go false e = facing-crosses

@@ -41,8 +41,12 @@ module _ (floor : List ℕ) (steps : List (List ℕ)) (sheet : List ℕ) where
   journey-once (crosses c v r j) (moves o w s l g) = absurd (o c)
   journey-once {m = suc m} (crosses {k = k} c v r j) (crosses d w s g) = ap suc (journey-once j (subst (Journey floor steps sheet m k) (points-once w v) g))
 
-  pub journey-followed : {n k : ℕ} {p : Place} → Journey floor steps sheet n k p → ReachedIn floor steps zero (followed sheet n p)
+  -- n moves from a place, worked out, end in the goal's sector
+  abbrev Ends : ℕ → Place → Type 0
+  Ends n p = ReachedIn floor steps zero (followed sheet n p)
+
+  pub journey-followed : {n k : ℕ} {p : Place} → Journey floor steps sheet n k p → Ends n p
   unfolding followed
   journey-followed (ends r) = r
-  journey-followed (moves {n = n} o v r i j) = subst (λ (q : Place). ReachedIn floor steps zero (followed sheet n q)) (sym (moved-is sheet v)) (journey-followed j)
-  journey-followed (crosses {n = n} c v r j) = subst (λ (q : Place). ReachedIn floor steps zero (followed sheet n q)) (sym (moved-is sheet v)) (journey-followed j)
+  journey-followed (moves {n = n} o v r i j) = subst (Ends n) (sym (moved-is sheet v)) (journey-followed j)
+  journey-followed (crosses {n = n} c v r j) = subst (Ends n) (sym (moved-is sheet v)) (journey-followed j)

@@ -22,8 +22,9 @@ module _ (floor steps sheet : List ℕ) where
       let p = plan.refuses floor steps sheet n e h in
       (p .0, (p .1 .0, (p .1 .1, λ z. absurd (h z))))
 
-  -- `bytes`: the costs of a floor are bytes
-  pub plans : ((i : ℕ) → getD floor i 0 ≤ 255) → legNumber floor steps sheet ≡ 0 → (after : List ℕ) → after ≡ planned floor (stepsOf steps) sheet → Promised 0 after
+  -- the costs of a floor are bytes
+  pub plans : ((i : ℕ) → getD floor i 0 ≤ 255) → legNumber floor steps sheet ≡ 0
+      → (after : List ℕ) → after ≡ planned floor (stepsOf steps) sheet → Promised 0 after
   plans bytes z after e =
       let p = plan.plans floor steps sheet z after e in
       let j = accepted floor steps sheet z .0 in
