@@ -188,6 +188,10 @@ HanjolumBuildAnswer hanjolum_sector(
  * not start from it, and its arrow is that of any floor. With no cost of 0 the arrows of a sector left by a window lead
  * into one of the cells that count. A window of which no cell counts is 15. (hanjolum_sector, called by itself, starts
  * from the whole window.)
+ * The arrows of a planned leg lead all the way: from every reached cell of every named sector but the first step's, with no
+ * cost of 0 in the sectors on the way, they cross each window into a reached cell of the sector listed before, until they
+ * are in the goal's sector, in at most 1,500 moves, crossings counted. A move goes by the floor's columns and rows, also
+ * from one sector into the next. Nothing is said of the arrows within the goal's sector.
  * All steps are planned before the sheet is written: a refusal, 15 too, leaves every byte of it. Writes the 100 bytes of
  * each named sector to the sheet, at sector * 100; all other bytes of the sheet stay as they were.
  * Answers its number: 0, 1 to 10, 15 or 16.
