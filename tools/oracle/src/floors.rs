@@ -258,20 +258,24 @@ pub fn any_leg(rng: &mut Rng, most: usize) -> Vec<u8> {
     steps
 }
 
-/// A leg that the table takes, of exactly so many steps: a third of its windows are whole edges, a quarter of them one
-/// cell.
+/// A window of a leg: one time in three the whole edge, one in four one cell.
+pub fn drawn_window(rng: &mut Rng, sector: usize, boundary: usize) -> Step {
+    let along = rng.below(10);
+    match rng.below(12) {
+        0..4 => window_step(sector, boundary, 0, 9),
+        4..7 => window_step(sector, boundary, along, along),
+        _ => any_window(rng, sector, boundary),
+    }
+}
+
+/// A leg that the table takes, of exactly so many steps.
 pub fn leg_of(rng: &mut Rng, steps: usize) -> Vec<u8> {
     loop {
         let mut sectors = vec![rng.below(64)];
         let mut leg = goal_step(sectors[0], rng.below(CELLS)).to_vec();
         while sectors.len() < steps {
             let Some((sector, boundary)) = next_sector(rng, &sectors) else { break };
-            let along = rng.below(10);
-            leg.extend(match rng.below(12) {
-                0..4 => window_step(sector, boundary, 0, 9),
-                4..7 => window_step(sector, boundary, along, along),
-                _ => any_window(rng, sector, boundary),
-            });
+            leg.extend(drawn_window(rng, sector, boundary));
             sectors.push(sector);
         }
         if sectors.len() == steps {

@@ -5,6 +5,7 @@ pub mod command;
 pub mod fence;
 pub mod floors;
 pub mod groups;
+pub mod journey;
 pub mod judges;
 pub mod library;
 pub mod model;

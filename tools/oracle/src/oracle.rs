@@ -156,9 +156,9 @@ impl Oracle {
         (field, waves, *flow.get())
     }
 
-    /// The flow bytes of each step of a leg, the calls chained as document 01 says; none where a window has a cell that
-    /// does not count.
-    fn chained(&self, floor: &[u8], steps: &[u8]) -> Option<Vec<[u8; CELLS]>> {
+    /// The built field and the flow bytes of each step of a leg, the calls chained as document 01 says; none where a
+    /// window has a cell that does not count.
+    fn chained(&self, floor: &[u8], steps: &[u8]) -> Option<Vec<(IntegrationField, [u8; CELLS])>> {
         let mut before: Option<IntegrationField> = None;
         let mut planned = Vec::new();
         for step in steps.chunks(8) {
@@ -167,10 +167,18 @@ impl Oracle {
             }
             let previous = before.as_ref().map(|field| &field.field[..]);
             let (field, _, bytes) = self.planned(&floor[part(step)], step, previous);
-            planned.push(bytes);
+            planned.push((field, bytes));
             before = Some(field);
         }
         Some(planned)
+    }
+
+    /// The built cells of each step of a planned leg, by the judge that decides the leg.
+    pub fn built_steps(&self, floor: &[u8], steps: &[u8]) -> Vec<[u32; CELLS]> {
+        match aside(|| self.chained(floor, steps)) {
+            Some(planned) => planned.iter().map(|(field, _)| field.field).collect(),
+            None => Model::PLAIN.plan(floor, steps).steps.iter().map(|step| step.field.field).collect(),
+        }
     }
 }
 
@@ -305,7 +313,7 @@ impl Subject for Oracle {
             return Model::PLAIN.leg(floor, steps, sheet);
         };
         decides(Judge::Published);
-        for (step, bytes) in steps.chunks(8).zip(planned) {
+        for (step, (_, bytes)) in steps.chunks(8).zip(planned) {
             sheet[part(step)].copy_from_slice(&bytes);
         }
         0

@@ -96,6 +96,9 @@ fn report_clean(group: &Group, clean: &Clean, start: Instant) {
     if !clean.met.is_empty() {
         println!("{:<20} met: {}", "", met(&clean.met));
     }
+    if clean.followed.legs > 0 {
+        println!("{:<20} followed: {}", "", clean.followed);
+    }
 }
 
 /// How many inputs have a goal or a window cell of cost 255.
@@ -111,7 +114,9 @@ fn met(counts: &BTreeMap<Met, usize>) -> String {
     let mut words: Vec<String> = kinds.iter().map(|(met, count)| format!("{met} {count}")).collect();
     let inputs: usize = places.iter().map(|(_, count)| **count).sum();
     let number = if matches!(places.first(), Some((Met::OnWall { .. }, _))) { ON_WALL } else { CLOSED };
-    words.push(format!("{number} at {} places of legs of up to 16 steps {inputs}", places.len()));
+    if !places.is_empty() {
+        words.push(format!("{number} at {} places of legs of up to 16 steps {inputs}", places.len()));
+    }
     words.join(", ")
 }
 

@@ -82,6 +82,11 @@ pub fn leg_kinds() -> [Met; 5] {
     [Met::SomeCount, Met::GapBetween, Met::BySideAlone, Met::OneCell, Met::OneCellClosed]
 }
 
+/// What planned legs may meet.
+pub(super) fn planned_kinds() -> Vec<Met> {
+    vec![Met::EveryCellCounts, Met::SomeCount, Met::GapBetween, Met::BySideAlone, Met::OneCell]
+}
+
 /// All that legs with gaps must meet.
 pub(super) fn all() -> Vec<Met> {
     let closed = places().map(|(steps, at)| Met::Closed { steps, at });

@@ -4,6 +4,7 @@
 
 mod bad;
 mod good;
+mod journeys;
 mod leg_files;
 mod legs;
 
@@ -15,6 +16,7 @@ pub use legs::{
 
 use crate::cases::{Case, Outcome};
 use crate::floors::Rng;
+use crate::journey::Followed;
 use crate::judges::{self, Judge, Judges};
 use crate::model::CLOSED;
 use crate::oracle::{self, Oracle};
@@ -58,6 +60,7 @@ pub const GROUPS: &[Group] = &[
     Group { name: "leg", needs: &[Call::Leg], cases: good::legs, reaches: &[0, CLOSED, ON_WALL] },
     Group { name: GAPS, needs: &[Call::Leg], cases: legs::gaps, reaches: &[0, CLOSED] },
     Group { name: ON_WALLS, needs: &[Call::Leg], cases: legs::on_walls, reaches: &[0, 8, CLOSED, ON_WALL] },
+    Group { name: JOURNEY, needs: &[Call::Leg], cases: journeys::journeys, reaches: &[0] },
     Group { name: "file write", needs: &[Call::LegFileWrite], cases: leg_files::writes, reaches: &[0, 2, 3] },
     Group { name: "file read", needs: &[Call::LegFileRead], cases: leg_files::reads, reaches: &[0, 14] },
     Group { name: "line refusals", needs: &[Call::Line], cases: bad::lines, reaches: &[0, 13] },
@@ -98,6 +101,9 @@ const GAPS: &str = "leg, gaps";
 /// Legs with walls under goals and window cells.
 const ON_WALLS: &str = "leg, on walls";
 
+/// Legs whose arrows are followed to the goal's sector.
+const JOURNEY: &str = "journey";
+
 /// What a group that found no difference saw.
 #[derive(Clone, Default)]
 pub struct Clean {
@@ -109,6 +115,8 @@ pub struct Clean {
     pub judged: [usize; 4],
     /// How many inputs met what the group has to meet besides numbers.
     pub met: BTreeMap<Met, usize>,
+    /// What was followed, in the group that follows.
+    pub followed: Followed,
 }
 
 impl Clean {
@@ -118,6 +126,7 @@ impl Clean {
         sum(&mut self.numbers, &other.numbers);
         sum(&mut self.judged, &other.judged);
         other.met.iter().for_each(|(met, count)| *self.met.entry(*met).or_default() += count);
+        self.followed.add(&other.followed);
     }
 }
 
@@ -129,11 +138,12 @@ pub struct Difference {
     pub found: Vec<String>,
 }
 
-/// What the oracle says of one input, by which judges, and where a side differs from it.
+/// What the oracle says of one input, by which judges, and where a side differs from it; what was followed, if anything.
 struct Compared {
     due: Outcome,
     judges: Judges,
     found: Vec<String>,
+    followed: Followed,
 }
 
 fn compared(case: &Case, side: &dyn Subject) -> Compared {
@@ -141,7 +151,7 @@ fn compared(case: &Case, side: &dyn Subject) -> Compared {
     assert!(judges.contains(&true), "no judge decided {:?}", case.ask);
     let outcome = case.run(side);
     let found = if due == outcome { Vec::new() } else { due.differences(&outcome) };
-    Compared { due, judges, found }
+    Compared { due, judges, found, followed: Followed::default() }
 }
 
 impl Group {
@@ -150,6 +160,7 @@ impl Group {
         match self.name {
             GAPS => legs::all(),
             ON_WALLS => legs::all_on_walls(),
+            JOURNEY => legs::planned_kinds(),
             _ => Vec::new(),
         }
     }
@@ -157,7 +168,7 @@ impl Group {
     /// What of that an input meets.
     fn met(&self, case: &Case) -> Vec<Met> {
         match self.name {
-            GAPS => legs::met(case),
+            GAPS | JOURNEY => legs::met(case),
             ON_WALLS => legs::met_on_walls(case),
             _ => Vec::new(),
         }
@@ -174,19 +185,24 @@ impl Group {
         Judge::ALL.into_iter().filter(named).collect()
     }
 
+    fn compared(&self, case: &Case, side: &dyn Subject) -> Compared {
+        if self.name == JOURNEY { journeys::compared(case, side) } else { compared(case, side) }
+    }
+
     pub fn run(&self, side: &dyn Subject, seed: u64, inputs: usize) -> Result<Clean, Box<Difference>> {
         let mut clean = Clean::default();
         for case in (self.cases)(Rng::new(seed), inputs) {
             clean.inputs += 1;
             self.met(&case).into_iter().for_each(|met| *clean.met.entry(met).or_default() += 1);
-            let Compared { due, judges, found } = compared(&case, side);
+            let Compared { due, judges, found, followed } = self.compared(&case, side);
             clean.numbers[usize::from(due.number)] += 1;
             for (count, decided) in clean.judged.iter_mut().zip(judges) {
                 *count += usize::from(decided);
             }
+            clean.followed.add(&followed);
             if !found.is_empty() {
-                let smallest = shrink::smallest(&case, &|simpler| !compared(simpler, side).found.is_empty());
-                let found = compared(&smallest, side).found;
+                let smallest = shrink::smallest(&case, &|simpler| !self.compared(simpler, side).found.is_empty());
+                let found = self.compared(&smallest, side).found;
                 return Err(Box::new(Difference { input: clean.inputs, smallest, found }));
             }
         }
@@ -204,6 +220,9 @@ impl Group {
         }
         if let Some(met) = self.meets().into_iter().find(|met| !clean.met.contains_key(met)) {
             return Some(format!("`{name}` did not meet `{met}` in {inputs} inputs: ask for more by --inputs"));
+        }
+        if let Some(lacking) = clean.followed.lacks().filter(|_| self.name == JOURNEY) {
+            return Some(format!("`{name}` did not meet {lacking} in {inputs} inputs: ask for more by --inputs"));
         }
         let named = self.judges();
         let decided = |judge: Judge| clean.judged[judge as usize] > 0;
