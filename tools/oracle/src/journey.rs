@@ -152,14 +152,14 @@ impl PlannedLeg<'_> {
     /// What is wrong with a move out of the sector of a step. Where no cost is 0, the window cells that count are those
     /// of built cost 0.
     fn fault_crossing(&self, k: usize, from: Place, to: Place) -> Option<&'static str> {
-        if !self.in_window(k, from) {
-            Some("leaves the sector beside the window")
-        } else if self.built_cost(k, from) != 0 {
-            Some("crosses from a window cell that does not count")
-        } else if to.sector() != self.sector(k - 1) {
+        if to.sector() != self.sector(k - 1) {
             Some("crosses into another sector than the one listed before")
         } else if !self.reached(k - 1, to) {
             Some("crosses into a cell that is not reached")
+        } else if !self.in_window(k, from) {
+            Some("crosses beside the window")
+        } else if self.built_cost(k, from) != 0 {
+            Some("crosses from a window cell that does not count")
         } else {
             None
         }

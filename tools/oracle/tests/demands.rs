@@ -2,7 +2,7 @@
 //! 01 once more and searching walks without waves. Legs in which some window cell does not count are tried on the model.
 
 use oracle::floors::{Costs, Rng, Step, any, any_field, any_open, any_previous, any_step, open, walls};
-use oracle::groups::GROUPS;
+use oracle::groups::Group;
 use oracle::model::Model;
 use oracle::oracle::Oracle;
 use oracle::subject::*;
@@ -164,7 +164,7 @@ fn arrows_end_in_the_window() {
 /// The same in each sector of a leg that is left by a window, where "window" means the cells that count (02, Job 2).
 #[test]
 fn sectors_of_a_leg_lead_to_the_cells_that_count() {
-    let gaps = GROUPS.iter().find(|group| group.name == "leg, gaps").expect("a group of that name");
+    let gaps = Group::named("leg, gaps");
     let (mut left_out, mut followed) = (0, 0);
     for case in (gaps.cases)(Rng::new(14), FLOORS) {
         for step in Model::PLAIN.plan(&case.costs, &case.steps).steps.iter().skip(1) {

@@ -4,12 +4,8 @@ use oracle::groups::{Clean, GROUPS, Group, Met, Place};
 use oracle::judges::Judge;
 use oracle::model::{CLOSED, Model};
 
-fn group(name: &str) -> &'static Group {
-    GROUPS.iter().find(|group| group.name == name).expect("a group of that name")
-}
-
 fn names(name: &str) -> Vec<&'static str> {
-    group(name).judges().into_iter().map(Judge::name).collect()
+    Group::named(name).judges().into_iter().map(Judge::name).collect()
 }
 
 #[test]
@@ -21,6 +17,7 @@ fn groups_name_their_judges() {
     assert_eq!(names("leg"), ["published Rust", "table of refusals", "model"]);
     assert_eq!(names("leg, gaps"), ["published Rust", "model"]);
     assert_eq!(names("leg, on walls"), ["published Rust", "table of refusals", "model"]);
+    assert_eq!(names("journey"), ["published Rust", "model"]);
     assert_eq!(names("leg refusals"), ["published Rust", "table of refusals", "model"]);
     assert_eq!(names("build refusals"), ["published Rust", "counted copy", "table of refusals"]);
 }
@@ -44,7 +41,7 @@ fn the_judges_that_decide_are_those_that_are_named() {
 fn another_judge_or_none_is_seen() {
     let mut clean = Clean { inputs: 3, ..Clean::default() };
     clean.numbers[0] = 3;
-    let fault = |clean: &Clean| group("line").unmet(clean).expect("a fault");
+    let fault = |clean: &Clean| Group::named("line").unmet(clean).expect("a fault");
     assert!(fault(&clean).contains("published Rust: the group names it, and it decided nothing"));
     clean.judged = [3, 0, 0, 1];
     assert!(fault(&clean).contains("model: the group does not name it"));
@@ -54,7 +51,7 @@ fn another_judge_or_none_is_seen() {
 
 #[test]
 fn legs_with_gaps_must_meet_each_kind() {
-    let group = group("leg, gaps");
+    let group = Group::named("leg, gaps");
     let whole = group.run(&Model::PLAIN, 6, 20_000).unwrap_or_else(|_| panic!("the model differs from the Rust"));
     assert_eq!(group.unmet(&whole), None);
     assert_eq!(whole.met.keys().filter(|met| matches!(met, Met::Closed { .. })).count(), 120);
@@ -71,7 +68,7 @@ fn legs_with_gaps_must_meet_each_kind() {
 
 #[test]
 fn legs_on_walls_must_meet_each_kind() {
-    let group = group("leg, on walls");
+    let group = Group::named("leg, on walls");
     let whole = group.run(&Model::PLAIN, 6, 20_000).unwrap_or_else(|_| panic!("the model differs from the Rust"));
     assert_eq!(group.unmet(&whole), None);
     assert_eq!(whole.met.keys().filter(|met| matches!(met, Met::OnWall { .. })).count(), 136);

@@ -3,7 +3,7 @@
 
 use oracle::cases::Case;
 use oracle::floors::{Rng, edge_cell, goal_step, leg_with_a_gap, window_step};
-use oracle::groups::GROUPS;
+use oracle::groups::Group;
 use oracle::judges::{self, Judge};
 use oracle::model::{CLOSED, Model};
 use oracle::oracle::Oracle;
@@ -18,8 +18,7 @@ fn sides() -> [&'static dyn Subject; 2] {
 
 /// Legs of the group with gaps.
 fn gap_legs(seed: u64, drawn: usize) -> impl Iterator<Item = Case> {
-    let group = GROUPS.iter().find(|group| group.name == "leg, gaps").expect("a group of that name");
-    (group.cases)(Rng::new(seed), 20 * drawn)
+    (Group::named("leg, gaps").cases)(Rng::new(seed), 20 * drawn)
 }
 
 #[test]

@@ -6,7 +6,7 @@ use std::process::ExitCode;
 use std::time::Instant;
 
 use oracle::command;
-use oracle::groups::{Clean, Difference, GROUPS, Group, Met};
+use oracle::groups::{Clean, Difference, GROUPS, Group, JOURNEY, Met};
 use oracle::judges::Judge;
 use oracle::library::Library;
 use oracle::model::{CLOSED, Model, Slip};
@@ -169,29 +169,33 @@ fn likely(group: &Group, text: &str) -> bool {
     group.name.starts_with(word) || (refusals && group.name.ends_with("refusals"))
 }
 
-/// The group that finds a slip first, and after how many inputs of it: likely groups first.
-fn find(slip: Slip, text: &str, chosen: &Arguments) -> Option<(&'static Group, Box<Difference>)> {
-    let side = Model { slip };
-    let (first, then): (Vec<&Group>, Vec<&Group>) = GROUPS.iter().partition(|group| likely(group, text));
-    let mut groups = first.into_iter().chain(then);
-    let inputs = chosen.inputs.unwrap_or(20_000);
-    groups.find_map(|group| Some((group, group.run(&side, chosen.seed, inputs).err()?)))
+/// Whether one of these groups finds a slip: the first that does, and after how many inputs of it.
+fn found(slip: Slip, groups: &[&Group], chosen: &Arguments) -> bool {
+    let (side, inputs) = (Model { slip }, chosen.inputs.unwrap_or(20_000));
+    let differs = |group: &&Group| Some((group.name, group.run(&side, chosen.seed, inputs).err()?));
+    let Some((name, difference)) = groups.iter().find_map(differs) else {
+        println!("    NOT FOUND by {}", if groups.len() == 1 { groups[0].name } else { "any group" });
+        return false;
+    };
+    println!("    found by `{name}` at input {}: {}", difference.input, difference.found[0]);
+    if chosen.smallest {
+        println!("{}", difference.smallest.pasted());
+    }
+    true
 }
 
+/// Tries every slip, on likely groups first; those that lead a cart astray once more, on the group that follows it.
 fn try_slips(chosen: &Arguments) -> Result<(), String> {
     let mut missed = 0;
     for (slip, text) in Slip::ALL {
-        let Some((group, difference)) = find(*slip, text, chosen) else {
-            missed += 1;
-            println!("{text}\n    NOT FOUND");
-            continue;
-        };
-        println!("{text}\n    found by `{}` at input {}: {}", group.name, difference.input, difference.found[0]);
-        if chosen.smallest {
-            println!("{}", difference.smallest.pasted());
-        }
+        println!("{text}");
+        let (first, then): (Vec<&Group>, Vec<&Group>) = GROUPS.iter().partition(|group| likely(group, text));
+        let astray = Slip::ASTRAY.contains(slip);
+        let missing = !found(*slip, &[first, then].concat(), chosen);
+        missed += usize::from(missing || (astray && !found(*slip, &[Group::named(JOURNEY)], chosen)));
     }
-    println!("{} slips, {missed} not found (seed {})", Slip::ALL.len(), chosen.seed);
+    let (slips, astray) = (Slip::ALL.len(), Slip::ASTRAY.len());
+    println!("{slips} slips, {astray} of them tried on `{JOURNEY}` too, {missed} not found (seed {})", chosen.seed);
     if missed == 0 { Ok(()) } else { Err(format!("{missed} slips were not found")) }
 }
 

@@ -102,7 +102,7 @@ const GAPS: &str = "leg, gaps";
 const ON_WALLS: &str = "leg, on walls";
 
 /// Legs whose arrows are followed to the goal's sector.
-const JOURNEY: &str = "journey";
+pub const JOURNEY: &str = "journey";
 
 /// What a group that found no difference saw.
 #[derive(Clone, Default)]
@@ -155,6 +155,11 @@ fn compared(case: &Case, side: &dyn Subject) -> Compared {
 }
 
 impl Group {
+    /// The group of that name.
+    pub fn named(name: &str) -> &'static Group {
+        GROUPS.iter().find(|group| group.name == name).expect("a group of that name")
+    }
+
     /// What the inputs must have met besides numbers.
     fn meets(&self) -> Vec<Met> {
         match self.name {

@@ -126,6 +126,7 @@ impl Model {
         let (field, _) = self.built(&costs, &started);
         let previous = previous.filter(|_| !self.slips(Slip::PreviousForgotten));
         let mut starting = self.starting_bytes(step, counting, &field.field, previous);
+        counting.iter().for_each(|cell| starting[*cell] = self.crossing_byte(starting[*cell], step[5].into()));
         for cell in left_out {
             match self.slip {
                 Slip::LeftOutMarked => starting[cell] |= PORTAL_START,
@@ -134,6 +135,21 @@ impl Model {
             }
         }
         (field, self.flow_bytes(&field.field, starting))
+    }
+
+    /// The byte of a window cell that counts; slips make it cross elsewhere.
+    fn crossing_byte(&self, byte: u8, boundary: usize) -> u8 {
+        let ahead = BITS[boundary];
+        let side = byte & 15 & !ahead;
+        let opposite = |bits: u8| bits * 4 % 16 + bits / 4;
+        let arrow = match self.slip {
+            Slip::CrossesStraight => ahead,
+            Slip::CrossesToOtherSide => ahead | opposite(side),
+            Slip::CrossesInward => opposite(ahead) | side,
+            Slip::CrossesAlong if side != 0 => side,
+            _ => return byte,
+        };
+        byte - byte % 16 + arrow
     }
 
     /// A cell that does not count is what its own cost makes of it; a slip makes it a wall.
@@ -163,8 +179,14 @@ impl Model {
             sheet.fill(0);
         }
         for (k, step) in plan.steps.iter().enumerate() {
-            if !self.slips(Slip::LastSectorOnly) || 8 * (k + 1) == steps.len() {
-                sheet[part(step.sector)].copy_from_slice(&step.bytes);
+            let last = 8 * (k + 1) == steps.len();
+            match self.slip {
+                Slip::LastSectorOnly if !last => {}
+                Slip::SecondStepUnwritten if k == 1 => {}
+                Slip::WrittenByColumns => {
+                    sheet[part(step.sector % 8 * 8 + step.sector / 8)].copy_from_slice(&step.bytes)
+                }
+                _ => sheet[part(step.sector)].copy_from_slice(&step.bytes),
             }
         }
         if plan.closed { CLOSED } else { 0 }

@@ -142,6 +142,12 @@ slips! {
     LeftOutPointed: "leg: a cell that does not count has the boundary's bits",
     LeftOutWalled: "leg: a cell that does not count becomes a wall",
     WholeWindowHandedOn: "leg: the previous field built from the whole window",
+    CrossesStraight: "journey: a window cell crosses straight though a side is chosen",
+    CrossesToOtherSide: "journey: a window cell crosses to the other side than the chosen one",
+    CrossesInward: "journey: a window cell points back into its own sector",
+    CrossesAlong: "journey: a diagonal crossing goes along the window first",
+    SecondStepUnwritten: "journey: the second step's sector keeps the sheet at entry",
+    WrittenByColumns: "journey: sectors written as if numbered column by column",
     OneSheetForAll: "sector: one sheet for all floors",
     FileLengthIgnored: "file: count trusted, bytes behind the steps taken",
     FileCountIgnored: "file: length trusted, count not read",
@@ -155,4 +161,30 @@ slips! {
     FileStepsJudged: "file: a sector over 63 refused",
     FilePartOfRefusal: "file: a refused file's steps at byte 6",
     FileWrittenBeforeRefusal: "file: the buffer cleared first",
+}
+
+impl Slip {
+    /// Those that other groups find first, and that following a leg's arrows has to show by itself.
+    pub const ASTRAY: &'static [Slip] = &[
+        Slip::EntersWalls,
+        Slip::RowsWrap,
+        Slip::FirstWaveOnly,
+        Slip::FacingWithFlags,
+        Slip::FacingMirrored,
+        Slip::CutNotSeen,
+        Slip::PreviousForgotten,
+        Slip::FirstPrevious,
+        Slip::LastSectorOnly,
+        Slip::EveryCellCounts,
+        Slip::OneCountsForAll,
+        Slip::StraightAlone,
+        Slip::FirstSeesLower,
+        Slip::LastSeesHigher,
+        Slip::GapsFilled,
+        Slip::LeftOutStarted,
+        Slip::LeftOutListed,
+        Slip::LeftOutMarked,
+        Slip::LeftOutPointed,
+        Slip::LeftOutWalled,
+    ];
 }
