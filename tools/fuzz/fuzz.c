@@ -2,8 +2,10 @@
  * Random calls through the C interface, with every lent buffer fenced by pages that no access is allowed to.
  * Lengths go from 0 past every limit, bytes are any or nearly good. A refused call must leave its sheet as it was and
  * answer zeros, and a leg must leave the sectors that it does not name. No step is accepted with a wall under its goal or a
- * window cell. A fault, and a run in which no call was accepted or none refused, no leg of several steps planned, none
- * refused with 15, or init, the sector call or a leg never refused with 16, is one line on standard error and exit status 1.
+ * window cell. The arrows of a planned leg, followed from every reached cell of a later sector, come into the goal's sector
+ * in at most 1,500 moves, as far as there is no cost 0 on the way. A fault, and a run in which no call was accepted or none
+ * refused, no leg of several steps planned, none refused with 15, no arrow followed, or init, the sector call or a leg never
+ * refused with 16, is one line on standard error and exit status 1.
  */
 #define _DEFAULT_SOURCE
 #include <stdio.h>
@@ -147,8 +149,9 @@ static int zeros(const void *part, size_t length)
 }
 
 /* How many calls answered 0, and how many a number; how many legs of several steps were planned, and how many had a window
-   in which no cell counts; how many of init, sector calls and legs had a step on a wall. */
-static unsigned long accepted, turned_away, planned, closed, on_wall[3];
+   in which no cell counts; from how many cells arrows were followed; how many of init, sector calls and legs had a step on
+   a wall. */
+static unsigned long accepted, turned_away, planned, closed, followed, on_wall[3];
 
 static void counted(uint8_t number)
 {
@@ -230,6 +233,49 @@ static void file_calls(Fenced *route, Fenced *file)
         fail("the steps of a file are not where they must be");
 }
 
+/* Where a column and a row of the floor, of 80 each, have their byte in a floor and in a sheet. */
+static int byte_of(int column, int row)
+{
+    return 100 * (row / 10 * 8 + column / 10) + row % 10 * 10 + column % 10;
+}
+
+/* Follows arrows from a column and a row in the sector of step k, from 0, into that of step 0. In the other sectors a byte
+   with all of 0xE0 is a cell that is not reached. */
+static void follow(const Fenced *costs, const Fenced *route, const Fenced *sheet, size_t k, int column, int row)
+{
+    for (int moves = 0; k > 0; moves++) {
+        uint8_t byte = sheet->at[byte_of(column, row)];
+        if (moves == 1500)
+            fail("arrows do not come into the goal's sector in 1,500 moves");
+        if ((byte & 0xE0) == 0xE0 || (byte & 0x0F) == 0)
+            fail("an arrow leads to a cell that is not reached, or to one without an arrow");
+        column += (byte >> 1 & 1) - (byte >> 3 & 1);
+        row += (byte >> 2 & 1) - (byte & 1);
+        if (column < 0 || column > 79 || row < 0 || row > 79 || costs->at[byte_of(column, row)] == HANJOLUM_WALL)
+            fail("an arrow leads off the floor or into a wall");
+        int sector = byte_of(column, row) / 100;
+        if (sector == route->at[8 * (k - 1)])
+            k--;
+        else if (sector != route->at[8 * k])
+            fail("an arrow crosses into another sector than the one listed before");
+    }
+}
+
+/* Follows the arrows of a planned leg, as far as there is no cost 0. */
+static void journeys(const Fenced *costs, const Fenced *route, const Fenced *sheet)
+{
+    for (size_t k = 1; 8 * k < route->length; k++) {
+        int sector = route->at[8 * k];
+        if (memchr(costs->at + 100 * sector, 0, 100) != NULL)
+            return;
+        for (int cell = 0; cell < 100; cell++)
+            if ((sheet->at[100 * sector + cell] & 0xE0) != 0xE0) {
+                follow(costs, route, sheet, k, sector % 8 * 10 + cell % 10, sector / 8 * 10 + cell / 10);
+                followed++;
+            }
+    }
+}
+
 /* A leg, which leaves the sectors that it does not name. */
 static void a_leg(const Fenced *costs, const Fenced *route, Fenced *sheet)
 {
@@ -244,6 +290,8 @@ static void a_leg(const Fenced *costs, const Fenced *route, Fenced *sheet)
     for (size_t i = 0; number == 0 && i < sheet->length; i++)
         if ((named >> i / 100 & 1) == 0 && before[i] != sheet->at[i])
             fail("a leg wrote a sector that it does not name");
+    if (number == 0)
+        journeys(costs, route, sheet);
 }
 
 /* One call of each kind that writes a sheet, and one of each that does not. */
@@ -318,11 +366,14 @@ static void report(unsigned long rounds)
         fail("no call was accepted, or none was refused");
     if (planned == 0 || closed == 0)
         fail("no leg of several steps was planned, or none was refused with 15");
+    if (followed == 0)
+        fail("no arrow of a leg was followed");
     if (on_wall[0] == 0 || on_wall[1] == 0 || on_wall[2] == 0)
         fail("init, the sector call or a leg was never refused with 16");
     printf("%lu rounds of calls, %lu accepted and %lu refused, %lu legs of several steps planned and %lu refused with 15, "
+           "arrows followed from %lu cells to the goal's sector, "
            "%lu init, %lu sector calls and %lu legs refused with 16, nothing found\n",
-           rounds, accepted, turned_away, planned, closed, on_wall[0], on_wall[1], on_wall[2]);
+           rounds, accepted, turned_away, planned, closed, followed, on_wall[0], on_wall[1], on_wall[2]);
     written();
 }
 
