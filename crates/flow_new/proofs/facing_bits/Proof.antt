@@ -1,4 +1,4 @@
--- `flow_field::facing_bits` meets its contract: the facing choice, test by test.
+-- `flow_new::facing_bits` meets its contract: the facing choice, test by test.
 -- Assumes nothing.
 use mathlib.Core.Path.{sym, ap, ap₂, _∙_}
 use Prim.Native.Nat.{ℕ, _+_}

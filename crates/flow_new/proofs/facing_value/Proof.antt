@@ -1,4 +1,4 @@
--- `flow_field::facing_value` meets its contract: the cell across the boundary is a cell.
+-- `flow_new::facing_value` meets its contract: the cell across the boundary is a cell.
 -- Assumes nothing.
 use mathlib.Core.Path.{ap, _∙_}
 use Prim.Native.Nat.{ℕ}

@@ -1,4 +1,4 @@
--- `flow_field::is_misfit` meets its contract: a length that is judged only where there is a field.
+-- `flow_new::is_misfit` meets its contract: a length that is judged only where there is a field.
 -- Assumes nothing.
 use Rattle.flow_new.proofs.is_misfit.Statement.{statement}
 use Rattle.flow_new.proofs.is_misfit.Tie as tie

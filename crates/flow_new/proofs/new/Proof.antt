@@ -1,4 +1,4 @@
--- `flow_field::new` meets its contract: the numbers in the table's order, and the sheet beside each.
+-- `flow_new::new` meets its contract: the numbers in the table's order, and the sheet beside each.
 -- Assumes nothing.
 use mathlib.Core.Path.{_≡_, sym, ap, ap₂, _∙_}
 use mathlib.Core.Bool.{false, not, _&&_}

@@ -1,4 +1,4 @@
--- `flow_field::new_cells` meets its contract: the flags of all cells, then the bits of the window cells.
+-- `flow_new::new_cells` meets its contract: the flags of all cells, then the bits of the window cells.
 -- Assumes nothing.
 use mathlib.Core.Path.{ap, _∙_}
 use denote.Ref.{now}

@@ -1,4 +1,4 @@
--- `flow_field::not_above` meets its contract: two tests, one after the other.
+-- `flow_new::not_above` meets its contract: two tests, one after the other.
 -- Assumes nothing.
 use borrow.Author.Tests.{le-leb, lt-leb}
 use Rattle.flow_new.proofs.not_above.Statement.{statement}

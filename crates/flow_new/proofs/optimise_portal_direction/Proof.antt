@@ -1,4 +1,4 @@
--- `flow_field::optimise_portal_direction` meets its contract: the bits of the three costs that a window cell sees.
+-- `flow_new::optimise_portal_direction` meets its contract: the bits of the three costs that a window cell sees.
 -- Assumes nothing.
 use mathlib.Core.Path.{_≡_, ap, _∙_}
 use Rattle.flow_byte.specs.declared.SeenValues.{SeenValues}

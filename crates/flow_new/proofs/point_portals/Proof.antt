@@ -1,4 +1,4 @@
--- `flow_field::point_portals` meets its contract. The loop's invariant: what is left of the window from place i on does what the whole window does.
+-- `flow_new::point_portals` meets its contract. The loop's invariant: what is left of the window from place i on does what the whole window does.
 -- Assumes nothing.
 use mathlib.Core.Path.{_≡_, refl, sym, _∙_}
 use Prim.Native.Nat.{ℕ, _-_, _<_, _≤_}

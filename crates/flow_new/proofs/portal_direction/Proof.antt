@@ -1,4 +1,4 @@
--- `flow_field::portal_direction` meets its contract: the boundary's bits, or the facing choice.
+-- `flow_new::portal_direction` meets its contract: the boundary's bits, or the facing choice.
 -- Assumes nothing.
 use borrow.Author.Tests.{eq-eqb, ne-eqb, not-true, not-false}
 use Rattle.flow_byte.specs.New.{windowBits}

@@ -1,4 +1,4 @@
--- `flow_field::side_value` meets its contract: an end cell, or another.
+-- `flow_new::side_value` meets its contract: an end cell, or another.
 -- Assumes nothing.
 use borrow.Author.Tests.{eq-eqb, ne-eqb}
 use borrow.Author.Needs.{needs}

@@ -1,4 +1,4 @@
--- `flow_field::start_cells` meets its contract: the bytes passed are the rule's.
+-- `flow_new::start_cells` meets its contract: the bytes passed are the rule's.
 -- Assumes nothing.
 use mathlib.Core.Path.{_≡_}
 use Prim.Native.Nat.{ℕ, _≤_, _-_}

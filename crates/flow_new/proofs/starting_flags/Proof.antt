@@ -1,4 +1,4 @@
--- `flow_field::starting_flags` meets its contract: the flags in their order.
+-- `flow_new::starting_flags` meets its contract: the flags in their order.
 -- Assumes nothing.
 use mathlib.Core.Path.{sym, _∙_}
 use Rattle.flow_byte.specs.New.{startOf}

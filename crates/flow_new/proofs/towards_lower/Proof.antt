@@ -1,4 +1,4 @@
--- `flow_field::towards_lower` meets its contract: by the stride.
+-- `flow_new::towards_lower` meets its contract: by the stride.
 -- Assumes nothing.
 use borrow.Author.Tests.{eq-eqb, ne-eqb}
 use borrow.Author.Needs.{needs}
