@@ -1,10 +1,9 @@
 // The bits of an integration field's cell: its cost and its flags, their readers, and the walls that cut a move.
 use fields::FieldCell;
 ghost use mathlib.Core.Path.{_≡_};
-ghost use Prim.Native.Nat.{_<_};
-ghost use Rattle.fields.specs.Cell.{Inside, indexOf};
+ghost use mathlib.Core.Bool.{not, _&&_};
+ghost use lib.Dec.{eqb};
 ghost use Rattle.integration_field.specs.Word.{low, isLos, isGoal, isBlocked, isPortal, isImpassable};
-ghost use Rattle.integration_field.specs.Diagonal.{wallAt, betweenWalls};
 
 // Flags a cell as having line of sight.
 pub const INT_BITS_LOS: u32 = 0x10000;
@@ -64,19 +63,9 @@ pub fn low_bits(cost: u32) -> u32
     cost & INT_FILTER_BITS_COST
 }
 
-// Whether the cell at an index is a wall.
-pub fn is_wall_at(cells: &[u32; 100], n: usize) -> bool
-    requires { ⌜ n < 100 ⌝ }
-    ensures { λ r. ⌜ r ≡ wallAt (now (cells .entry)) n ⌝ }
-{
-    let value = cells[n];
-    is_impassable(value)
-}
-
-// Whether a move between two cells is diagonal, with both cells beside it walls.
-pub fn is_between_walls(cells: &[u32; 100], from: FieldCell, to: FieldCell) -> bool
-    requires { ⌜ Inside from × Inside to ⌝ }
-    ensures { λ r. ⌜ r ≡ betweenWalls (now (cells .entry)) (indexOf from) (indexOf to) ⌝ }
+// Whether a move between two cells is diagonal, with both cells beside it walls: the one in the row that it leaves, and the one in the column.
+pub fn is_between_walls(from: FieldCell, to: FieldCell, in_row: u32, in_column: u32) -> bool
+    ensures { λ r. ⌜ r ≡ ((not (eqb (from .row) (to .row)) && not (eqb (from .column) (to .column))) && (isImpassable «in_row» && isImpassable «in_column»)) ⌝ }
 {
     let from_column = from.column;
     let from_row = from.row;
@@ -88,8 +77,8 @@ pub fn is_between_walls(cells: &[u32; 100], from: FieldCell, to: FieldCell) -> b
     if from_column == to_column {
         return false;
     }
-    if !is_wall_at(cells, from_row * 10 + to_column) {
+    if !is_impassable(in_row) {
         return false;
     }
-    is_wall_at(cells, to_row * 10 + from_column)
+    is_impassable(in_column)
 }

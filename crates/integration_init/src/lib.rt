@@ -22,6 +22,7 @@ ghost use Rattle.utilities.specs.Compass.{orthogonal};
 ghost use Rattle.fields.specs.Cell.{cellAt, indexOf, stepped};
 ghost use Rattle.integration_field.specs.Listed.{padded, Indexes};
 ghost use Rattle.route.specs.Target.{targetOf};
+ghost use Rattle.integration_field.specs.Diagonal.{wallAt};
 ghost use Rattle.route.specs.Inner.{heldCells, heldTarget, WindowHeld, TargetHeld};
 ghost use Rattle.started_field.specs.Started.{startedAt, startedFrom, started, initRefused, initAnswer, StartedField};
 ghost use Rattle.started_field.specs.CornerLine.{cornerLine};
@@ -35,17 +36,28 @@ struct Counts {
     queued: usize,
 }
 
+// Whether the cell at an index is a wall.
+fn is_wall_at(cells: &[u32; 100], n: usize) -> bool
+    requires { ⌜ n < 100 ⌝ }
+    ensures { λ r. ⌜ r ≡ wallAt (now (cells .entry)) n ⌝ }
+{
+    let value = cells[n];
+    integration_bits::is_impassable(value)
+}
+
 // Whether a line stops before cell n, which it enters from `previous`.
 fn is_stopped(cells: &[u32; 100], previous: usize, n: usize) -> bool
     requires { ⌜ (previous < 100) × (n < 100) ⌝ }
     ensures { λ r. ⌜ r ≡ stopped (now (cells .entry)) previous n ⌝ }
 {
-    if integration_bits::is_wall_at(cells, n) {
+    if is_wall_at(cells, n) {
         return true;
     }
     let from = FieldCell::from_index(previous);
     let to = FieldCell::from_index(n);
-    integration_bits::is_between_walls(cells, from, to)
+    let in_row = cells[from.row * 10 + to.column];
+    let in_column = cells[to.row * 10 + from.column];
+    integration_bits::is_between_walls(from, to, in_row, in_column)
 }
 
 // Marks and lists a cell of a line, if it is not blocked yet. Answers how many are listed.
@@ -76,7 +88,7 @@ fn open_side(cells: &[u32; 100], from: usize, side: CompassDir) -> Stepped
     let Stepped::Cell(n) = FieldCell::from_index(from).get_in_compass_direction(side) else {
         return Stepped::Outside;
     };
-    if integration_bits::is_wall_at(cells, n.as_1d_index()) {
+    if is_wall_at(cells, n.as_1d_index()) {
         return Stepped::Outside;
     }
     Stepped::Cell(n)

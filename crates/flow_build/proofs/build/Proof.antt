@@ -1,4 +1,4 @@
--- `flow_field::build` meets its contract: the one number, and the sheet filled or left.
+-- `flow_build::build` meets its contract: the one number, and the sheet filled or left.
 -- Assumes nothing.
 use mathlib.Core.Path.{_≡_}
 use native.Mathlib.Omega.{arith}

@@ -1,4 +1,4 @@
--- `flow_field::calculate_flow_cell` meets its contract: a cell that keeps its byte, or one that looks.
+-- `flow_build::calculate_flow_cell` meets its contract: a cell that keeps its byte, or one that looks.
 -- Assumes nothing.
 use mathlib.Core.Path.{sym, ap, _∙_}
 use Rattle.flow_byte.specs.Look.{lookedByte, builtByte}

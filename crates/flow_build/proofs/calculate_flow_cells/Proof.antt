@@ -1,4 +1,4 @@
--- `flow_field::calculate_flow_cells` meets its contract: the bytes passed are the rule's, and those ahead are the old ones.
+-- `flow_build::calculate_flow_cells` meets its contract: the bytes passed are the rule's, and those ahead are the old ones.
 -- Assumes nothing.
 use mathlib.Core.Path.{_≡_, ap, _∙_}
 use Prim.Native.Nat.{ℕ, _≤_, _-_}

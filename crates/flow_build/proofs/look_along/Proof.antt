@@ -1,4 +1,4 @@
--- `flow_field::look_along` meets its contract: four looks, each from where the one before came to.
+-- `flow_build::look_along` meets its contract: four looks, each from where the one before came to.
 -- Assumes nothing.
 use mathlib.Core.Path.{ap, _∙_}
 use denote.Ref.{now}

@@ -1,4 +1,4 @@
--- `flow_field::look_around` meets its contract: its sides, then its corners.
+-- `flow_build::look_around` meets its contract: its sides, then its corners.
 -- Assumes nothing.
 use mathlib.Core.Path.{ap, _∙_}
 use mathlib.Core.List.{[], _∷_}

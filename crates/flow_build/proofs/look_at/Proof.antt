@@ -1,4 +1,4 @@
--- `flow_field::look_at` meets its contract: by what the look has come to.
+-- `flow_build::look_at` meets its contract: by what the look has come to.
 -- Assumes nothing.
 use borrow.Author.Needs.{needs}
 use Rattle.flow_build.proofs.look_at.Statement.{statement}

@@ -1,4 +1,4 @@
--- `flow_field::look_on` meets its contract: the next cell is where the step arrives.
+-- `flow_build::look_on` meets its contract: the next cell is where the step arrives.
 -- Assumes nothing.
 use mathlib.Core.Path.{_≡_, sym, ap, _∙_}
 use Prim.Native.Nat.{ℕ}

@@ -1,4 +1,4 @@
--- `flow_field::looked_byte` meets its contract: by what the look came to.
+-- `flow_build::looked_byte` meets its contract: by what the look came to.
 -- Assumes nothing.
 use borrow.Author.Needs.{needs}
 use Rattle.flow_build.proofs.looked_byte.Statement.{statement}

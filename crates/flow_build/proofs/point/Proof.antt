@@ -1,4 +1,4 @@
--- `flow_field::point` meets its contract: the direction's bits say whether it points anywhere.
+-- `flow_build::point` meets its contract: the direction's bits say whether it points anywhere.
 -- Assumes nothing.
 use mathlib.Core.Path.{sym, _∙_}
 use native.Mathlib.Omega.{arith}

@@ -1,11 +1,33 @@
--- `flow_field::see` meets its contract: each test in the order of the definition.
+-- `flow_build::see` meets its contract: each test in the order of the definition.
 -- Assumes nothing.
-use mathlib.Core.Path.{sym, _∙_}
+use mathlib.Core.Path.{_≡_, sym, _∙_}
+use mathlib.Core.Bool.{false}
+use Prim.Native.Nat.{_+_, _*_}
+use denote.Ref.{now}
+use lib.ListN.{getD}
 use borrow.Author.Tests.{eq-eqb, ne-eqb, lt-ltb, le-ltb}
+use Rattle.fields.specs.Cell.{indexOf}
+use Rattle.integration_field.specs.Word.{isImpassable}
+use Rattle.integration_field.specs.Diagonal.{betweenWalls}
+use Rattle.integration_field.proofs.Diagonal.{cut-at}
 use Rattle.flow_byte.specs.Look.{seen}
 use borrow.Author.Needs.{needs}
 use Rattle.flow_build.proofs.see.Statement.{statement}
 use Rattle.flow_build.proofs.see.Tie as tie
+
+-- where the diagonal rule was asked: the start, the cell seen is no wall, and the answer is the rule's
+module _ (m : tie.After-is-between-walls) where
+  abbrev unwalled : tie.Else1
+  unwalled = m .before .before .before .before .before .before .before
+
+  abbrev start : tie.Start
+  start = unwalled .before .before .before .before .before
+
+  free : isImpassable (getD (now (start .args .cells)) (start .args .to .row * 10 + start .args .to .column) 0) ≡ false
+  free = sym (unwalled .before .is-impassable .ensures) ∙ unwalled .if1 .left
+
+  cut : betweenWalls (now (start .args .cells)) (indexOf (start .args .from)) (indexOf (start .args .to)) ≡ m .is-between-walls .result
+  cut = cut-at (now (start .args .cells)) (start .args .from) (start .args .to) (start .pre .0) (start .pre .1) ∙ sym (m .is-between-walls .ensures)
 
 mul-cost : tie.Need-mul-cost
 mul-cost c = search needs
@@ -26,41 +48,113 @@ returns : tie.Need-returns
 unfolding seen
 returns c = rw (sym (c .before .is-impassable .ensures) ∙ c .if1 .taken)
 
+mul-in-row : tie.Need-mul-in-row
+mul-in-row c = search needs
+
+add-in-row : tie.Need-add-in-row
+add-in-row c = search needs
+
+mul-in-row-2 : tie.Need-mul-in-row-2
+mul-in-row-2 c = search needs
+
+element-copy-out-in-row : tie.Need-element-copy-out-in-row
+element-copy-out-in-row c = search needs
+
+mul-in-column : tie.Need-mul-in-column
+mul-in-column c = search needs
+
+add-in-column : tie.Need-add-in-column
+add-in-column c = search needs
+
+mul-in-column-2 : tie.Need-mul-in-column-2
+mul-in-column-2 c = search needs
+
+element-copy-out-in-column : tie.Need-element-copy-out-in-column
+element-copy-out-in-column c = search needs
+
 is-between-walls-requires : tie.Need-is-between-walls-requires
 is-between-walls-requires c κs = search needs
 
 returns-2 : tie.Need-returns-2
 unfolding seen
-returns-2 c = rw (sym (c .before .before .before .is-impassable .ensures) ∙ c .before .before .if1 .left, sym (c .before .is-between-walls .ensures) ∙ c .if2 .taken)
+returns-2 c = rw (free (c .before), cut (c .before) ∙ c .if2 .taken)
 
 is-goal-requires : tie.Need-is-goal-requires
 is-goal-requires c κs = search needs
 
 returns-3 : tie.Need-returns-3
 unfolding seen
-returns-3 c = rw (sym (c .before .before .before .before .before .is-impassable .ensures) ∙ c .before .before .before .before .if1 .left, sym (c .before .before .before .is-between-walls .ensures) ∙ c .before .before .if2 .left, sym (c .before .is-goal .ensures) ∙ c .if3 .taken)
+returns-3 c =
+    let uncut = c .before .before in
+    rw (free (uncut .before), cut (uncut .before) ∙ uncut .if2 .left, sym (c .before .is-goal .ensures) ∙ c .if3 .taken)
 
 is-portal-requires : tie.Need-is-portal-requires
 is-portal-requires c κs = search needs
 
 returns-4 : tie.Need-returns-4
 unfolding seen
-returns-4 c = rw (sym (c .before .before .before .before .before .before .before .is-impassable .ensures) ∙ c .before .before .before .before .before .before .if1 .left, sym (c .before .before .before .before .before .is-between-walls .ensures) ∙ c .before .before .before .before .if2 .left, sym (c .before .before .before .is-goal .ensures) ∙ c .before .before .if3 .left, sym (c .before .is-portal .ensures) ∙ c .if4 .taken)
+returns-4 c =
+    let no-goal = c .before .before in
+    let uncut = no-goal .before .before in
+    rw (
+      free (uncut .before),
+      cut (uncut .before) ∙ uncut .if2 .left,
+      sym (no-goal .before .is-goal .ensures) ∙ no-goal .if3 .left,
+      sym (c .before .is-portal .ensures) ∙ c .if4 .taken,
+    )
 
 low-bits-requires : tie.Need-low-bits-requires
 low-bits-requires c κs = search needs
 
 returns-5 : tie.Need-returns-5
 unfolding seen
-returns-5 c = rw (sym (c .before .before .before .before .before .before .before .before .before .is-impassable .ensures) ∙ c .before .before .before .before .before .before .before .before .if1 .left, sym (c .before .before .before .before .before .before .before .is-between-walls .ensures) ∙ c .before .before .before .before .before .before .if2 .left, sym (c .before .before .before .before .before .is-goal .ensures) ∙ c .before .before .before .before .if3 .left, sym (c .before .before .before .is-portal .ensures) ∙ c .before .before .if4 .left, eq-eqb _ 65535 (sym (c .before .low-bits .ensures) ∙ c .if5 .taken))
+returns-5 c =
+    let no-portal = c .before .before in
+    let no-goal = no-portal .before .before in
+    let uncut = no-goal .before .before in
+    rw (
+      free (uncut .before),
+      cut (uncut .before) ∙ uncut .if2 .left,
+      sym (no-goal .before .is-goal .ensures) ∙ no-goal .if3 .left,
+      sym (no-portal .before .is-portal .ensures) ∙ no-portal .if4 .left,
+      eq-eqb _ 65535 (sym (c .before .low-bits .ensures) ∙ c .if5 .taken),
+    )
 
 returns-6 : tie.Need-returns-6
 unfolding seen
-returns-6 c = rw (sym (c .before .before .before .before .before .before .before .before .before .before .is-impassable .ensures) ∙ c .before .before .before .before .before .before .before .before .before .if1 .left, sym (c .before .before .before .before .before .before .before .before .is-between-walls .ensures) ∙ c .before .before .before .before .before .before .before .if2 .left, sym (c .before .before .before .before .before .before .is-goal .ensures) ∙ c .before .before .before .before .before .if3 .left, sym (c .before .before .before .before .is-portal .ensures) ∙ c .before .before .before .if4 .left, ← (c .before .before .low-bits .ensures), ne-eqb (c .before .before .low-bits .result) 65535 (c .before .if5 .left), lt-ltb (c .before .before .low-bits .result) (c .before .before .before .before .before .before .before .before .before .before .before .before .before .before .args .value) (c .if6 .taken))
+returns-6 c =
+    let reached = c .before in
+    let low = reached .before in
+    let no-portal = low .before in
+    let no-goal = no-portal .before .before in
+    let uncut = no-goal .before .before in
+    rw (
+      free (uncut .before),
+      cut (uncut .before) ∙ uncut .if2 .left,
+      sym (no-goal .before .is-goal .ensures) ∙ no-goal .if3 .left,
+      sym (no-portal .before .is-portal .ensures) ∙ no-portal .if4 .left,
+      ← (low .low-bits .ensures),
+      ne-eqb (low .low-bits .result) 65535 (reached .if5 .left),
+      lt-ltb (low .low-bits .result) (start (uncut .before) .args .value) (c .if6 .taken),
+    )
 
 returns-7 : tie.Need-returns-7
 unfolding seen
-returns-7 c = rw (sym (c .before .before .before .before .before .before .before .before .before .before .is-impassable .ensures) ∙ c .before .before .before .before .before .before .before .before .before .if1 .left, sym (c .before .before .before .before .before .before .before .before .is-between-walls .ensures) ∙ c .before .before .before .before .before .before .before .if2 .left, sym (c .before .before .before .before .before .before .is-goal .ensures) ∙ c .before .before .before .before .before .if3 .left, sym (c .before .before .before .before .is-portal .ensures) ∙ c .before .before .before .if4 .left, ← (c .before .before .low-bits .ensures), ne-eqb (c .before .before .low-bits .result) 65535 (c .before .if5 .left), le-ltb (c .before .before .low-bits .result) (c .before .before .before .before .before .before .before .before .before .before .before .before .before .before .args .value) (c .if6 .left))
+returns-7 c =
+    let reached = c .before in
+    let low = reached .before in
+    let no-portal = low .before in
+    let no-goal = no-portal .before .before in
+    let uncut = no-goal .before .before in
+    rw (
+      free (uncut .before),
+      cut (uncut .before) ∙ uncut .if2 .left,
+      sym (no-goal .before .is-goal .ensures) ∙ no-goal .if3 .left,
+      sym (no-portal .before .is-portal .ensures) ∙ no-portal .if4 .left,
+      ← (low .low-bits .ensures),
+      ne-eqb (low .low-bits .result) 65535 (reached .if5 .left),
+      le-ltb (low .low-bits .result) (start (uncut .before) .args .value) (c .if6 .left),
+    )
 
 pub see-spec : {M : Type 1} → statement M
 see-spec =
@@ -72,6 +166,14 @@ see-spec =
     element-copy-out-cost
     is-impassable-requires
     returns
+    mul-in-row
+    add-in-row
+    mul-in-row-2
+    element-copy-out-in-row
+    mul-in-column
+    add-in-column
+    mul-in-column-2
+    element-copy-out-in-column
     is-between-walls-requires
     returns-2
     is-goal-requires

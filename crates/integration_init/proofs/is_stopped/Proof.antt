@@ -2,29 +2,88 @@
 -- Assumes nothing.
 use mathlib.Core.Path.{_≡_, sym, ap, _∙_}
 use native.Mathlib.Omega.{arith}
+use denote.Ref.{now}
 use borrow.Author.Needs.{needs}
-use Rattle.fields.specs.Cell.{indexOf}
+use Rattle.fields.specs.Cell.{Inside, indexOf}
 use Rattle.fields.proofs.Steps.{cell-inside, index-of-cell}
+use Rattle.integration_field.proofs.Diagonal.{cut-at}
 use Rattle.integration_init.proofs.is_stopped.Statement.{statement}
 use Rattle.integration_init.proofs.is_stopped.Tie as tie
+
+-- where both cells are known: the start; both lie in the sector
+module _ (t : tie.After-from-index2) where
+  abbrev start : tie.Start
+  start = t .before .before .before .before
+
+  from-inside : Inside (t .before .from-index .result)
+  from-inside = rw (t .before .from-index .ensures) (cell-inside _ (start .pre .0))
+
+  to-inside : Inside (t .from-index2 .result)
+  to-inside = rw (t .from-index2 .ensures) (cell-inside _ (start .pre .1))
+
+is-wall-at-requires : tie.Need-is-wall-at-requires
+is-wall-at-requires c κs = search needs
 
 returns : tie.Need-returns
 returns c = rw (sym (c .before .is-wall-at .ensures) ∙ c .if1 .taken)
 
+from-index-requires : tie.Need-from-index-requires
+from-index-requires c κs = search needs
+
+from-index-requires-2 : tie.Need-from-index-requires-2
+from-index-requires-2 c κs = search needs
+
+mul-in-row : tie.Need-mul-in-row
+mul-in-row c = omega (arith, from-inside (c .before) .row-in)
+
+add-in-row : tie.Need-add-in-row
+add-in-row c = let t = c .before .before in omega (arith, from-inside t .row-in, to-inside t .column-in)
+
+mul-in-row-2 : tie.Need-mul-in-row-2
+mul-in-row-2 c = let t = c .before .before in omega (arith, from-inside t .row-in, to-inside t .column-in)
+
+element-copy-out-in-row : tie.Need-element-copy-out-in-row
+element-copy-out-in-row c = let t = c .before .before in omega (arith, from-inside t .row-in, to-inside t .column-in)
+
+mul-in-column : tie.Need-mul-in-column
+mul-in-column c = omega (arith, to-inside (c .before .before .before .before) .row-in)
+
+add-in-column : tie.Need-add-in-column
+add-in-column c = let t = c .before .before .before .before .before in omega (arith, to-inside t .row-in, from-inside t .column-in)
+
+mul-in-column-2 : tie.Need-mul-in-column-2
+mul-in-column-2 c = let t = c .before .before .before .before .before in omega (arith, to-inside t .row-in, from-inside t .column-in)
+
+element-copy-out-in-column : tie.Need-element-copy-out-in-column
+element-copy-out-in-column c = let t = c .before .before .before .before .before in omega (arith, to-inside t .row-in, from-inside t .column-in)
+
 is-between-walls-requires : tie.Need-is-between-walls-requires
-is-between-walls-requires c κs =
-    (rw (c .before .from-index .ensures) (cell-inside _ (omega arith)), rw (c .from-index2 .ensures) (cell-inside _ (omega arith)))
+is-between-walls-requires c κs = search needs
 
 returns-2 : tie.Need-returns-2
 returns-2 c =
-    let b = c .before .before .before .before in
-    let from : indexOf (c .before .before .from-index .result) ≡ b .before .args .previous = ap indexOf (c .before .before .from-index .ensures) ∙ index-of-cell _ in
-    let to : indexOf (c .before .from-index2 .result) ≡ b .before .args .n = ap indexOf (c .before .from-index2 .ensures) ∙ index-of-cell _ in
-    rw (sym (b .is-wall-at .ensures) ∙ c .before .before .before .if1 .left, ← from, ← to) (c .is-between-walls .ensures)
+    let t = c .before .before .before .before .before .before .before in
+    let unwalled = t .before .before in
+    let from : indexOf (t .before .from-index .result) ≡ start t .args .previous = ap indexOf (t .before .from-index .ensures) ∙ index-of-cell _ in
+    let to : indexOf (t .from-index2 .result) ≡ start t .args .n = ap indexOf (t .from-index2 .ensures) ∙ index-of-cell _ in
+    rw (sym (unwalled .before .is-wall-at .ensures) ∙ unwalled .if1 .left, ← from, ← to)
+    (c .is-between-walls .ensures ∙ sym (cut-at (now (start t .args .cells)) _ _ (from-inside t) (to-inside t)))
 
 pub is-stopped-spec : {M : Type 1} → statement M
-is-stopped-spec = tie.close (tie.spec
-    (λ c κs. search needs)
+is-stopped-spec =
+    tie.close
+    (tie.spec
+    is-wall-at-requires
     returns
-    (λ c κs. search needs) (λ c κs. search needs)
-    is-between-walls-requires returns-2)
+    from-index-requires
+    from-index-requires-2
+    mul-in-row
+    add-in-row
+    mul-in-row-2
+    element-copy-out-in-row
+    mul-in-column
+    add-in-column
+    mul-in-column-2
+    element-copy-out-in-column
+    is-between-walls-requires
+    returns-2)
