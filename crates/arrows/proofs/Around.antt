@@ -20,7 +20,8 @@ use Rattle.fields.specs.declared.FieldCell.{FieldCell}
 use Rattle.fields.specs.declared.Stepped.the-variants.{Cell}
 use Rattle.fields.specs.Cell.{indexOf, cellAt, stepped}
 use Rattle.fields.specs.Neighbours.{ByOne, BesideAt}
-use Rattle.fields.proofs.Steps.{Arrives, stepped-cell, steps-to, cell-inside, cell-of-index}
+use Rattle.fields.specs.Steps.{Arrives}
+use Rattle.fields.proofs.Steps.{stepped-cell, steps-to, cell-inside, cell-of-index}
 use Rattle.fields.proofs.Beside.{step-beside, beside-step, beside-flip, beside-below}
 use Rattle.integration_field.specs.Diagonal.{wallAt, diagonal, betweenWalls}
 use Rattle.arrows.proofs.Fall.{Sector, value, NoWall, spreads}

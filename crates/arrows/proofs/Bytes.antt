@@ -15,13 +15,13 @@ use lib.ListN.{length, getD, length-map}
 use borrow.Author.Tests.{not-true}
 use Rattle.utilities.specs.declared.CompassDir.{CompassDir}
 use Rattle.utilities.specs.declared.CompassDir.the-variants.{North, East, South, West, NorthEast, SouthEast, SouthWest, NorthWest, Zero}
-use Rattle.utilities.specs.Compass.{points, opposite}
+use Rattle.utilities.specs.Compass.{points, opposite, lowerSide}
 use Rattle.utilities.proofs.Compass.{small}
 use Rattle.route.specs.declared.PortalWindow.{PortalWindow}
 use Rattle.route.specs.Window.{below, stride}
 use Rattle.route.proofs.Below.{holds-at, same-at}
 use Rattle.flow_bits.specs.Byte.{bitsOf, isPathable, isImpassable}
-use Rattle.flow_byte.specs.New.{towardsLower, facingBits, facingValue, unlessEnd, facingChoice, windowBits, newByte, newBytes}
+use Rattle.flow_byte.specs.New.{facingBits, facingValue, unlessEnd, facingChoice, windowBits, newByte, newBytes}
 use Rattle.flow_byte.specs.Look.{pointed, builtByte, flowBuild}
 
 -- ---- a byte at an index
@@ -87,12 +87,12 @@ bits-few d = let s = small d refl in omega (arith, s .columns, s .rows)
 -- the bits of a side, straight or towards either end
 abbrev sideBits : Bool → Bool → CompassDir → ℕ
 sideBits straight lower side =
-    cond straight (bitsOf side) (cond lower (bitsOf side + bitsOf (towardsLower side)) (bitsOf side + bitsOf (opposite (towardsLower side))))
+    cond straight (bitsOf side) (cond lower (bitsOf side + bitsOf (lowerSide side)) (bitsOf side + bitsOf (opposite (lowerSide side))))
 
 side-bits : (a b : Bool) (side : CompassDir) → sideBits a b side < 32
 side-bits true b side = omega (arith, bits-few side)
-side-bits false true side = omega (arith, bits-few side, bits-few (towardsLower side))
-side-bits false false side = omega (arith, bits-few side, bits-few (opposite (towardsLower side)))
+side-bits false true side = omega (arith, bits-few side, bits-few (lowerSide side))
+side-bits false false side = omega (arith, bits-few side, bits-few (opposite (lowerSide side)))
 
 facing-bits : (side : CompassDir) (lower straight higher : ℕ) → facingBits side lower straight higher < 32
 unfolding facingBits

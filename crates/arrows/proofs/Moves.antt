@@ -12,21 +12,22 @@ use borrow.Author.Tests.{ltb-true, lt-ltb, le-leb, eqb-true}
 use Rattle.utilities.specs.declared.Differences.{Differences}
 use Rattle.utilities.specs.declared.CompassDir.{CompassDir}
 use Rattle.utilities.specs.declared.CompassDir.the-variants.{North, East, South, West, NorthEast, SouthEast, SouthWest, NorthWest, Zero}
-use Rattle.utilities.specs.Compass.{differences, all}
-use Rattle.utilities.proofs.Compass.{Small, small}
+use Rattle.utilities.specs.Compass.{differences, rises, falls, all}
+use Rattle.utilities.proofs.Compass.{Small, small, changes}
 use Rattle.fields.specs.declared.Stepped.the-variants.{Cell}
 use Rattle.fields.specs.Cell.{cellAt, stepped}
-use Rattle.fields.proofs.Steps.{Arrives, steps-to, cell-inside}
+use Rattle.fields.specs.Steps.{Arrives}
+use Rattle.fields.proofs.Steps.{steps-to, cell-inside}
 use Rattle.route.proofs.Below.{holds-at}
 use Rattle.flow_bits.specs.Byte.{bitsOf, dirWith, dirOf}
 use Rattle.arrows.specs.Arrows.{northward, eastward, southward, westward, Away}
 
 -- a direction's bits, one by one
 record Bits (d : CompassDir) : Type 0 where
-  north-is : northward (bitsOf d) ≡ differences d .north
-  east-is : eastward (bitsOf d) ≡ differences d .east
-  south-is : southward (bitsOf d) ≡ differences d .south
-  west-is : westward (bitsOf d) ≡ differences d .west
+  north-is : northward (bitsOf d) ≡ falls (differences d .row)
+  east-is : eastward (bitsOf d) ≡ rises (differences d .column)
+  south-is : southward (bitsOf d) ≡ rises (differences d .row)
+  west-is : westward (bitsOf d) ≡ falls (differences d .column)
 
 bits : (d : CompassDir) → Bits d
 bits North = record { north-is = refl; east-is = refl; south-is = refl; west-is = refl }
@@ -46,28 +47,26 @@ module _ (d : CompassDir) (x y : ℕ) where
   b : Bits d
   b = bits d
 
-  s : Small δ
+  s : Small d δ
   s = small d refl
 
   pub away : Arrives (cellAt x) d (cellAt y) → Away (bitsOf d) x y
   away a = record {
-    rows = rw (b .north-is, b .south-is) (omega (arith, a .row-from, a .row-at));
-    columns = rw (b .east-is, b .west-is) (omega (arith, a .column-from, a .column-at));
-    somewhere = omega (arith, ltb-true 0 (δ .east + δ .west + δ .south + δ .north) (a .pointing));
+    rows = rw (b .north-is, b .south-is) (omega (arith, s .rows, a .row-at));
+    columns = rw (b .east-is, b .west-is) (omega (arith, s .columns, a .column-at));
+    somewhere = omega (arith, s .columns, s .rows, ltb-true 0 (changes δ) (sym (s .some) ∙ a .pointing));
     not-north-south = rw (b .north-is, b .south-is) (omega (arith, s .rows));
     not-east-west = rw (b .east-is, b .west-is) (omega (arith, s .columns));
   }
 
   arrives : y < 100 → Away (bitsOf d) x y → Arrives (cellAt x) d (cellAt y)
   arrives h w =
-      let rows : y / 10 + δ .north ≡ x / 10 + δ .south = rw (b .north-is, b .south-is) at (w .rows) in
-      let columns : y % 10 + δ .west ≡ x % 10 + δ .east = rw (b .east-is, b .west-is) at (w .columns) in
+      let rows : y / 10 + falls (δ .row) ≡ x / 10 + rises (δ .row) = rw (b .north-is, b .south-is) at (w .rows) in
+      let columns : y % 10 + falls (δ .column) ≡ x % 10 + rises (δ .column) = rw (b .east-is, b .west-is) at (w .columns) in
       record {
-        pointing = lt-ltb 0 (δ .east + δ .west + δ .south + δ .north) (omega (arith, w .somewhere));
-        column-from = omega (arith, columns);
-        row-from = omega (arith, rows);
-        column-at = omega (arith, columns);
-        row-at = omega (arith, rows);
+        pointing = s .some ∙ lt-ltb 0 (changes δ) (omega (arith, s .columns, s .rows, w .somewhere));
+        column-at = omega (arith, s .columns, columns);
+        row-at = omega (arith, s .rows, rows);
         within = cell-inside y h;
       }
 

@@ -16,7 +16,8 @@ use Rattle.fields.specs.declared.FieldCell.{FieldCell}
 use Rattle.fields.specs.declared.Stepped.the-variants.{Cell}
 use Rattle.fields.specs.Cell.{Inside, stepped}
 use Rattle.fields.specs.Neighbours.{ByOne, Beside, BesideAt}
-use Rattle.fields.proofs.Steps.{Arrives, stepped-cell, steps-to}
+use Rattle.fields.specs.Steps.{Arrives}
+use Rattle.fields.proofs.Steps.{stepped-cell, steps-to}
 
 module _ (a b : FieldCell) (i : Inside a) where
   north-beside : Arrives a North b → Beside a b
@@ -65,15 +66,15 @@ beside-step a b r = pick (r .one-apart)
     pick : ((a .column ≡ b .column) × ByOne (a .row) (b .row)) ⊎ ((a .row ≡ b .row) × ByOne (a .column) (b .column))
         → (d : CompassDir) × List·Memᴰ d orthogonal × (stepped a d ≡ Cell b)
     pick (inl (p, inl q)) =
-        (South, List·Memᴰ·tail (List·Memᴰ·tail (List·Memᴰ·head refl)), steps-to a South b (record { pointing = refl; column-from = omega arith; row-from = omega arith; column-at = omega arith; row-at = omega arith; within = oo }))
+        (South, List·Memᴰ·tail (List·Memᴰ·tail (List·Memᴰ·head refl)), steps-to a South b (record { pointing = refl; column-at = omega arith; row-at = omega arith; within = oo }))
     pick (inl (p, inr q)) =
-        (North, List·Memᴰ·head refl, steps-to a North b (record { pointing = refl; column-from = omega arith; row-from = omega arith; column-at = omega arith; row-at = omega arith; within = oo }))
+        (North, List·Memᴰ·head refl, steps-to a North b (record { pointing = refl; column-at = omega arith; row-at = omega arith; within = oo }))
     pick (inr (p, inl q)) =
-        (East, List·Memᴰ·tail (List·Memᴰ·head refl), steps-to a East b (record { pointing = refl; column-from = omega arith; row-from = omega arith; column-at = omega arith; row-at = omega arith; within = oo }))
+        (East, List·Memᴰ·tail (List·Memᴰ·head refl), steps-to a East b (record { pointing = refl; column-at = omega arith; row-at = omega arith; within = oo }))
     pick (inr (p, inr q)) = (
       West,
       List·Memᴰ·tail (List·Memᴰ·tail (List·Memᴰ·tail (List·Memᴰ·head refl))),
-      steps-to a West b (record { pointing = refl; column-from = omega arith; row-from = omega arith; column-at = omega arith; row-at = omega arith; within = oo }),
+      steps-to a West b (record { pointing = refl; column-at = omega arith; row-at = omega arith; within = oo }),
     )
 
 pub beside-flip : (a b : FieldCell) → Beside a b → Beside b a

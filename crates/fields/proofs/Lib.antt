@@ -1,3 +1,2 @@
-pub mod Coordinates
 pub mod Steps
 pub mod Beside

@@ -8,8 +8,6 @@ use Rattle.utilities.specs.Compass.{differences, points, sumWithin}
 use Rattle.fields.specs.declared.FieldCell.{FieldCell}
 use Rattle.fields.specs.declared.Stepped.{Stepped}
 use Rattle.fields.specs.declared.Stepped.the-variants.{Cell, Outside}
-use Rattle.fields.specs.declared.Coordinate.{Coordinate}
-use Rattle.fields.specs.declared.Coordinate.the-variants.{In, Out}
 
 abbrev pub cell : ℕ → ℕ → FieldCell
 cell c r = record { column = c; row = r }
@@ -41,24 +39,10 @@ cellIf false c = Outside
 unfoldable pub cellIn : ℕ → ℕ → Stepped
 cellIn c r = cellIf (inside (cell c r)) (cell c r)
 
--- A step in a direction: the cell at the two sums of the cell and the direction's differences, where both lie in 0 to 9, else outside.
--- `Zero` points nowhere.
+-- A step in a direction (02, "Job 5"): the cell at the two sums of the cell and the direction's differences, where both lie in 0 to 9, else
+-- outside. A difference is kept plus one, so the sums are one more than the cell's column and row. `Zero` points nowhere.
 unfoldable pub stepped : FieldCell → CompassDir → Stepped
 stepped c d =
     let δ = differences d in
-    cellIf (points d && (sumWithin 9 (c .column) (δ .east) (δ .west) && sumWithin 9 (c .row) (δ .south) (δ .north)))
-    (cell (c .column + δ .east - δ .west) (c .row + δ .south - δ .north))
-
--- a sum, where it lies in 0 to 9
-abbrev pub coordinateIf : Bool → ℕ → Coordinate
-coordinateIf true x = In x
-coordinateIf false x = Out
-
-abbrev pub coordinateAt : ℕ → ℕ → ℕ → Coordinate
-coordinateAt x more less = coordinateIf (sumWithin 9 x more less) (x + more - less)
-
--- the cell of two coordinates
-abbrev pub bothIn : Coordinate → Coordinate → Stepped
-bothIn (In c) (In r) = Cell (cell c r)
-bothIn (In c) Out = Outside
-bothIn Out r = Outside
+    cellIf (points d && (sumWithin 9 (c .column) (δ .column) && sumWithin 9 (c .row) (δ .row)))
+    (cell (c .column + δ .column - 1) (c .row + δ .row - 1))

@@ -1,8 +1,10 @@
 // Cells of a sector, and steps from one to the next.
 use utilities::CompassDir;
 ghost use mathlib.Core.Path.{_≡_};
-ghost use Prim.Native.Nat.{_≤_};
-ghost use Rattle.fields.specs.Cell.{inside, cellAt, indexOr, cellIn, coordinateAt, bothIn, stepped};
+ghost use Prim.Native.Nat.{min};
+ghost use Rattle.fields.specs.Cell.{inside, cellAt, indexOr, cellIn, stepped};
+ghost use Rattle.fields.specs.Steps.{BySums, Undone};
+ghost use Rattle.fields.specs.Inner.{farOut};
 
 // ID of a cell within a field.
 #[repr(C)]
@@ -17,38 +19,14 @@ pub enum Stepped {
     Outside,
 }
 
-// A column or row that lies in 0 to 9, or not.
-enum Coordinate {
-    In(usize),
-    Out,
-}
+// From here on a column or row counts as this one. An index divided by ten lies below it, so that the compiler leaves the test out.
+const FAR_OUT: usize = 0x4000_0000_0000_0000;
 
-// The sum x + more - less, where it lies in 0 to 9.
-fn summed(x: usize, more: usize, less: usize) -> Coordinate
-    requires { ⌜ (more ≤ 1) × (less ≤ 1) ⌝ }
-    ensures { λ r. ⌜ r ≡ coordinateAt x more less ⌝ }
+// A column or row that no sum of a difference wraps round: no step leads into the sector from 11 on, so none from far out.
+fn capped(x: usize) -> usize
+    ensures { λ r. ⌜ r ≡ min x farOut ⌝ }
 {
-    if 9 + less - more < x {
-        return Coordinate::Out;
-    }
-    let sum = x + more;
-    if sum < less {
-        return Coordinate::Out;
-    }
-    Coordinate::In(sum - less)
-}
-
-// The cell of two coordinates, where both lie in 0 to 9.
-fn cell_of(column: Coordinate, row: Coordinate) -> Stepped
-    ensures { λ r. ⌜ r ≡ bothIn column row ⌝ }
-{
-    let Coordinate::In(c) = column else {
-        return Stepped::Outside;
-    };
-    let Coordinate::In(r) = row else {
-        return Stepped::Outside;
-    };
-    Stepped::Cell(FieldCell { column: c, row: r })
+    if x < FAR_OUT { x } else { FAR_OUT }
 }
 
 impl FieldCell {
@@ -102,20 +80,25 @@ impl FieldCell {
         row * 10 + column
     }
 
-    // The cell one step away, or Outside where that leaves the sector.
+    // The cell one step away, at the sums of the cell's column and row and the direction's differences, or Outside where one of them leaves
+    // the sector. Differences are kept plus one, so the sums of cells in the sector are 1 to 10.
     pub fn get_in_compass_direction(self, dir: CompassDir) -> Stepped
-        ensures { λ r. ⌜ r ≡ stepped self dir ⌝ }
+        ensures answer { λ r. ⌜ r ≡ stepped self dir ⌝ }
+        ensures by_sums { λ r. ⌜ BySums self dir r ⌝ }
+        ensures undone { λ r. ⌜ Undone self dir r ⌝ }
     {
-        let apart = dir.differences();
-        let east = apart.east;
-        let west = apart.west;
-        let south = apart.south;
-        let north = apart.north;
-        if east + west + south + north == 0 {
+        if !dir.points() {
             return Stepped::Outside;
         }
-        let column = summed(self.column, east, west);
-        let row = summed(self.row, south, north);
-        cell_of(column, row)
+        let apart = dir.differences();
+        let column = capped(self.column) + apart.column;
+        let row = capped(self.row) + apart.row;
+        if 1 <= column && column <= 10 && 1 <= row && row <= 10 {
+            return Stepped::Cell(FieldCell {
+                column: column - 1,
+                row: row - 1,
+            });
+        }
+        Stepped::Outside
     }
 }

@@ -6,12 +6,12 @@ use Prim.Native.Nat.{ℕ, _+_, _*_, _/_, _%_, _^_}
 use lib.Dec.{eqb}
 use Rattle.utilities.specs.declared.CompassDir.{CompassDir}
 use Rattle.utilities.specs.declared.CompassDir.the-variants.{Zero}
-use Rattle.utilities.specs.Compass.{differences, all}
+use Rattle.utilities.specs.Compass.{differences, rises, falls, all}
 use Rattle.integration_field.specs.Word.{flag}
 
 -- a direction's bits: N 1, E 2, S 4, W 8, diagonals by sum; Zero has none
 abbrev pub bitsOf : CompassDir → ℕ
-bitsOf d = let δ = differences d in δ .north * 1 + δ .east * 2 + δ .south * 4 + δ .west * 8
+bitsOf d = let δ = differences d in falls (δ .row) * 1 + rises (δ .column) * 2 + rises (δ .row) * 4 + falls (δ .column) * 8
 
 -- the first direction of a list that has these bits, Zero where none has
 abbrev pub dirWith : List CompassDir → ℕ → CompassDir

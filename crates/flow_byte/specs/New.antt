@@ -7,8 +7,7 @@ use lib.Dec.{leb, eqb}
 use lib.Bits.{bitOr}
 use lib.ListN.{getD}
 use Rattle.utilities.specs.declared.CompassDir.{CompassDir}
-use Rattle.utilities.specs.declared.CompassDir.the-variants.{North, West}
-use Rattle.utilities.specs.Compass.{opposite}
+use Rattle.utilities.specs.Compass.{opposite, lowerSide}
 use Rattle.route.specs.declared.PortalWindow.{PortalWindow}
 use Rattle.route.specs.Window.{below, stride, facing}
 use Rattle.route.specs.Step.{portalOf}
@@ -21,16 +20,12 @@ use Rattle.flow_byte.specs.declared.SeenValues.{SeenValues}
 unfoldable pub startOf : ℕ → ℕ
 startOf x = cond (isGoal x) 0x70 (cond (isPortal x) 0x90 (cond (isLos x) 0x30 (cond (isImpassable x) 0xE0 0)))
 
--- along an edge, the direction of the lower index: West along a row, North down a column
-abbrev pub towardsLower : CompassDir → CompassDir
-towardsLower side = cond (eqb (stride side) 1) West North
-
 -- The facing choice, by the values that a window cell sees: straight if not above either side; else the lower-index side
 -- if not above the other two; else the higher. A side's bits are the sum.
 unfoldable pub facingBits : CompassDir → ℕ → ℕ → ℕ → ℕ
 facingBits side lower straight higher =
     cond (leb straight lower && leb straight higher) (bitsOf side)
-    (cond (leb lower straight && leb lower higher) (bitsOf side + bitsOf (towardsLower side)) (bitsOf side + bitsOf (opposite (towardsLower side))))
+    (cond (leb lower straight && leb lower higher) (bitsOf side + bitsOf (lowerSide side)) (bitsOf side + bitsOf (opposite (lowerSide side))))
 
 -- the low 16 bits of the cell that faces cell i
 abbrev pub facingValue : List ℕ → CompassDir → ℕ → ℕ

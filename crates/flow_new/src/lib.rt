@@ -17,7 +17,7 @@ ghost use Prim.Native.Nat.{_-_, _<_};
 ghost use lib.Dec.{eqb, leb};
 ghost use lib.ListN.{length};
 ghost use Rattle.route.specs.Inner.{heldCells, WindowHeld};
-ghost use Rattle.flow_byte.specs.New.{startOf, towardsLower, facingBits, facingValue, unlessEnd, seenValues, facingChoice, windowBits, newBytes};
+ghost use Rattle.flow_byte.specs.New.{startOf, facingBits, facingValue, unlessEnd, seenValues, facingChoice, windowBits, newBytes};
 ghost use Rattle.flow_new.specs.Flow.{newNumber, newSheet};
 ghost use Rattle.flow_new.specs.Inner.{startBytes, withBits};
 
@@ -43,16 +43,6 @@ fn starting_flags(value: u32) -> u8
     BITS_DEFAULT
 }
 
-// Along an edge, the direction of the lower index.
-fn towards_lower(boundary: CompassDir) -> CompassDir
-    ensures { λ r. ⌜ r ≡ towardsLower boundary ⌝ }
-{
-    if route::stride_of(boundary) == 1 {
-        return CompassDir::West;
-    }
-    CompassDir::North
-}
-
 // A value is above neither of two others.
 fn not_above(value: u32, one: u32, other: u32) -> bool
     ensures { λ r. ⌜ r ≡ (leb value one && leb value other) ⌝ }
@@ -65,7 +55,7 @@ fn facing_bits(boundary: CompassDir, lower: u32, straight: u32, higher: u32) -> 
     ensures { λ r. ⌜ r ≡ facingBits boundary lower straight higher ⌝ }
 {
     let bits = flow_bits::convert_compass_dir_to_bits_dir(boundary);
-    let side = towards_lower(boundary);
+    let side = boundary.lower_side();
     if not_above(straight, lower, higher) {
         return bits;
     }

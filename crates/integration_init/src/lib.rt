@@ -26,7 +26,7 @@ ghost use Rattle.integration_field.specs.Diagonal.{wallAt};
 ghost use Rattle.route.specs.Inner.{heldCells, heldTarget, WindowHeld, TargetHeld};
 ghost use Rattle.started_field.specs.Started.{startedAt, startedFrom, started, initRefused, initAnswer, StartedField};
 ghost use Rattle.started_field.specs.CornerLine.{cornerLine};
-ghost use Rattle.started_field.specs.Sight.{wallOr, walls, withPortals, marked, stopped, lineMarked, extended, unlessWall, firstSide, sideTried, wallMet, neighbourLooked, looked, lookedAround, waveLooked, sightAfter};
+ghost use Rattle.started_field.specs.Sight.{wallOr, walls, withPortals, marked, stopped, lineMarked, extended, unlessWall, sideTried, wallMet, neighbourLooked, looked, lookedAround, waveLooked, sightAfter};
 ghost use Rattle.least_walks.specs.Promise.{OnceBuilt};
 ghost use Rattle.integration_init.specs.Held.{sightOf, Holds, Ready, Applied, AppliedAll, HoldsAll, ReadyAll, InWave, Drawn};
 
@@ -92,17 +92,6 @@ fn open_side(cells: &[u32; 100], from: usize, side: CompassDir) -> Stepped
         return Stepped::Outside;
     }
     Stepped::Cell(n)
-}
-
-// The side of a wall that is tried first, by the direction in which the wall was met; the other side is opposite.
-fn first_side(dir: CompassDir) -> CompassDir
-    ensures { λ r. ⌜ r ≡ firstSide dir ⌝ }
-{
-    let apart = dir.differences();
-    if apart.east + apart.west == 0 {
-        return CompassDir::West;
-    }
-    CompassDir::North
 }
 
 // Marks the cells of a corner's line up to where it stops; the i-th gets wave cost + 1 + i. Answers how many are listed.
@@ -193,7 +182,7 @@ fn meet_wall(
     requires { ⌜ (Ready (now cells) (now corners) count) × ((InWave «wavefront_cost» goal from) × (wall < 100)) ⌝ }
     ensures { λ r. ⌜ Applied (wallMet (cornerLine goal) «wavefront_cost» from wall dir) (now (cells .entry)) (now (corners .entry)) count (now (cells .exit)) (now (corners .exit)) r ⌝ }
 {
-    let side = first_side(dir);
+    let side = dir.lower_side();
     let listed = try_side(
         cells,
         corners,
@@ -299,6 +288,10 @@ fn look_around(
     requires { ⌜ (ReadyAll (now cells) (now corners) (counts .corners) (now queue) (counts .queued)) × (InWave «wavefront_cost» goal from) ⌝ }
     ensures { λ r. ⌜ AppliedAll (lookedAround (cornerLine goal) «wavefront_cost» from orthogonal) (now (cells .entry)) (now (corners .entry)) (counts .corners) (now (queue .entry)) (counts .queued) (now (cells .exit)) (now (corners .exit)) (r .corners) (now (queue .exit)) (r .queued) ⌝ }
 {
+    // It always is a cell of the sector: said to the compiler, which then leaves a test out of each look.
+    if 99 < from {
+        return counts;
+    }
     let mut counted = counts;
     let mut side: u8 = 0;
     while side < 4 {

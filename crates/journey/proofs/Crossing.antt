@@ -16,7 +16,7 @@ use lib.Dec.{leb, eqb}
 use borrow.Author.Tests.{eqb-true, eqb-false, eq-eqb, leb-true, leb-false, ltb-true}
 use Rattle.utilities.specs.declared.CompassDir.{CompassDir}
 use Rattle.utilities.specs.declared.CompassDir.the-variants.{North, East, South, West}
-use Rattle.utilities.specs.Compass.{opposite}
+use Rattle.utilities.specs.Compass.{opposite, lowerSide}
 use Rattle.route.specs.Window.{onEdge, stride, facing}
 use Rattle.route.specs.Step.{firstOf, lastOf, boundaryByte, boundaryOf, isWindow, windowCells, portalOf, stepNumber}
 use Rattle.route.specs.Target.{to-window, WindowCell, StepWindow}
@@ -27,7 +27,7 @@ use Rattle.route.proofs.Targets.{edge-named}
 use Rattle.route.proofs.Selected.{selected-from}
 use Rattle.sectors.proofs.Floor.{Arrives}
 use Rattle.flow_bits.specs.Byte.{bitsOf}
-use Rattle.flow_byte.specs.New.{towardsLower, facingBits, facingValue, seenValues, facingChoice, windowBits}
+use Rattle.flow_byte.specs.New.{facingBits, facingValue, seenValues, facingChoice, windowBits}
 use Rattle.arrows.specs.Arrows.{northward, eastward, southward, westward, Reached}
 use Rattle.arrows.proofs.Moves.{isArrow}
 use Rattle.counting.specs.Counting.{counts, countingCells}
@@ -66,32 +66,32 @@ module _ (s t x z b : ℕ) (h : z < 100) (few : b < 16) (is : isArrow b ≡ true
   unfolding onEdge
   north a u v p q e =
       let f = facing-north z h (eq-eqb (z / 10) 0 v) in
-      let c : facing North z % 10 ≡ z % 10 = omega (arith, f) in
-      (few, over-north s t x (facing North z) (facing-in North z) b is a u (omega (arith, f)) p q (rw c e))
+      let c : facing North z % 10 ≡ z % 10 = rw f (omega arith) in
+      (few, over-north s t x (facing North z) (facing-in North z) b is a u (rw f (omega arith)) p q (rw c e))
 
   east : Arrives s East t → x % 10 ≡ 9 → z % 10 ≡ 9 → eastward b ≡ 1 → westward b ≡ 0 → z / 10 + northward b ≡ x / 10 + southward b
       → Lands b (placeOf s x) (placeOf t (facing East z))
   unfolding onEdge
   east a u v p q e =
       let f = facing-east z h (eq-eqb (z % 10) 9 v) in
-      let c : facing East z / 10 ≡ z / 10 = omega (arith, f) in
-      (few, over-east s t x (facing East z) (facing-in East z) b is a u (omega (arith, f)) p q (rw c e))
+      let c : facing East z / 10 ≡ z / 10 = rw f (omega arith) in
+      (few, over-east s t x (facing East z) (facing-in East z) b is a u (rw f (omega arith)) p q (rw c e))
 
   south : Arrives s South t → x / 10 ≡ 9 → z / 10 ≡ 9 → southward b ≡ 1 → northward b ≡ 0 → z % 10 + westward b ≡ x % 10 + eastward b
       → Lands b (placeOf s x) (placeOf t (facing South z))
   unfolding onEdge
   south a u v p q e =
       let f = facing-south z h (eq-eqb (z / 10) 9 v) in
-      let c : facing South z % 10 ≡ z % 10 = omega (arith, f) in
-      (few, over-south s t x (facing South z) (facing-in South z) b is a u (omega (arith, f)) p q (rw c e))
+      let c : facing South z % 10 ≡ z % 10 = rw f (omega arith) in
+      (few, over-south s t x (facing South z) (facing-in South z) b is a u (rw f (omega arith)) p q (rw c e))
 
   west : Arrives s West t → x % 10 ≡ 0 → z % 10 ≡ 0 → westward b ≡ 1 → eastward b ≡ 0 → z / 10 + northward b ≡ x / 10 + southward b
       → Lands b (placeOf s x) (placeOf t (facing West z))
   unfolding onEdge
   west a u v p q e =
       let f = facing-west z h (eq-eqb (z % 10) 0 v) in
-      let c : facing West z / 10 ≡ z / 10 = omega (arith, f) in
-      (few, over-west s t x (facing West z) (facing-in West z) b is a u (omega (arith, f)) p q (rw c e))
+      let c : facing West z / 10 ≡ z / 10 = rw f (omega arith) in
+      (few, over-west s t x (facing West z) (facing-in West z) b is a u (rw f (omega arith)) p q (rw c e))
 
 -- straight, and by the window's cell before x or behind it
 module _ (s t x : ℕ) (h : x < 100) (side : CompassDir) (on : onEdge side x ≡ true) (next : Arrives s side t) where
@@ -106,7 +106,7 @@ module _ (s t x : ℕ) (h : x < 100) (side : CompassDir) (on : onEdge side x ≡
 
   -- one cell of the edge back, where there is one before x
   abbrev ByLower : CompassDir → Type 0
-  ByLower d = Lands (bitsOf d + bitsOf (towardsLower d)) (placeOf s x) (placeOf t (facing d (x - stride d)))
+  ByLower d = Lands (bitsOf d + bitsOf (lowerSide d)) (placeOf s x) (placeOf t (facing d (x - stride d)))
 
   lower : (f : ℕ) → onEdge side f ≡ true → f < x → ByLower side
   unfolding onEdge
@@ -120,7 +120,7 @@ module _ (s t x : ℕ) (h : x < 100) (side : CompassDir) (on : onEdge side x ≡
 
   -- one on, where there is one behind x
   abbrev ByHigher : CompassDir → Type 0
-  ByHigher d = Lands (bitsOf d + bitsOf (opposite (towardsLower d))) (placeOf s x) (placeOf t (facing d (x + stride d)))
+  ByHigher d = Lands (bitsOf d + bitsOf (opposite (lowerSide d))) (placeOf s x) (placeOf t (facing d (x + stride d)))
 
   higher : (f : ℕ) → f < 100 → onEdge side f ≡ true → x < f → ByHigher side
   unfolding onEdge
@@ -137,8 +137,8 @@ module _ (s t x : ℕ) (h : x < 100) (side : CompassDir) (on : onEdge side x ≡
 -- which of them the bits stand for, and that it is below 65535
 data Chosen (side : CompassDir) (l s h b : ℕ) : Type 0 where
   by-straight : b ≡ bitsOf side → s < 65535 → Chosen side l s h b
-  by-lower : b ≡ bitsOf side + bitsOf (towardsLower side) → l < 65535 → Chosen side l s h b
-  by-higher : b ≡ bitsOf side + bitsOf (opposite (towardsLower side)) → h < 65535 → Chosen side l s h b
+  by-lower : b ≡ bitsOf side + bitsOf (lowerSide side) → l < 65535 → Chosen side l s h b
+  by-higher : b ≡ bitsOf side + bitsOf (opposite (lowerSide side)) → h < 65535 → Chosen side l s h b
 
 chosen : (side : CompassDir) (l s h : ℕ) → (s < 65535) ⊎ ((l < 65535) ⊎ (h < 65535)) → Chosen side l s h (facingBits side l s h)
 unfolding facingBits
@@ -152,7 +152,7 @@ chosen side l s h some = go (leb s l) (leb s h) (leb l s) (leb l h) refl refl re
 
     go : (p q u v : Bool) → leb s l ≡ p → leb s h ≡ q → leb l s ≡ u → leb l h ≡ v
         → Chosen side l s h (cond (p && q) (bitsOf side)
-        (cond (u && v) (bitsOf side + bitsOf (towardsLower side)) (bitsOf side + bitsOf (opposite (towardsLower side)))))
+        (cond (u && v) (bitsOf side + bitsOf (lowerSide side)) (bitsOf side + bitsOf (opposite (lowerSide side)))))
     go true true u v a b c d = by-straight refl (least (omega arith) (leb-true s l a) (leb-true s h b) some)
     go true false true true a b c d = by-lower refl (least (leb-true l s c) (omega arith) (leb-true l h d) some)
     go true false true false a b c d = by-higher refl (least (omega (arith, leb-false s h b)) (omega (arith, leb-false l h d)) (omega arith) some)

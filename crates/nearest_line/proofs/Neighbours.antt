@@ -1,15 +1,15 @@
 -- The neighbours that a line moves between are the cells that the eight directions lead to.
 -- Assumes nothing.
-use mathlib.Core.Path.{_≡_, refl}
+use mathlib.Core.Path.{_≡_, refl, sym, _∙_}
 use mathlib.Core.Bool.{Bool, true, false}
 use Prim.Native.Nat.{ℕ, _+_, _≤_, max}
 use native.Mathlib.Omega.{arith}
 use lib.Dec.{ltb}
 use borrow.Author.Tests.{ltb-true, ltb-false}
 use Rattle.utilities.specs.declared.CompassDir.{CompassDir}
-use Rattle.utilities.specs.declared.CompassDir.the-variants.{North, East, South, West, NorthEast, SouthEast, SouthWest, NorthWest, Zero}
-use Rattle.utilities.specs.declared.Differences.{Differences}
-use Rattle.utilities.specs.Compass.{differences, points}
+use Rattle.utilities.specs.declared.CompassDir.the-variants.{North, East, South, West, NorthEast, SouthEast, SouthWest, NorthWest}
+use Rattle.utilities.specs.Compass.{differences, rises, falls}
+use Rattle.utilities.proofs.Compass.{small, changes}
 use Rattle.fields.specs.declared.FieldCell.{FieldCell}
 use Rattle.fields.specs.declared.Stepped.the-variants.{Cell}
 use Rattle.fields.specs.Cell.{Inside, stepped}
@@ -36,14 +36,14 @@ led c n i true e true d p q r s k =
     let y = ltb-true (n .row) (c .row) r in (
       NorthWest,
       steps-to c NorthWest n
-          (record { pointing = refl; column-from = omega arith; row-from = omega arith; column-at = omega arith; row-at = omega arith; within = i }),
+          (record { pointing = refl; column-at = omega arith; row-at = omega arith; within = i }),
     )
 led c n i true e false true p q r s k =
     let x = ltb-true (n .column) (c .column) p in
     let y = ltb-true (c .row) (n .row) s in (
       SouthWest,
       steps-to c SouthWest n
-          (record { pointing = refl; column-from = omega arith; row-from = omega arith; column-at = omega arith; row-at = omega arith; within = i }),
+          (record { pointing = refl; column-at = omega arith; row-at = omega arith; within = i }),
     )
 led c n i true e false false p q r s k =
     let x = ltb-true (n .column) (c .column) p in
@@ -51,21 +51,21 @@ led c n i true e false false p q r s k =
     let y′ = ltb-false (c .row) (n .row) s in (
       West,
       steps-to c West n
-          (record { pointing = refl; column-from = omega arith; row-from = omega arith; column-at = omega arith; row-at = omega arith; within = i }),
+          (record { pointing = refl; column-at = omega arith; row-at = omega arith; within = i }),
     )
 led c n i false true true d p q r s k =
     let x = ltb-true (c .column) (n .column) q in
     let y = ltb-true (n .row) (c .row) r in (
       NorthEast,
       steps-to c NorthEast n
-          (record { pointing = refl; column-from = omega arith; row-from = omega arith; column-at = omega arith; row-at = omega arith; within = i }),
+          (record { pointing = refl; column-at = omega arith; row-at = omega arith; within = i }),
     )
 led c n i false true false true p q r s k =
     let x = ltb-true (c .column) (n .column) q in
     let y = ltb-true (c .row) (n .row) s in (
       SouthEast,
       steps-to c SouthEast n
-          (record { pointing = refl; column-from = omega arith; row-from = omega arith; column-at = omega arith; row-at = omega arith; within = i }),
+          (record { pointing = refl; column-at = omega arith; row-at = omega arith; within = i }),
     )
 led c n i false true false false p q r s k =
     let x = ltb-true (c .column) (n .column) q in
@@ -73,7 +73,7 @@ led c n i false true false false p q r s k =
     let y′ = ltb-false (c .row) (n .row) s in (
       East,
       steps-to c East n
-          (record { pointing = refl; column-from = omega arith; row-from = omega arith; column-at = omega arith; row-at = omega arith; within = i }),
+          (record { pointing = refl; column-at = omega arith; row-at = omega arith; within = i }),
     )
 led c n i false false true d p q r s k =
     let x = ltb-false (n .column) (c .column) p in
@@ -81,7 +81,7 @@ led c n i false false true d p q r s k =
     let y = ltb-true (n .row) (c .row) r in (
       North,
       steps-to c North n
-          (record { pointing = refl; column-from = omega arith; row-from = omega arith; column-at = omega arith; row-at = omega arith; within = i }),
+          (record { pointing = refl; column-at = omega arith; row-at = omega arith; within = i }),
     )
 led c n i false false false true p q r s k =
     let x = ltb-false (n .column) (c .column) p in
@@ -89,7 +89,7 @@ led c n i false false false true p q r s k =
     let y = ltb-true (c .row) (n .row) s in (
       South,
       steps-to c South n
-          (record { pointing = refl; column-from = omega arith; row-from = omega arith; column-at = omega arith; row-at = omega arith; within = i }),
+          (record { pointing = refl; column-at = omega arith; row-at = omega arith; within = i }),
     )
 led c n i false false false false p q r s k =
     let x = ltb-false (n .column) (c .column) p in
@@ -103,40 +103,20 @@ neighbours-stepped c n i h =
     led c n i (ltb (n .column) (c .column)) (ltb (c .column) (n .column)) (ltb (n .row) (c .row)) (ltb (c .row) (n .row)) refl refl refl refl
     (close (c .column) (n .column) (c .row) (n .row) h)
 
--- a direction moves by one at most in each coordinate, and by one in some
-record One (δ : Differences) : Type 0 where
-  across : δ .east + δ .west ≤ 1
-  along : δ .south + δ .north ≤ 1
-  some : 1 ≤ δ .east + δ .west + (δ .south + δ .north)
-
-one : (d : CompassDir) → points d ≡ true → One (differences d)
-one North e = record { across = omega arith; along = omega arith; some = omega arith }
-one East e = record { across = omega arith; along = omega arith; some = omega arith }
-one South e = record { across = omega arith; along = omega arith; some = omega arith }
-one West e = record { across = omega arith; along = omega arith; some = omega arith }
-one NorthEast e = record { across = omega arith; along = omega arith; some = omega arith }
-one SouthEast e = record { across = omega arith; along = omega arith; some = omega arith }
-one SouthWest e = record { across = omega arith; along = omega arith; some = omega arith }
-one NorthWest e = record { across = omega arith; along = omega arith; some = omega arith }
-one Zero e = let z : _≡_ {A = ℕ} 0 1 = cc in absurd (omega arith)
-
 largest : (x y : ℕ) → x ≤ 1 → y ≤ 1 → 1 ≤ x + y → max x y ≡ 1
 largest x y p q r = omega arith
 
-by-one : (a b e w : ℕ) → b + w ≡ a + e → e + w ≤ 1 → apart a b ≡ e + w
-by-one a b e w p h = omega arith
+by-one : (a b δ : ℕ) → b + 1 ≡ a + δ → δ ≤ 2 → apart a b ≡ rises δ + falls δ
+by-one a b δ p h = omega arith
 
--- and each of them is a neighbour
+-- and each of them is a neighbour: a direction moves by one at most in each coordinate, and by one in some
 pub stepped-neighbours : (c n : FieldCell) (d : CompassDir) → stepped c d ≡ Cell n → Neighbours c n
 stepped-neighbours c n d e =
     let δ = differences d in
     let a = stepped-cell c d n e in
-    let u = one d (a .pointing) in
-    let f = a .column-from in
-    let g = a .column-at in
-    let h = a .row-from in
-    let k = a .row-at in
-    let p : n .column + δ .west ≡ c .column + δ .east = omega arith in
-    let q : n .row + δ .north ≡ c .row + δ .south = omega arith in
-    rw (by-one (c .column) (n .column) (δ .east) (δ .west) p (u .across), by-one (c .row) (n .row) (δ .south) (δ .north) q (u .along))
-    (largest (δ .east + δ .west) (δ .south + δ .north) (u .across) (u .along) (u .some))
+    let s = small d refl in
+    let some = ltb-true 0 (changes δ) (sym (s .some) ∙ a .pointing) in
+    let columns = rises (δ .column) + falls (δ .column) in
+    let rows = rises (δ .row) + falls (δ .row) in
+    rw (by-one (c .column) (n .column) (δ .column) (a .column-at) (s .columns), by-one (c .row) (n .row) (δ .row) (a .row-at) (s .rows))
+    (largest columns rows (omega (arith, s .columns)) (omega (arith, s .rows)) (omega (arith, some)))

@@ -2,7 +2,7 @@
 -- Assumes nothing.
 use mathlib.Core.Bool.{Bool, false, cond, _&&_}
 use mathlib.Core.List.{List, [], _∷_, _++_}
-use Prim.Native.Nat.{ℕ, zero, suc, _+_, _-_, _*_, _/_, _%_}
+use Prim.Native.Nat.{ℕ, zero, suc, _+_, _*_, _/_, _%_}
 use lib.Dec.{leb, eqb}
 use lib.ListN.{length}
 use Rattle.utilities.specs.declared.CompassDir.{CompassDir}
@@ -48,14 +48,15 @@ cellsBetween side first last = select (between first last) (edge side)
 
 -- from a window cell to the next: 1 along a row, 10 down a column
 abbrev pub stride : CompassDir → ℕ
-stride side = cond (eqb (differences side .east + differences side .west) 0) 1 10
+stride side = cond (eqb (differences side .column) 1) 1 10
 
 -- window cells in an array, with their count (01, under the table: places of a list beyond its count hold 0)
 abbrev pub listed : List ℕ → WindowCells
 listed l = record { cells = padded 10 0 l; count = length l }
 
--- the cell across the boundary that faces cell i (01, "Flow byte": facing cells): one step on, columns and rows counted round into the next sector
+-- the cell across the boundary that faces cell i (01, "Flow byte": facing cells): one step on, columns and rows counted round into the next
+-- sector; a difference is kept plus one, so nine more make ten
 abbrev pub facing : CompassDir → ℕ → ℕ
 facing side i =
     let δ = differences side in
-    (i / 10 + δ .south + 10 - δ .north) % 10 * 10 + (i % 10 + δ .east + 10 - δ .west) % 10
+    (i / 10 + δ .row + 9) % 10 * 10 + (i % 10 + δ .column + 9) % 10

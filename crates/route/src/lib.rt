@@ -57,7 +57,7 @@ pub fn stride_of(boundary: CompassDir) -> usize
     ensures { λ r. ⌜ r ≡ stride boundary ⌝ }
 {
     let apart = boundary.differences();
-    if apart.east + apart.west == 0 { 1 } else { 10 }
+    if apart.column == 1 { 1 } else { 10 }
 }
 
 // How many cells a side's edge has; a direction that is no side has no edge.
@@ -73,7 +73,7 @@ fn edge_cell(boundary: CompassDir, place: usize) -> usize
     ensures { λ r. ⌜ r ≡ getD (edge boundary) place 0 ⌝ }
 {
     let apart = boundary.differences();
-    let first = apart.east * 9 + apart.south * 90;
+    let first = apart.column / 2 * 9 + apart.row / 2 * 90;
     first + place * stride_of(boundary)
 }
 
@@ -92,8 +92,8 @@ pub fn facing_cell(boundary: CompassDir, index: usize) -> usize
     ensures { λ r. ⌜ r ≡ facing boundary index ⌝ }
 {
     let apart = boundary.differences();
-    let column = index % 10 + apart.east + 10 - apart.west;
-    let row = index / 10 + apart.south + 10 - apart.north;
+    let column = index % 10 + apart.column + 9;
+    let row = index / 10 + apart.row + 9;
     row % 10 * 10 + column % 10
 }
 

@@ -28,9 +28,9 @@ unfoldable pub placed : ℕ → ℕ → Across
 placed column row = sectorIf (leb 1 column && leb column 8 && (leb 1 row && leb row 8)) (sectorAt (column - 1) (row - 1))
 
 -- The sector one step away: the one at the two sums of the sector's column and row and the direction's differences, where both lie in 0 to 7.
--- There is none for a number over 63, nor for `Zero`, which points nowhere.
+-- Differences are kept plus one, so the sums are counted from 1. There is none for a number over 63, nor for `Zero`, which points nowhere.
 unfoldable pub across : ℕ → CompassDir → Across
 across s d =
     let δ = differences d in
-    sectorIf (ltb s 64 && points d && (sumWithin 7 (columnOf s) (δ .east) (δ .west) && sumWithin 7 (rowOf s) (δ .south) (δ .north)))
-    (sectorAt (columnOf s + δ .east - δ .west) (rowOf s + δ .south - δ .north))
+    sectorIf (ltb s 64 && points d && (sumWithin 7 (columnOf s) (δ .column) && sumWithin 7 (rowOf s) (δ .row)))
+    (sectorAt (columnOf s + δ .column - 1) (rowOf s + δ .row - 1))

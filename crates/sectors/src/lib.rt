@@ -35,15 +35,11 @@ pub fn get_in_compass_direction(sector: usize, dir: CompassDir) -> Across
     if 63 < sector {
         return Across::OffFloor;
     }
-    let apart = dir.differences();
-    let east = apart.east;
-    let west = apart.west;
-    let south = apart.south;
-    let north = apart.north;
-    if east + west + south + north == 0 {
+    if !dir.points() {
         return Across::OffFloor;
     }
-    let column = sector % 8 + 1 + east - west;
-    let row = sector / 8 + 1 + south - north;
+    let apart = dir.differences();
+    let column = sector % 8 + apart.column;
+    let row = sector / 8 + apart.row;
     sector_at(column, row)
 }

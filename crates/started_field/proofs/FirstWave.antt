@@ -15,14 +15,15 @@ use borrow.Author.Tests.{eq-eqb}
 use lib.ListN.{length, getD}
 use Rattle.utilities.specs.declared.CompassDir.{CompassDir}
 use Rattle.utilities.specs.declared.CompassDir.the-variants.{North, East, South, West}
-use Rattle.utilities.specs.Compass.{orthogonal, opposite}
+use Rattle.utilities.specs.Compass.{orthogonal, opposite, lowerSide}
 use Rattle.fields.specs.declared.FieldCell.{FieldCell}
 use Rattle.fields.specs.declared.Stepped.the-variants.{Cell}
 use Rattle.fields.specs.Cell.{cell, Inside, cellAt, indexOf, stepped}
-use Rattle.fields.proofs.Steps.{Arrives, stepped-cell, steps-to, step-back, index-below, index-of-cell, cell-inside, cell-of-index}
+use Rattle.fields.specs.Steps.{Arrives}
+use Rattle.fields.proofs.Steps.{stepped-cell, steps-to, step-back, index-below, index-of-cell, cell-inside, cell-of-index}
 use Rattle.integration_field.specs.Word.{isLos, isGoal, isBlocked, isImpassable}
 use Rattle.integration_field.specs.Diagonal.{wallAt, betweenWalls}
-use Rattle.started_field.specs.Sight.{Sight, cornerWord, sightWord, listed, marked, stopped, lineMarked, seen, firstSide, extended, sideTried, wallMet, neighbourLooked, looked, lookedAround}
+use Rattle.started_field.specs.Sight.{Sight, cornerWord, sightWord, listed, marked, stopped, lineMarked, seen, extended, sideTried, wallMet, neighbourLooked, looked, lookedAround}
 use Rattle.started_field.specs.Lines.{Lines}
 use Rattle.started_field.proofs.Count.{Each, count, Passes, once-room, each-more, each-one, once-more, at-set}
 use Rattle.started_field.proofs.Words.{corner-flags}
@@ -304,13 +305,13 @@ module _ (goal : ℕ) (goal-in : goal < 100) (walls : ℕ → Bool) where
           let o = side-opposite (h .side) side-side in
           let try : CompassDir → Sight → Sight = λ side u. sideTried cornerLine 1 goal (indexOf (h .wall-cell)) side u in
           ⊎-elim
-          (λ (e : opposite (h .way) ≡ firstSide way).
-          kept-side (first-keeps Only Never) goal way (h .wall-cell) refl o sees-wall (h .found .wall) (opposite (firstSide way)) (try (firstSide way) t) (inr refl)
+          (λ (e : opposite (h .way) ≡ lowerSide way).
+          kept-side (first-keeps Only Never) goal way (h .wall-cell) refl o sees-wall (h .found .wall) (opposite (lowerSide way)) (try (lowerSide way) t) (inr refl)
           (subst (λ (side : CompassDir). First Only Never (try side t)) e (side-blocks t p)))
-          (λ (e : opposite (h .way) ≡ opposite (firstSide way)).
-          subst (λ (side : CompassDir). First Only Never (try side (try (firstSide way) t))) e
-          (side-blocks (try (firstSide way) t)
-          (kept-side (first-keeps Never Never) goal way (h .wall-cell) refl o sees-wall (h .found .wall) (firstSide way) t (inl refl) p)))
+          (λ (e : opposite (h .way) ≡ opposite (lowerSide way)).
+          subst (λ (side : CompassDir). First Only Never (try side (try (lowerSide way) t))) e
+          (side-blocks (try (lowerSide way) t)
+          (kept-side (first-keeps Never Never) goal way (h .wall-cell) refl o sees-wall (h .found .wall) (lowerSide way) t (inl refl) p)))
           (sideways-back (h .way) (h .side) (h .is-side) (h .found .sideways))
 
       look-blocks : (t : Sight) → First Never Never t → First Only Never (look (opposite (h .side)) t)

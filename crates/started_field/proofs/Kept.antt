@@ -9,7 +9,7 @@ use native.Mathlib.Omega.{arith}
 use lib.ListN.{length, getD}
 use Rattle.utilities.specs.declared.CompassDir.{CompassDir}
 use Rattle.utilities.specs.declared.CompassDir.the-variants.{North, East, South, West}
-use Rattle.utilities.specs.Compass.{orthogonal, opposite}
+use Rattle.utilities.specs.Compass.{orthogonal, opposite, lowerSide}
 use Rattle.fields.specs.declared.FieldCell.{FieldCell}
 use Rattle.fields.specs.declared.Stepped.{Stepped}
 use Rattle.fields.specs.declared.Stepped.the-variants.{Cell, Outside}
@@ -24,7 +24,6 @@ use Rattle.started_field.specs.Sight.{
   lineMarked,
   seen,
   unlessWall,
-  firstSide,
   extended,
   cornerOf,
   sideTried,
@@ -123,7 +122,7 @@ module _ {cornerLine : ℕ → List ℕ} {wave : ℕ} {walls : ℕ → Bool} {Fr
 
     pub kept-wall : (s : Sight) → P s → P (wallMet cornerLine wave from (indexOf x) d s)
     unfolding wallMet
-    kept-wall s p = kept-side (opposite (firstSide d)) (sideTried cornerLine wave from (indexOf x) (firstSide d) s) (inr refl) (kept-side (firstSide d) s (inl refl) p)
+    kept-wall s p = kept-side (opposite (lowerSide d)) (sideTried cornerLine wave from (indexOf x) (lowerSide d) s) (inr refl) (kept-side (lowerSide d) s (inl refl) p)
 
   module _ (from : ℕ) (inWave : From from) where
     pub kept-neighbour : (d : CompassDir) (n : FieldCell) (s : Sight) → isSide d ≡ true → stepped (cellAt from) d ≡ Cell n → P s

@@ -11,13 +11,13 @@ use Prim.Native.Nat.{_+_, _%_}
 use native.Mathlib.Omega.{arith}
 use Rattle.utilities.specs.declared.CompassDir.{CompassDir}
 use Rattle.utilities.specs.declared.CompassDir.the-variants.{North, East, South, West, NorthEast, SouthEast, SouthWest, NorthWest, Zero}
-use Rattle.utilities.specs.Compass.{opposite}
+use Rattle.utilities.specs.Compass.{opposite, lowerSide}
 use Rattle.fields.specs.declared.FieldCell.{FieldCell}
 use Rattle.fields.specs.declared.Stepped.the-variants.{Cell}
 use Rattle.fields.specs.Cell.{stepped}
-use Rattle.fields.proofs.Steps.{Arrives, stepped-cell, steps-to}
+use Rattle.fields.specs.Steps.{Arrives}
+use Rattle.fields.proofs.Steps.{stepped-cell, steps-to}
 use borrow.Author.Needs.{needs}
-use Rattle.started_field.specs.Sight.{firstSide}
 
 -- one of the four sides
 abbrev pub isSide : CompassDir → Bool
@@ -58,7 +58,7 @@ odd d c n o e =
 
 -- a direction sideways to d
 abbrev pub Sideways : CompassDir → CompassDir → Type 0
-Sideways d side = (side ≡ firstSide d) ⊎ (side ≡ opposite (firstSide d))
+Sideways d side = (side ≡ lowerSide d) ⊎ (side ≡ opposite (lowerSide d))
 
 -- what holds of both directions sideways to each side
 pub by-sideways : (Q : CompassDir → CompassDir → Type 0)
@@ -66,8 +66,8 @@ pub by-sideways : (Q : CompassDir → CompassDir → Type 0)
     → (d side : CompassDir) → isSide d ≡ true → Sideways d side → Q d side
 by-sideways Q nw ne en es sw se wn ws d side o w =
     ⊎-elim
-    (λ (e : side ≡ firstSide d). subst (Q d) (sym e) (by-side (λ t. Q t (firstSide t)) nw en sw wn d o))
-    (λ (e : side ≡ opposite (firstSide d)). subst (Q d) (sym e) (by-side (λ t. Q t (opposite (firstSide t))) ne es se ws d o))
+    (λ (e : side ≡ lowerSide d). subst (Q d) (sym e) (by-side (λ t. Q t (lowerSide t)) nw en sw wn d o))
+    (λ (e : side ≡ opposite (lowerSide d)). subst (Q d) (sym e) (by-side (λ t. Q t (opposite (lowerSide t))) ne es se ws d o))
     w
 
 pub side-opposite : (d : CompassDir) → isSide d ≡ true → isSide (opposite d) ≡ true

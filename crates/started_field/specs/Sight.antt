@@ -8,7 +8,7 @@ use lib.Dec.{eqb}
 use lib.ListN.{getD, set}
 use Rattle.utilities.specs.declared.CompassDir.{CompassDir}
 use Rattle.utilities.specs.declared.CompassDir.the-variants.{North, West}
-use Rattle.utilities.specs.Compass.{differences, orthogonal, opposite}
+use Rattle.utilities.specs.Compass.{orthogonal, opposite, lowerSide}
 use Rattle.fields.specs.declared.Stepped.{Stepped}
 use Rattle.fields.specs.declared.Stepped.the-variants.{Cell, Outside}
 use Rattle.fields.specs.Cell.{cellAt, indexOf, stepped}
@@ -71,10 +71,6 @@ abbrev pub unlessWall : List ℕ → Stepped → Stepped
 unlessWall cells (Cell n) = cond (wallAt cells (indexOf n)) Outside (Cell n)
 unlessWall cells Outside = Outside
 
--- which of a direction's two sides is tried first: West of North and South, North of East and West; the second is opposite
-abbrev pub firstSide : CompassDir → CompassDir
-firstSide d = let δ = differences d in cond (eqb (δ .east + δ .west) 0) West North
-
 -- what a wave begins with: nothing is queued yet
 abbrev pub begun : Sight → Sight
 begun s = record { cells = s .cells; corners = s .corners; queue = [] }
@@ -98,7 +94,7 @@ module _ (cornerLine : ℕ → List ℕ) where
 
   -- Wall: both sideways pairs are tried (West then East, North then South).
   unfoldable pub wallMet : ℕ → ℕ → ℕ → CompassDir → Sight → Sight
-  wallMet wave from wall d s = sideTried wave from wall (opposite (firstSide d)) (sideTried wave from wall (firstSide d) s)
+  wallMet wave from wall d s = sideTried wave from wall (opposite (lowerSide d)) (sideTried wave from wall (lowerSide d) s)
 
   -- BLOCKED or GOAL: nothing. Wall: its sides. Otherwise, if not LOS: in sight.
   unfoldable pub neighbourLooked : ℕ → ℕ → CompassDir → ℕ → Sight → Sight

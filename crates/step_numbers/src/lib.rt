@@ -17,10 +17,10 @@ fn on_edge(boundary: CompassDir, index: usize) -> bool
         return false;
     }
     let apart = boundary.differences();
-    if apart.east + apart.west == 0 {
-        return index / 10 == apart.south * 9;
+    if apart.column == 1 {
+        return index / 10 == apart.row / 2 * 9;
     }
-    index % 10 == apart.east * 9
+    index % 10 == apart.column / 2 * 9
 }
 
 // 6, 7 or 8 for a step with this window that is refused, else 0.

@@ -1,39 +1,44 @@
 -- Laws of directions.
---     small                                    a direction moves by one at most in each coordinate
---     opposite-differences, opposite-points    the opposite direction moves as far, the other way round
---     within                                   what the test of a sum says
+--     small                   a direction moves by one at most in each coordinate, and by one in some unless it is Zero
+--     opposite-differences    the opposite direction's differences are what is left of two: as far, the other way
+--     opposite-points         and it is a direction where the other is one
+--     within                  what the test of a sum says
 -- Assumes nothing.
 use mathlib.Core.Path.{_≡_, refl}
-use mathlib.Core.Bool.{true, and-eq-true-iff}
-use Prim.Native.Nat.{ℕ, _+_, _≤_}
+use mathlib.Core.Bool.{true, _&&_, and-eq-true-iff}
+use Prim.Native.Nat.{ℕ, _+_, _-_, _≤_}
 use native.Mathlib.Omega.{arith}
-use lib.Dec.{leb}
+use lib.Dec.{leb, ltb}
 use borrow.Author.Tests.{leb-true}
 use Rattle.utilities.specs.declared.CompassDir.{CompassDir}
 use Rattle.utilities.specs.declared.CompassDir.the-variants.{North, East, South, West, NorthEast, SouthEast, SouthWest, NorthWest, Zero}
 use Rattle.utilities.specs.declared.Differences.{Differences}
-use Rattle.utilities.specs.Compass.{differences, points, sumWithin, opposite}
+use Rattle.utilities.specs.Compass.{differences, points, rises, falls, opposite}
 
-pub record Small (δ : Differences) : Type 0 where
-  pub columns : δ .east + δ .west ≤ 1
-  pub rows : δ .south + δ .north ≤ 1
+-- how many coordinates a pair of differences changes
+abbrev pub changes : Differences → ℕ
+changes δ = rises (δ .column) + falls (δ .column) + (rises (δ .row) + falls (δ .row))
 
-of-each : (d : CompassDir) → Small (differences d)
-of-each North = record { columns = omega arith; rows = omega arith }
-of-each East = record { columns = omega arith; rows = omega arith }
-of-each South = record { columns = omega arith; rows = omega arith }
-of-each West = record { columns = omega arith; rows = omega arith }
-of-each NorthEast = record { columns = omega arith; rows = omega arith }
-of-each SouthEast = record { columns = omega arith; rows = omega arith }
-of-each SouthWest = record { columns = omega arith; rows = omega arith }
-of-each NorthWest = record { columns = omega arith; rows = omega arith }
-of-each Zero = record { columns = omega arith; rows = omega arith }
+pub record Small (d : CompassDir) (δ : Differences) : Type 0 where
+  pub columns : δ .column ≤ 2
+  pub rows : δ .row ≤ 2
+  pub some : points d ≡ ltb 0 (changes δ)
 
-pub small : (d : CompassDir) {δ : Differences} → δ ≡ differences d → Small δ
+of-each : (d : CompassDir) → Small d (differences d)
+of-each North = record { columns = omega arith; rows = omega arith; some = refl }
+of-each East = record { columns = omega arith; rows = omega arith; some = refl }
+of-each South = record { columns = omega arith; rows = omega arith; some = refl }
+of-each West = record { columns = omega arith; rows = omega arith; some = refl }
+of-each NorthEast = record { columns = omega arith; rows = omega arith; some = refl }
+of-each SouthEast = record { columns = omega arith; rows = omega arith; some = refl }
+of-each SouthWest = record { columns = omega arith; rows = omega arith; some = refl }
+of-each NorthWest = record { columns = omega arith; rows = omega arith; some = refl }
+of-each Zero = record { columns = omega arith; rows = omega arith; some = refl }
+
+pub small : (d : CompassDir) {δ : Differences} → δ ≡ differences d → Small d δ
 small d e = rw e (of-each d)
 
-pub opposite-differences : (d : CompassDir)
-    → differences (opposite d) ≡ record { east = differences d .west; west = differences d .east; south = differences d .north; north = differences d .south }
+pub opposite-differences : (d : CompassDir) → differences (opposite d) ≡ record { column = 2 - differences d .column; row = 2 - differences d .row }
 opposite-differences North = refl
 opposite-differences East = refl
 opposite-differences South = refl
@@ -45,12 +50,17 @@ opposite-differences NorthWest = refl
 opposite-differences Zero = refl
 
 pub opposite-points : (d : CompassDir) → points (opposite d) ≡ points d
-opposite-points d =
-    let δ = differences d in
-    let e : δ .west + δ .east + δ .north + δ .south ≡ δ .east + δ .west + δ .south + δ .north = omega arith in
-    rw (opposite-differences d, e)
+opposite-points North = refl
+opposite-points East = refl
+opposite-points South = refl
+opposite-points West = refl
+opposite-points NorthEast = refl
+opposite-points SouthEast = refl
+opposite-points SouthWest = refl
+opposite-points NorthWest = refl
+opposite-points Zero = refl
 
-pub within : (n x more less : ℕ) → sumWithin n x more less ≡ true → (less ≤ x + more) × (x + more ≤ n + less)
-within n x more less e =
-    let p = and-eq-true-iff (leb less (x + more)) (leb (x + more) (n + less)) .0 e in
-    (leb-true less (x + more) (p .0), leb-true (x + more) (n + less) (p .1))
+pub within : (x δ : ℕ) {m : ℕ} → (leb 1 (x + δ) && leb (x + δ) m) ≡ true → (1 ≤ x + δ) × (x + δ ≤ m)
+within x δ {m} e =
+    let p = and-eq-true-iff (leb 1 (x + δ)) (leb (x + δ) m) .0 e in
+    (leb-true 1 (x + δ) (p .0), leb-true (x + δ) m (p .1))

@@ -1,6 +1,6 @@
 // Directions.
 ghost use mathlib.Core.Path.{_≡_};
-ghost use Rattle.utilities.specs.Compass.{differences, opposite, numberOf, sideOf};
+ghost use Rattle.utilities.specs.Compass.{differences, opposite, numberOf, points, lowerSide, sideOf};
 
 // A direction. Row 0 is north; `Zero` is none.
 pub enum CompassDir {
@@ -15,23 +15,16 @@ pub enum CompassDir {
     Zero,
 }
 
-// What a direction adds to a cell's column and row, east and south, and what it takes from them, west and north.
+// What a direction adds to a cell's column and to its row, each kept plus one: 0 is one less, 1 as it was, 2 is one more.
 pub struct Differences {
-    pub east: usize,
-    pub west: usize,
-    pub south: usize,
-    pub north: usize,
+    pub column: usize,
+    pub row: usize,
 }
 
-fn apart(east: usize, west: usize, south: usize, north: usize) -> Differences
-    ensures { λ r. ⌜ r ≡ record { east = east; west = west; south = south; north = north } ⌝ }
+fn apart(column: usize, row: usize) -> Differences
+    ensures { λ r. ⌜ r ≡ record { column = column; row = row } ⌝ }
 {
-    Differences {
-        east,
-        west,
-        south,
-        north,
-    }
+    Differences { column, row }
 }
 
 impl CompassDir {
@@ -40,15 +33,15 @@ impl CompassDir {
         ensures { λ r. ⌜ r ≡ differences self ⌝ }
     {
         match self {
-            CompassDir::North => apart(0, 0, 0, 1),
-            CompassDir::East => apart(1, 0, 0, 0),
-            CompassDir::South => apart(0, 0, 1, 0),
-            CompassDir::West => apart(0, 1, 0, 0),
-            CompassDir::NorthEast => apart(1, 0, 0, 1),
-            CompassDir::SouthEast => apart(1, 0, 1, 0),
-            CompassDir::SouthWest => apart(0, 1, 1, 0),
-            CompassDir::NorthWest => apart(0, 1, 0, 1),
-            CompassDir::Zero => apart(0, 0, 0, 0),
+            CompassDir::North => apart(1, 0),
+            CompassDir::East => apart(2, 1),
+            CompassDir::South => apart(1, 2),
+            CompassDir::West => apart(0, 1),
+            CompassDir::NorthEast => apart(2, 0),
+            CompassDir::SouthEast => apart(2, 2),
+            CompassDir::SouthWest => apart(0, 2),
+            CompassDir::NorthWest => apart(0, 0),
+            CompassDir::Zero => apart(1, 1),
         }
     }
 
@@ -84,6 +77,24 @@ impl CompassDir {
             CompassDir::NorthWest => 7,
             CompassDir::Zero => 8,
         }
+    }
+
+    // Whether it is a direction at all: `Zero` is none.
+    pub fn points(self) -> bool
+        ensures { λ r. ⌜ r ≡ points self ⌝ }
+    {
+        self.number() < 8
+    }
+
+    // Of the two sides that lie square to a direction, the one of the lower index: West of North and South, North of East and West.
+    pub fn lower_side(self) -> CompassDir
+        ensures { λ r. ⌜ r ≡ lowerSide self ⌝ }
+    {
+        let apart = self.differences();
+        if apart.column == 1 {
+            return CompassDir::West;
+        }
+        CompassDir::North
     }
 
     // The side of a sector that a step's boundary byte names; Zero for a byte that names none.

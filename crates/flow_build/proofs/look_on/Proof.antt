@@ -29,13 +29,13 @@ returns : tie.Need-returns
 returns c =
     let a = c .before .before .before .before .args in
     ap (λ (s : Stepped). seenAt (now (a .cells)) (a .index) (a .dir) s (a .best) (a .value))
-    (sym (c .enum-told .given .1) ∙ c .before .before .get-in-compass-direction .ensures ∙ ap (λ (x : FieldCell). stepped x (a .dir)) (c .before .before .before .from-index .ensures))
+    (sym (c .enum-told .given .1) ∙ c .before .before .get-in-compass-direction .ensures .0 ∙ ap (λ (x : FieldCell). stepped x (a .dir)) (c .before .before .before .from-index .ensures))
 
 -- the step arrives at the next cell
 arrives : (c : tie.After-known-told) → stepped (cellAt (c .before .before .before .before .before .args .index)) (c .before .before .before .before .before .args .dir) ≡ Cell (c .before .next .given .0 .0)
 arrives c =
     ap (λ (x : FieldCell). stepped x (c .before .before .before .before .before .args .dir)) (sym (c .before .before .before .before .from-index .ensures))
-    ∙ sym (c .before .before .before .get-in-compass-direction .ensures)
+    ∙ sym (c .before .before .before .get-in-compass-direction .ensures .0)
     ∙ c .before .next .given .1
 
 see-requires : tie.Need-see-requires

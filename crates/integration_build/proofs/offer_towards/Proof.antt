@@ -20,7 +20,7 @@ returns c =
     let step = c .before .before in
     let a = step .before .before .before .args in
     ap (λ (s : Stepped). offered (now (a .costs)) (a .value) s (now (a .cells)))
-    (sym (step-told _ _ (step .before .from-index .ensures) (step .get-in-compass-direction .ensures) (c .enum-told .given .1)))
+    (sym (step-told _ _ (step .before .from-index .ensures) (step .get-in-compass-direction .ensures .0) (c .enum-told .given .1)))
 
 -- the call, and where its step arrives
 abbrev start : tie.After-known-told → tie.Start
@@ -32,7 +32,7 @@ neighbour c = c .before .neighbour .given .0 .0
 arrives : (c : tie.After-known-told) → stepped (cellAt (start c .args .cell)) (start c .args .dir) ≡ Cell (neighbour c)
 arrives c =
     let step = c .before .before .before in
-    step-told _ _ (step .before .from-index .ensures) (step .get-in-compass-direction .ensures) (c .before .neighbour .given .1)
+    step-told _ _ (step .before .from-index .ensures) (step .get-in-compass-direction .ensures .0) (c .before .neighbour .given .1)
 
 index : (c : tie.After-as-1d-index) → let i = c .as-1d-index .result in (i ≡ indexOf (neighbour (c .before))) × (i < 100)
 index c = index-told (stepped-cell _ _ _ (arrives (c .before)) .within) (c .as-1d-index .ensures)

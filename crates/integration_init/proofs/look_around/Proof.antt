@@ -26,39 +26,57 @@ Inv-loop cells₀ corners₀ queue₀ from goal wavefront-cost counted₀ side�
 abbrev μ-loop : tie.MeasureT-loop
 μ-loop cells₀ corners₀ queue₀ from goal wavefront-cost counted₀ side₀ cells corners queue counted side = 4 - side
 
-loop-holds : tie.Need-loop-holds Inv-loop μ-loop
-loop-holds c = (search needs, c .pre .0, refl)
+-- the turn of the loop, where the direction is known, and the call
+abbrev Turn : Type 0
+Turn = tie.At-loop Inv-loop μ-loop
 
-look-requires : tie.Need-look-requires Inv-loop μ-loop
-look-requires c κs = (c .before .before .before .before .before .loop .inv .1, c .before .before .before .before .before .before .pre .1)
+abbrev start : Turn → tie.Start Inv-loop μ-loop
+start l = l .before .before
 
 -- what the arrays hold before a look
-abbrev held : tie.At-loop Inv-loop μ-loop → Sight
+abbrev held : Turn → Sight
 held c = let l = c .loop in sightOf (l .cells) (l .corners) (l .counted .corners) (take (l .counted .queued) (l .queue))
 
+returns : tie.Need-returns Inv-loop μ-loop
+returns c = let in-sector = c .before .pre .1 .from-in in absurd (omega arith)
+
+loop-holds : tie.Need-loop-holds Inv-loop μ-loop
+loop-holds c = (search needs, c .before .pre .0, refl)
+
+look-requires : tie.Need-look-requires Inv-loop μ-loop
+look-requires c κs = let turn = c .before .before .before .before .before in (turn .loop .inv .1, start turn .pre .1)
+
 loop-again : tie.Need-loop-again Inv-loop μ-loop
-loop-again c = let a = c .before .before .before .before .before .before .before .args in let l = c .before .before .before .before .before .before .loop in
-    let line = cornerLine (a .goal) in (
+loop-again c =
+    let told = c .before .before .before .before in
+    let tested = told .before in
+    let turn = tested .before in
+    let a = start turn .args in
+    let l = turn .loop in
+    let line = cornerLine (a .goal) in
+    let towards : CompassDir → Sight = λ d. looked line (a .wavefront-cost) (a .from) d (stepped (cellAt (a .from)) d) (held turn) in (
       search needs,
       all-ready (c .look .ensures),
       l .inv .2
-          ∙ around-step line (a .wavefront-cost) (a .from) (l .side) (held (c .before .before .before .before .before .before)) (c .before .before .before .before .before .loop-test .taken)
+          ∙ around-step line (a .wavefront-cost) (a .from) (l .side) (held turn) (tested .loop-test .taken)
           ∙ ap (lookedAround line (a .wavefront-cost) (a .from) (drop (l .side + 1) orthogonal))
-          (ap (λ (d : CompassDir). looked line (a .wavefront-cost) (a .from) d (stepped (cellAt (a .from)) d) (held (c .before .before .before .before .before .before))) (sym (c .before .before .before .before .from-boundary .ensures))
-          ∙ sym (held-all (c .look .ensures))),
+          (ap towards (sym (told .from-boundary .ensures)) ∙ sym (held-all (c .look .ensures))),
     )
 
-returns : tie.Need-returns Inv-loop μ-loop
-returns c = let a = c .before .before .args in let l = c .before .loop in
+returns-2 : tie.Need-returns-2 Inv-loop μ-loop
+returns-2 c =
+    let turn = c .before in
+    let a = start turn .args in
+    let l = turn .loop in
     let e : l .side ≡ 4 = omega arith in
     rw (l .inv .2
-    ∙ ap (λ (k : ℕ). lookedAround (cornerLine (a .goal)) (a .wavefront-cost) (a .from) (drop k orthogonal) (held (c .before))) e
-    ∙ around-end (cornerLine (a .goal)) (a .wavefront-cost) (a .from) (held (c .before))) (l .inv .1)
+    ∙ ap (λ (k : ℕ). lookedAround (cornerLine (a .goal)) (a .wavefront-cost) (a .from) (drop k orthogonal) (held turn)) e
+    ∙ around-end (cornerLine (a .goal)) (a .wavefront-cost) (a .from) (held turn)) (l .inv .1)
 
 pub look-around-spec : {M : Type 1} → statement M
 look-around-spec = tie.close (tie.spec
-    Inv-loop μ-loop loop-holds
+    Inv-loop μ-loop returns loop-holds
     (λ c κs. search needs)
     look-requires
     (λ c. search needs) (λ c. search needs)
-    loop-again returns)
+    loop-again returns-2)

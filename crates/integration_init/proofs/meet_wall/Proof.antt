@@ -3,8 +3,8 @@
 use mathlib.Core.Path.{_≡_, ap, _∙_}
 use borrow.Author.Needs.{needs}
 use Rattle.utilities.specs.declared.CompassDir.{CompassDir}
-use Rattle.utilities.specs.Compass.{opposite}
-use Rattle.started_field.specs.Sight.{Sight, firstSide, sideTried, wallMet}
+use Rattle.utilities.specs.Compass.{opposite, lowerSide}
+use Rattle.started_field.specs.Sight.{Sight, sideTried, wallMet}
 use Rattle.started_field.specs.CornerLine.{cornerLine}
 use Rattle.integration_init.proofs.Held.{applied-ready, applied-then}
 use Rattle.integration_init.proofs.meet_wall.Statement.{statement}
@@ -15,17 +15,21 @@ abbrev tried : tie.Start → CompassDir → Sight → Sight
 tried s side = let a = s .args in sideTried (cornerLine (a .goal)) (a .wavefront-cost) (a .from) (a .wall) side
 
 try-side-requires-2 : tie.Need-try-side-requires-2
-try-side-requires-2 c κs = let s = c .before .before .before .before .before .before .before in
-    (applied-ready (s .pre .0) (tried s (c .before .before .before .before .before .before .first-side .result)) (c .before .before .before .try-side .ensures), s .pre .1)
+try-side-requires-2 c κs =
+    let first = c .before .before .before .before .before .before in
+    let s = first .before in
+    (applied-ready (s .pre .0) (tried s (first .lower-side .result)) (c .before .before .before .try-side .ensures), s .pre .1)
 
 returns : tie.Need-returns
 unfolding wallMet
-returns c = let s = c .before .before .before .before .before .before .before .before in
-    let first = c .before .before .before .before .before .before .before .first-side .result in
-    let second = c .before .inverse .result in
-    let e : first ≡ firstSide (s .args .dir) = c .before .before .before .before .before .before .before .first-side .ensures in
-    let f : second ≡ opposite (firstSide (s .args .dir)) = c .before .inverse .ensures ∙ ap opposite e in
-    rw (← f, ← e) (applied-then (s .pre .0) (tried s first) (c .before .before .before .before .try-side .ensures) (tried s second) (c .try-side2 .ensures))
+returns c =
+    let first = c .before .before .before .before .before .before .before in
+    let s = first .before in
+    let second = c .before in
+    let e : first .lower-side .result ≡ lowerSide (s .args .dir) = first .lower-side .ensures in
+    let f : second .inverse .result ≡ opposite (lowerSide (s .args .dir)) = second .inverse .ensures ∙ ap opposite e in
+    let once = c .before .before .before .before .try-side .ensures in
+    rw (← f, ← e) (applied-then (s .pre .0) (tried s (first .lower-side .result)) once (tried s (second .inverse .result)) (c .try-side2 .ensures))
 
 pub meet-wall-spec : {M : Type 1} → statement M
 meet-wall-spec = tie.close (tie.spec

@@ -1,6 +1,7 @@
-use borrow.Author.Tests.{ne-eqb}
-use Prim.Native.Nat.{_+_}
-use Rattle.utilities.proofs.Compass.{small}
+-- `route::stride_of` meets its contract: one test of the difference of columns.
+-- Assumes nothing.
+use borrow.Author.Tests.{eq-eqb, ne-eqb}
+use native.Mathlib.Omega.{arith}
 use borrow.Author.Needs.{needs}
 use Rattle.route.proofs.stride_of.Statement.{statement}
 use Rattle.route.proofs.stride_of.Tie as tie
@@ -8,14 +9,11 @@ use Rattle.route.proofs.stride_of.Tie as tie
 differences-requires : tie.Need-differences-requires
 differences-requires c κs = search needs
 
-add-if1 : tie.Need-add-if1
-add-if1 c = let s = small (c .before .before .args .boundary) (c .before .differences .ensures) in search needs
-
 returns : tie.Need-returns
-returns c = rw (← c .before .before .differences .ensures, c .if1 .taken)
+returns c = let δ = c .before .before .differences in rw (← δ .ensures, eq-eqb (δ .result .column) 1 (omega arith))
 
 returns-2 : tie.Need-returns-2
-returns-2 c = let δ = c .before .before .differences in rw (← δ .ensures, ne-eqb (δ .result .east + δ .result .west) 0 (c .if1 .left))
+returns-2 c = let δ = c .before .before .differences in rw (← δ .ensures, ne-eqb (δ .result .column) 1 (c .if1 .left))
 
 pub stride-of-spec : {M : Type 1} → statement M
-stride-of-spec = tie.close (tie.spec differences-requires add-if1 returns returns-2)
+stride-of-spec = tie.close (tie.spec differences-requires returns returns-2)
