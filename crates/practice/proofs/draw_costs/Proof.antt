@@ -1,0 +1,76 @@
+-- `practice::draw_costs` meets its contract. The loop's invariant: the cells before place i are the definition's.
+-- Assumes nothing.
+use denote.Ref.{now}
+use mathlib.Core.Path.{_≡_, refl, _∙_}
+use mathlib.Core.List.{map}
+use Prim.Native.Nat.{_-_, _≤_}
+use native.Mathlib.Omega.{arith}
+use lib.ListN.{length, take, drop, length-set}
+use borrow.Author.Needs.{needs}
+use Rattle.practice.specs.Floor.{costOf}
+use Rattle.practice.proofs.Told.{cell-step, cells-end}
+use Rattle.practice.proofs.draw_costs.Statement.{statement}
+use Rattle.practice.proofs.draw_costs.Tie as tie
+
+abbrev Inv-loop : tie.InvT-loop
+Inv-loop values costs₀ i₀ costs i = (i ≤ 100) × (length costs ≡ 100) × (take i costs ≡ take i (map costOf (drop 55 (take 155 values))))
+
+abbrev μ-loop : tie.MeasureT-loop
+μ-loop values costs₀ i₀ costs i = 100 - i
+
+loop-holds : tie.Need-loop-holds Inv-loop μ-loop
+loop-holds c = (omega arith, refl, refl)
+
+add-cost-of : tie.Need-add-cost-of Inv-loop μ-loop
+add-cost-of c = omega arith
+
+mul-cost-of : tie.Need-mul-cost-of Inv-loop μ-loop
+mul-cost-of c = omega arith
+
+element-copy-out-cost-of : tie.Need-element-copy-out-cost-of Inv-loop μ-loop
+element-copy-out-cost-of c = omega arith
+
+cost-of-requires : tie.Need-cost-of-requires Inv-loop μ-loop
+cost-of-requires c κs = search needs
+
+array-write-costs : tie.Need-array-write-costs Inv-loop μ-loop
+array-write-costs c = omega arith
+
+add-i : tie.Need-add-i Inv-loop μ-loop
+add-i c = omega arith
+
+loop-less : tie.Need-loop-less Inv-loop μ-loop
+loop-less c = omega arith
+
+loop-again : tie.Need-loop-again Inv-loop μ-loop
+loop-again c =
+    let drawn = c .cost-of in
+    let l = c .before .before .before .loop in
+    let values = now (c .before .before .before .before .args .values) in (
+      omega arith,
+      length-set (l .costs) (l .i) (drawn .result) ∙ l .inv .1,
+      cell-step values (omega arith) (l .i) (drawn .result) (l .costs) (omega arith) (l .inv .1) (drawn .ensures) (l .inv .2),
+    )
+
+returns : tie.Need-returns Inv-loop μ-loop
+returns c =
+    let l = c .before .loop in
+    let k : l .i ≡ 100 = omega arith in
+    cells-end (now (c .before .before .args .values)) (omega arith) (l .costs) (l .inv .1) (rw k at (l .inv .2))
+
+pub draw-costs-spec : {M : Type 1} → statement M
+draw-costs-spec =
+    tie.close
+    (tie.spec
+    Inv-loop
+    μ-loop
+    loop-holds
+    add-cost-of
+    mul-cost-of
+    element-copy-out-cost-of
+    cost-of-requires
+    array-write-costs
+    add-i
+    loop-less
+    loop-again
+    returns)
