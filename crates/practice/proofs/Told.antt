@@ -52,9 +52,10 @@ module _ (values : List ℕ) (full : length values ≡ 156) where
       → take i costs ≡ take i (map costOf (drop 55 (take 155 values))) → take (i + 1) (set costs i x) ≡ take (i + 1) (map costOf (drop 55 (take 155 values)))
   unfolding cells
   cell-step i x costs h hundred e t =
-      let drawing : getD (map costOf cells) i 0 ≡ costOf (getD values (55 + i) 0) =
-      map-at costOf cells i (omega (arith, cells-length)) ∙ ap costOf (getD-drop 55 (take 155 values) i 0 ∙ getD-take 155 values (55 + i) 0 (omega arith)) in
-      rw (add-one i, take-suc-set costs i x (omega arith), take-suc (map costOf cells) i 0 (omega (arith, map-length costOf cells, cells-length)), drawing, e, t)
+      let place = getD-drop 55 (take 155 values) i 0 ∙ getD-take 155 values (55 + i) 0 (omega arith) in
+      let drawing : getD (map costOf cells) i 0 ≡ costOf (getD values (55 + i) 0) = map-at costOf cells i (omega (arith, cells-length)) ∙ ap costOf place in
+      let wider = take-suc (map costOf cells) i 0 (omega (arith, map-length costOf cells, cells-length)) in
+      rw (add-one i, take-suc-set costs i x (omega arith), wider, drawing, e, t)
 
   pub cells-end : (costs : List ℕ) → length costs ≡ 100 → take 100 costs ≡ take 100 (map costOf (drop 55 (take 155 values)))
       → costs ≡ map costOf (drop 55 (take 155 values))

@@ -1,0 +1,38 @@
+-- `practice_text::put_floor` meets its contract: ten rows, the goal behind them, and a line feed.
+-- Assumes nothing.
+use denote.Ref.{now}
+use native.Mathlib.Omega.{arith}
+use Rattle.practice_text.proofs.Laws.{floor-length, floor-put}
+use borrow.Author.Needs.{needs}
+use Rattle.practice_text.proofs.put_floor.Statement.{statement}
+use Rattle.practice_text.proofs.put_floor.Tie as tie
+
+put-rows-requires : tie.Need-put-rows-requires
+put-rows-requires c κs = search needs
+
+put-decimal-requires : tie.Need-put-decimal-requires
+put-decimal-requires c κs = search needs
+
+add-end : tie.Need-add-end
+add-end c = search needs
+
+element-write-out : tie.Need-element-write-out
+element-write-out c = search needs
+
+add-result : tie.Need-add-result
+add-result c = search needs
+
+returns : tie.Need-returns
+returns c =
+    let goal = c .put-decimal .ensures in
+    let rows = c .before .before .put-rows .ensures in
+    let a = c .before .before .before .before .before .before .args in (
+      omega arith,
+      omega (arith, floor-length (a .floor)),
+      rw (goal .1, goal .0 .1, rows) (floor-put (a .floor) (now (a .out))),
+    )
+
+pub put-floor-spec : {M : Type 1} → statement M
+put-floor-spec =
+    tie.close
+    (tie.spec put-rows-requires put-decimal-requires add-end element-write-out add-result returns)
