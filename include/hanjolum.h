@@ -36,6 +36,9 @@
  * step count 1 to 16, the steps, and nothing after; 14 to 134 bytes. No byte of a step is judged where a file is written
  * or read: that is done when the leg is planned.
  *
+ * Practice floors.  From a seed of 32 bits, the costs of a sector and a goal, the same wherever they are made: 1, 10 and
+ * 255 are the costs, and the goal's cell costs 1. A step to that goal is never 16.
+ *
  * Refusals.  An accepted call's number is 0. A refused one answers the number of the first line below that holds, of
  * those that its function names, writes not one byte of what it is lent, and has every other part of its answer zero.
  *     1   cost bytes not 100 (leg: 6,400)
@@ -162,6 +165,12 @@ typedef struct {
     size_t length;
 } HanjolumLegFile;
 
+/* A practice floor: a cost for each cell by index, and the goal's index, 0 to 99. */
+typedef struct {
+    uint8_t costs[100];
+    uint8_t goal;
+} HanjolumPracticeFloor;
+
 /*
  * Plans one sector: starts the field of a step on 100 cost bytes, builds it, and writes its 100 flow bytes to the sheet,
  * whatever they were before. Answers the built field and its wave count.
@@ -216,6 +225,15 @@ uint8_t hanjolum_leg_file_write(
  * Number 14.
  */
 HanjolumLegFile hanjolum_leg_file_read(const uint8_t *file, size_t file_length);
+
+/*
+ * The practice floor of a seed, of which every one is taken: there is no number. A generator's first value is the seed,
+ * each of the next 54 adds 2654435769 to the one before it, and each later one is the sum of those 24 and 55 places before
+ * it, all modulo 4294967296. From the 56th on each value gives a cell by its top byte: under 128 cost 1, 128 to 191 cost
+ * 10, else 255. The value behind those of the 100 cells, modulo 100, is the goal, and its cell becomes cost 1.
+ * Nothing is lent, and less than 1,000 bytes of stack are needed (read off the archive, not proved).
+ */
+HanjolumPracticeFloor hanjolum_practice_floor(uint32_t seed);
 
 /*
  * The field that a step starts on 100 cost bytes: walls, and the goal with what is in its sight, or the window cells.

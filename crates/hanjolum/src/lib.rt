@@ -5,6 +5,7 @@ use integration_field::IntegrationField;
 use leg_file::LegFile;
 use line_end::LineEnd;
 use nearest_line::Line;
+use practice::PracticeFloor;
 use started_field::InitAnswer;
 ghost use mathlib.Core.Path.{_≡_};
 ghost use lib.ListN.{take, drop};
@@ -30,6 +31,8 @@ ghost use Rattle.leg_plan.specs.Promise.{LegPlanned};
 ghost use Rattle.journey.specs.Journey.{LegArrives};
 ghost use Rattle.leg_file.specs.File.{writeNumber, writtenFile, fileSteps, fileAnswer};
 ghost use Rattle.leg_file.specs.Promise.{ReadBack, WrittenSame};
+ghost use Rattle.practice.specs.Floor.{practiceFloor};
+ghost use Rattle.practice.specs.Promise.{PracticeTold};
 
 // The sector call: the field that a step starts, built, and its flow bytes, or number 1, 2, 3, 4 to 8, 16, or 12.
 #[no_mangle]
@@ -76,6 +79,15 @@ pub extern "C" fn hanjolum_leg_file_read(file: &[u8]) -> LegFile
     ensures same { λ r. ⌜ WrittenSame (now (file .entry)) (take (r .length) (drop (r .start) (now (file .entry)))) ⌝ }
 {
     leg_reader::locate(file)
+}
+
+// The practice floor of a seed: 100 costs, and a goal of cost 1.
+#[no_mangle]
+pub extern "C" fn hanjolum_practice_floor(seed: u32) -> PracticeFloor
+    ensures floor { λ r. ⌜ r ≡ practiceFloor seed ⌝ }
+    ensures told { λ r. ⌜ PracticeTold seed r ⌝ }
+{
+    practice::practice_floor(seed)
 }
 
 // The field that a step starts on a sector's costs, or number 1, 3, 4 to 8, or 16.
