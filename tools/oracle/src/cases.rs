@@ -21,6 +21,8 @@ pub struct Case {
     pub cells: [FieldCell; 2],
     /// The byte that is read.
     pub byte: u8,
+    /// The seed of a practice floor.
+    pub seed: u32,
     pub costs: Vec<u8>,
     pub steps: Vec<u8>,
     pub field: IntegrationField,
@@ -39,6 +41,7 @@ pub struct Outcome {
     pub waves: usize,
     /// Start and length of the steps in a leg's file.
     pub part: [usize; 2],
+    pub practice: Option<PracticeFloor>,
     pub sheet: Vec<u8>,
     /// What is lent to be read is unchanged, and no guard beside lent memory is.
     pub memory_kept: bool,
@@ -50,6 +53,7 @@ impl Case {
             ask: Ask::One(call),
             cells: [FieldCell::default(); 2],
             byte: 0,
+            seed: 0,
             costs: Vec::new(),
             steps: Vec::new(),
             field: IntegrationField::ZERO,
@@ -112,6 +116,9 @@ impl Case {
                 let found = side.leg_file_read(steps);
                 Outcome { part: [found.start, found.length], ..Outcome::of_number(found.number) }
             }
+            Ask::One(Call::PracticeFloor) => {
+                Outcome { practice: Some(side.practice_floor(self.seed)), ..Outcome::of_number(0) }
+            }
             Ask::FlowBoth => {
                 let number = side.flow_new(steps, self.field, previous, sheet);
                 let second = if number == 0 { side.flow_build(self.field, sheet) } else { 0 };
@@ -128,6 +135,9 @@ impl Case {
         }
         if self.ask == Ask::One(Call::Readers) {
             let _ = writeln!(text, "let byte = {:#04x};", self.byte);
+        }
+        if self.ask == Ask::One(Call::PracticeFloor) {
+            let _ = writeln!(text, "let seed = {};", self.seed);
         }
         paste(&mut text, "costs", &self.costs, |x| format!("{x}"));
         let _ = if self.steps.is_empty() { Ok(()) } else { writeln!(text, "let steps = {:?};", self.steps) };
@@ -165,6 +175,7 @@ impl Outcome {
             field: IntegrationField::ZERO,
             waves: 0,
             part: [0; 2],
+            practice: None,
             sheet: Vec::new(),
             memory_kept: true,
         }
@@ -190,6 +201,10 @@ impl Outcome {
         differ(&mut found, "los_corners", &self.field.los_corners, &other.field.los_corners);
         differ(&mut found, "waves", &[self.waves], &[other.waves]);
         differ(&mut found, "part", &self.part, &other.part);
+        let [ours, theirs] = [self, other].map(|outcome| outcome.practice.as_ref());
+        let costs = |floor: Option<&PracticeFloor>| floor.map_or(Vec::new(), |floor| floor.costs.to_vec());
+        differ(&mut found, "cost", &costs(ours), &costs(theirs));
+        differ(&mut found, "goal", &[ours.map(|floor| floor.goal)], &[theirs.map(|floor| floor.goal)]);
         let bytes = |sheet: &[u8]| sheet.iter().map(|byte| Hex(u32::from(*byte))).collect::<Vec<_>>();
         differ(&mut found, "sheet", &bytes(&self.sheet), &bytes(&other.sheet));
         differ(&mut found, "memory kept", &[self.memory_kept], &[other.memory_kept]);

@@ -104,6 +104,7 @@ unsafe extern "C" {
     ) -> u8;
     fn hanjolum_leg_file_write(steps: *const u8, steps_length: usize, file: *mut u8, file_length: usize) -> u8;
     fn hanjolum_leg_file_read(file: *const u8, file_length: usize) -> LegFile;
+    fn hanjolum_practice_floor(seed: u32) -> PracticeFloor;
 }
 
 #[allow(unused_variables)]
@@ -130,6 +131,7 @@ impl Subject for Library {
             Call::Leg => cfg!(export = "hanjolum_leg"),
             Call::LegFileWrite => cfg!(export = "hanjolum_leg_file_write"),
             Call::LegFileRead => cfg!(export = "hanjolum_leg_file_read"),
+            Call::PracticeFloor => cfg!(export = "hanjolum_practice_floor"),
         }
     }
 
@@ -226,5 +228,9 @@ impl Subject for Library {
 
     fn leg_file_read(&self, file: &[u8]) -> LegFile {
         exported!("hanjolum_leg_file_read", hanjolum_leg_file_read(file.as_ptr(), file.len()))
+    }
+
+    fn practice_floor(&self, seed: u32) -> PracticeFloor {
+        exported!("hanjolum_practice_floor", hanjolum_practice_floor(seed))
     }
 }

@@ -1,8 +1,8 @@
 //! The oracle: refusal numbers by the table of documents 01 and 02, everything else by the Rust, but for what has no Rust,
-//! leg files and legs in which some window cell does not count (02, Jobs 1 and 2), which the model answers. A step whose
-//! goal or some window cell is of cost 255 (02, Job 3) is the table's, and the Rust, which takes it, is not asked. Wave
-//! counts come from the counted copy, whose fields are asserted equal to the published one's. Each judge is noted where it
-//! is asked.
+//! leg files, legs in which some window cell does not count, and practice floors (02, Jobs 1, 2 and 6), which the model
+//! answers. A step whose goal or some window cell is of cost 255 (02, Job 3) is the table's, and the Rust, which takes it,
+//! is not asked. Wave counts come from the counted copy, whose fields are asserted equal to the published one's. Each judge
+//! is noted where it is asked.
 
 use reference::flowfields as rust;
 use reference::flowfields::fields::bresenham::{walk_bresenham_shallow, walk_bresenham_steep};
@@ -21,7 +21,7 @@ pub fn judges(call: Call) -> &'static [Judge] {
     match call {
         Call::Build | Call::Sector => &[Judge::Published, Judge::Counted],
         Call::Leg => &[Judge::Published, Judge::Model],
-        Call::LegFileWrite | Call::LegFileRead => &[Judge::Model],
+        Call::LegFileWrite | Call::LegFileRead | Call::PracticeFloor => &[Judge::Model],
         _ => &[Judge::Published],
     }
 }
@@ -319,7 +319,7 @@ impl Subject for Oracle {
         0
     }
 
-    // A leg file has no Rust.
+    // Leg files and practice floors have no Rust.
 
     fn leg_file_write(&self, steps: &[u8], file: &mut [u8]) -> u8 {
         decides(Judge::Model);
@@ -329,5 +329,10 @@ impl Subject for Oracle {
     fn leg_file_read(&self, file: &[u8]) -> LegFile {
         decides(Judge::Model);
         Model::PLAIN.read_file(file)
+    }
+
+    fn practice_floor(&self, seed: u32) -> PracticeFloor {
+        decides(Judge::Model);
+        Model::PLAIN.practice(seed)
     }
 }

@@ -17,6 +17,8 @@
 //! | refusals.table | 160 | see below | number, 2 zeros |
 //! | leg_file_write.model | 314 | list length, buffer length, buffer's byte, list in 150 places | number, buffer in 160 places |
 //! | leg_file_read.model | 154 | file length, file in 150 places | number, start, length of the part |
+//! | practice.model | 105 | seed of 32 bits | 100 costs, goal |
+//! | practice_text.model | 223 | input length, input in 8 places | text length, text in 213 places |
 //!
 //! A file whose name has no dot holds answers of the Rust; its wave counts are those of the counted copy. Behind a dot
 //! stands the judge of a file that has no Rust: `table`, the reading of the documents' table of refusals, or `model`, the
@@ -45,6 +47,8 @@
 //! number, 150 places for the list, 160 for the buffer after the call. leg_file_read.model: file length,
 //! number, start and length of the part that holds the steps, 150 places for the file. Places beyond a
 //! length are 0.
+//!
+//! practice_text.model: what the practice printer has to print for its input. Places beyond a length are 0.
 //!
 //! Nothing here comes from the program that replays it.
 
@@ -109,6 +113,8 @@ pub fn sections() -> Vec<Section> {
         Section { name: "refusals.table", length: 160, records: refusals() },
         Section { name: "leg_file_write.model", length: 314, records: file_writes(rng()) },
         Section { name: "leg_file_read.model", length: 154, records: file_reads(rng()) },
+        Section { name: "practice.model", length: 105, records: practice_floors(rng()) },
+        Section { name: "practice_text.model", length: 223, records: practice_texts(rng()) },
     ]
 }
 
@@ -431,6 +437,7 @@ fn refusal(case: &Case) -> Vec<u8> {
         Call::Readers => unreachable!("the readers refuse nothing"),
         Call::WalkShallow | Call::WalkSteep => unreachable!("the walks alone are not recorded"),
         Call::LegFileWrite | Call::LegFileRead => unreachable!("a leg's files have sections of their own"),
+        Call::PracticeFloor => unreachable!("practice floors refuse nothing"),
     };
     let short = |value: usize| (value as u16).to_le_bytes();
     let place = case.field.los_corners.iter().position(|corner| *corner != 0).unwrap_or(0);
@@ -748,4 +755,38 @@ fn file_reads(mut rng: Rng) -> Vec<Vec<u8>> {
         files.push(any_bytes(&mut rng, length));
     }
     files.iter().map(|file| file_read(file)).collect()
+}
+
+/// The seeds that are named, and a hundred drawn ones.
+fn seeds(rng: &mut Rng) -> Vec<u32> {
+    let drawn = (0..100).map(|_| (rng.draw() >> 32) as u32);
+    groups::NAMED.into_iter().chain(drawn).collect()
+}
+
+fn practice_floor(seed: u32) -> Vec<u8> {
+    let floor = Oracle.practice_floor(seed);
+    [&seed.to_le_bytes()[..], &floor.costs, &[floor.goal]].concat()
+}
+
+fn practice_floors(mut rng: Rng) -> Vec<Vec<u8>> {
+    seeds(&mut rng).into_iter().map(practice_floor).collect()
+}
+
+fn practice_text(input: &[u8]) -> Vec<u8> {
+    let text = Model::PLAIN.practice_text(input).into_bytes();
+    let mut record = vec![input.len() as u8];
+    record.extend(placed(input, 8));
+    record.push(text.len() as u8);
+    record.extend(placed(&text, 213));
+    record
+}
+
+/// The same seeds; then two inputs of each other length from 0 to 8.
+fn practice_texts(mut rng: Rng) -> Vec<Vec<u8>> {
+    let mut inputs: Vec<Vec<u8>> = seeds(&mut rng).into_iter().map(|seed| seed.to_le_bytes().to_vec()).collect();
+    for length in (0..=8).filter(|length| *length != 4) {
+        inputs.push(vec![0; length]);
+        inputs.push(any_bytes(&mut rng, length));
+    }
+    inputs.iter().map(|input| practice_text(input)).collect()
 }

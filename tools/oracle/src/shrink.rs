@@ -21,6 +21,7 @@ enum Change {
     DropCorner(usize),
     NarrowFirst,
     NarrowLast,
+    SeedBit(usize),
 }
 
 /// The smallest case found that `differs` still says yes to.
@@ -46,6 +47,7 @@ fn changes(case: &Case) -> Vec<Change> {
     let mut list = vec![Change::DropStep, Change::NoPrevious, Change::SheetZero];
     list.extend([Change::NarrowFirst, Change::NarrowLast]);
     list.extend([0, 1, 3, 4, 5].map(Change::StepByteZero));
+    list.extend((0..32).rev().map(Change::SeedBit));
     list.extend((0..case.costs.len() / CELLS).map(Change::SectorOpen));
     list.extend((0..case.field.count.min(CELLS)).rev().map(Change::DropCorner));
     list.extend((0..CELLS).flat_map(|i| [Change::CellTo(i, 65535), Change::CellTo(i, 0)]));
@@ -83,6 +85,7 @@ fn apply(change: Change, case: &mut Case) {
         // 65535 is simpler than 0, and 0 than the rest, so the changes come to an end.
         Change::CellTo(i, 65535) if is_field => case.field.field[i] = 65535,
         Change::CellTo(i, value) if is_field && case.field.field[i] != 65535 => case.field.field[i] = value,
+        Change::SeedBit(k) => case.seed &= !(1 << k),
         Change::CellLow(i) => case.field.field[i] &= 0xffff,
         Change::CellFlags(i) if case.field.field[i] != 65535 => case.field.field[i] &= 0xffff_0000,
         Change::DropCorner(k) if case.field.count <= CELLS && k < case.field.count => {

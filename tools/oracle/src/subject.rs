@@ -88,6 +88,14 @@ pub struct LegFile {
     pub length: usize,
 }
 
+/// The costs that a seed gives, and the goal.
+#[repr(C)]
+#[derive(Clone, Copy, PartialEq, Eq, Debug)]
+pub struct PracticeFloor {
+    pub costs: [u8; CELLS],
+    pub goal: u8,
+}
+
 /// A yes or no, and the numbers lent beside it.
 #[derive(Clone, Copy, Debug)]
 pub struct Previous<'a> {
@@ -122,6 +130,7 @@ pub enum Call {
     Leg,
     LegFileWrite,
     LegFileRead,
+    PracticeFloor,
 }
 
 /// A side of the comparison. A refusal answers its number, zeros else, and writes nothing.
@@ -141,6 +150,7 @@ pub trait Subject {
     fn leg(&self, floor: &[u8], steps: &[u8], sheet: &mut [u8]) -> u8;
     fn leg_file_write(&self, steps: &[u8], file: &mut [u8]) -> u8;
     fn leg_file_read(&self, file: &[u8]) -> LegFile;
+    fn practice_floor(&self, seed: u32) -> PracticeFloor;
 }
 
 /// The answers of a refusal.

@@ -69,7 +69,8 @@ fn a_file_without_a_rust_judge_says_so_in_its_name() {
         .collect();
     let legs = ["leg.model", "leg.table"];
     let due = [&["init.table", "sector.table"][..], &legs, &["refusals.table"]].concat();
-    assert_eq!(without, [&due[..], &["leg_file_write.model", "leg_file_read.model"]].concat());
+    let files = ["leg_file_write.model", "leg_file_read.model"];
+    assert_eq!(without, [&due[..], &files, &["practice.model", "practice_text.model"]].concat());
     assert!(sections.iter().all(|section| section.name.contains('.') == without.contains(&section.name)));
 }
 
@@ -235,17 +236,52 @@ fn leg_files() {
     each("leg_file_read.model", |r| assert!(reads_so(&MODEL, r)));
 }
 
+/// The records of a section that a model with a slip does not answer so.
+fn shown(slip: Slip, name: &str, agrees: fn(&Model, &mut Reader) -> bool) -> bool {
+    let section = sections().into_iter().find(|section| section.name == name).expect("a section of that name");
+    section.records.iter().any(|record| !agrees(&Model { slip }, &mut Reader(record)))
+}
+
+/// The slips whose text begins so.
+fn slips_of(word: &str) -> Vec<&'static (Slip, &'static str)> {
+    let slips: Vec<_> = Slip::ALL.iter().filter(|(_, text)| text.starts_with(word)).collect();
+    assert!(!slips.is_empty());
+    slips
+}
+
 /// The model alone made these records, so they are also asked to tell it from each wrong one.
 #[test]
 fn leg_files_show_every_slip() {
-    let found = |slip: Slip, name: &str, agrees: fn(&Model, &mut Reader) -> bool| {
-        let section = sections().into_iter().find(|section| section.name == name).expect("a section of that name");
-        section.records.iter().any(|record| !agrees(&Model { slip }, &mut Reader(record)))
-    };
-    let slips: Vec<_> = Slip::ALL.iter().filter(|(_, text)| text.starts_with("file: ")).collect();
-    assert!(!slips.is_empty());
-    for (slip, text) in slips {
-        let written = found(*slip, "leg_file_write.model", writes_so);
-        assert!(written || found(*slip, "leg_file_read.model", reads_so), "not shown: {text}");
+    for (slip, text) in slips_of("file: ") {
+        let written = shown(*slip, "leg_file_write.model", writes_so);
+        assert!(written || shown(*slip, "leg_file_read.model", reads_so), "not shown: {text}");
+    }
+}
+
+/// Whether a model gives the floor of a record's seed.
+fn draws_so(model: &Model, r: &mut Reader) -> bool {
+    let seed = u32::from_le_bytes(r.bytes(4).try_into().expect("four bytes"));
+    let costs = r.bytes(100).try_into().expect("a hundred bytes");
+    model.practice_floor(seed) == PracticeFloor { costs, goal: r.byte() }
+}
+
+/// Whether a model prints the text of a record's input.
+fn prints_so(model: &Model, r: &mut Reader) -> bool {
+    let (length, input) = (usize::from(r.byte()), r.bytes(8));
+    let (long, text) = (usize::from(r.byte()), r.bytes(213));
+    assert!(input[length..].iter().chain(&text[long..]).all(|byte| *byte == 0), "zeros beyond the lengths");
+    model.practice_text(&input[..length]).as_bytes() == &text[..long]
+}
+
+#[test]
+fn practice_floors() {
+    each("practice.model", |r| assert!(draws_so(&MODEL, r)));
+    each("practice_text.model", |r| assert!(prints_so(&MODEL, r)));
+}
+
+#[test]
+fn practice_floors_show_every_slip() {
+    for (slip, text) in slips_of("practice: ") {
+        assert!(shown(*slip, "practice.model", draws_so), "not shown: {text}");
     }
 }

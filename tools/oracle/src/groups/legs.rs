@@ -11,7 +11,7 @@ use crate::model::{CLOSED, Model, Plan, PlannedStep};
 use crate::refusals::{Given, ON_WALL, Table, each, first, named_cells};
 use crate::subject::*;
 
-/// What a leg meets. All before `OneCellClosed` are of legs that are planned, since only those are written.
+/// What an input meets, a leg but for the last two. All before `OneCellClosed` are of legs that are planned, since only those are written.
 #[derive(Clone, Copy, PartialEq, Eq, PartialOrd, Ord, Debug)]
 pub enum Met {
     /// Windows, and every cell of them counts.
@@ -38,6 +38,10 @@ pub enum Met {
     OrderFirst,
     /// A leg that is taken, with a wall under the goal byte of a window step.
     UnreadWall,
+    /// A practice floor whose goal's cell was drawn with this cost.
+    GoalDrawnAs(u8),
+    /// A practice floor whose goal has so many digits.
+    GoalDigits(u8),
 }
 
 /// Where a step has its wall.
@@ -68,6 +72,8 @@ impl fmt::Display for Met {
             Met::OneWall(Place::Last) => write!(f, "one under the last"),
             Met::OrderFirst => write!(f, "8 before 16"),
             Met::UnreadWall => write!(f, "a wall under a goal byte that is not read"),
+            Met::GoalDrawnAs(cost) => write!(f, "the goal's cell drawn with cost {cost}"),
+            Met::GoalDigits(digits) => write!(f, "a goal of {digits} digits"),
         }
     }
 }

@@ -7,12 +7,14 @@ mod good;
 mod journeys;
 mod leg_files;
 mod legs;
+mod practice;
 
 use std::collections::BTreeMap;
 
 pub use legs::{
     Met, Place, closed_leg, leg_kinds, leg_on_walls_that_meets, leg_that_counts, leg_that_meets, wall_kinds,
 };
+pub use practice::NAMED;
 
 use crate::cases::{Case, Outcome};
 use crate::floors::Rng;
@@ -63,6 +65,7 @@ pub const GROUPS: &[Group] = &[
     Group { name: JOURNEY, needs: &[Call::Leg], cases: journeys::journeys, reaches: &[0] },
     Group { name: "file write", needs: &[Call::LegFileWrite], cases: leg_files::writes, reaches: &[0, 2, 3] },
     Group { name: "file read", needs: &[Call::LegFileRead], cases: leg_files::reads, reaches: &[0, 14] },
+    Group { name: PRACTICE, needs: &[Call::PracticeFloor], cases: practice::floors, reaches: &[0] },
     Group { name: "line refusals", needs: &[Call::Line], cases: bad::lines, reaches: &[0, 13] },
     Group { name: "walk shallow refusals", needs: &[Call::WalkShallow], cases: bad::shallow_walks, reaches: &[0, 13] },
     Group { name: "walk steep refusals", needs: &[Call::WalkSteep], cases: bad::steep_walks, reaches: &[0, 13] },
@@ -103,6 +106,9 @@ const ON_WALLS: &str = "leg, on walls";
 
 /// Legs whose arrows are followed to the goal's sector.
 pub const JOURNEY: &str = "journey";
+
+/// Practice floors.
+const PRACTICE: &str = "practice";
 
 /// What a group that found no difference saw.
 #[derive(Clone, Default)]
@@ -166,6 +172,7 @@ impl Group {
             GAPS => legs::all(),
             ON_WALLS => legs::all_on_walls(),
             JOURNEY => legs::planned_kinds(),
+            PRACTICE => practice::all(),
             _ => Vec::new(),
         }
     }
@@ -175,6 +182,7 @@ impl Group {
         match self.name {
             GAPS | JOURNEY => legs::met(case),
             ON_WALLS => legs::met_on_walls(case),
+            PRACTICE => practice::met(case),
             _ => Vec::new(),
         }
     }

@@ -168,4 +168,8 @@ impl Subject for Model {
     fn leg_file_read(&self, file: &[u8]) -> LegFile {
         self.read_file(file)
     }
+
+    fn practice_floor(&self, seed: u32) -> PracticeFloor {
+        self.practice(seed)
+    }
 }

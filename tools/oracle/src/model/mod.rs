@@ -8,6 +8,7 @@ mod leg;
 mod leg_file;
 mod line;
 mod numbers;
+mod practice;
 mod slips;
 
 pub use leg::{CLOSED, Plan, PlannedStep};
