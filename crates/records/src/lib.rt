@@ -49,7 +49,7 @@ pub fn short_at(bytes: &[u8], low: usize, high: usize) -> usize
 }
 
 // The number of 32 bits at a place, its lowest byte first.
-fn word_at(bytes: &[u8], at: usize) -> u32
+pub fn word_at(bytes: &[u8], at: usize) -> u32
     requires { ⌜ at < 1000 ⌝ }
     ensures { λ r. ⌜ r ≡ wordAt (now (bytes .entry)) at ⌝ }
 {

@@ -7,6 +7,7 @@ mod integration;
 mod legs;
 mod lines;
 mod refusals;
+mod seeds;
 
 // How many records agree, a sum of the bytes that were read, and whether the next record differs.
 struct Tally {
@@ -30,6 +31,8 @@ fn agrees(section: u8, record: &[u8]) -> bool {
         9 => refusals::refusal_agrees(record),
         10 => files::write_agrees(record),
         11 => files::read_agrees(record),
+        12 => seeds::floor_agrees(record),
+        13 => seeds::text_agrees(record),
         _ => false,
     }
 }
@@ -102,4 +105,6 @@ fn main() {
     replay(9, b"refusals.table", 160);
     replay(10, b"leg_file_write.model", 314);
     replay(11, b"leg_file_read.model", 154);
+    replay(12, b"practice.model", 105);
+    replay(13, b"practice_text.model", 223);
 }

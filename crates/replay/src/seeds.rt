@@ -1,0 +1,23 @@
+// The records of practice floors, and of what the practice printer prints.
+use records::byte_at;
+use records::part;
+use records::size_at;
+use records::word_at;
+
+// A record: seed; 100 costs, goal.
+pub fn floor_agrees(record: &[u8]) -> bool {
+    let floor = practice::practice_floor(word_at(record, 0));
+    let costs = floor.costs;
+    floor.goal == byte_at(record, 104) && check::same(&costs, part(record, 4, 104))
+}
+
+// A record: length of the input, 8 bytes of input; length of the text, 213 bytes of text.
+pub fn text_agrees(record: &[u8]) -> bool {
+    let length = size_at(record, 0);
+    if length > 8 {
+        return false;
+    }
+    let mut out = [0u8; 213];
+    let count = practice_text::report(part(record, 1, 1 + length), &mut out);
+    count == size_at(record, 9) && check::same(&out, part(record, 10, 223))
+}
