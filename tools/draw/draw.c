@@ -1,6 +1,8 @@
 /*
- * Plans a sector that is drawn as text, and shows its arrows beside its flow bytes.
- * The drawing is turned into costs and a step here; every arrow comes from hanjolum_sector.
+ * Plans a sector that is drawn as text, and shows its arrows beside its flow bytes; or the practice floor of a seed, and
+ * shows the floor beside them.
+ * The drawing is turned into costs and a step here; every practice floor comes from hanjolum_practice_floor, every arrow
+ * from hanjolum_sector.
  * What is wrong with the words, the drawing or the output is one line on standard error and exit status 1.
  */
 #include <errno.h>
@@ -16,7 +18,8 @@ enum { SIDE = 10 };
 static const char SIDES[] = "NESW";
 static const char *const EDGES[] = {"north edge (row 1)", "east edge (column 10)", "south edge (row 10)", "west edge (column 1)"};
 
-static const char USAGE[] = "usage: draw [--ascii] [FILE], FILE - or none for standard input; tools/draw/run --help says what a drawing is";
+static const char USAGE[] = "usage: draw [--ascii] [FILE | --practice SEED], FILE - or none for standard input; tools/draw/run --help says what a drawing is";
+static const char SEED[] = "--practice takes a seed, a whole number from 0 to 4294967295";
 
 static const char *const ARROWS[] = {"↑", "→", "↓", "←", "↗", "↘", "↙", "↖"};
 static const char *const LETTERS[] = {"N ", "E ", "S ", "W ", "NE", "SE", "SW", "NW"};
@@ -162,9 +165,19 @@ static const char *shown(uint8_t byte, uint8_t cost, int ascii)
     return ascii ? "* " : "*";
 }
 
-static void show(const struct drawing *drawing, const uint8_t *sheet, int ascii)
+/* How a cell of a practice floor is drawn. */
+static char cell_of(const struct drawing *drawing, int cell)
+{
+    if (cell == drawing->first)
+        return 'G';
+    return drawing->costs[cell] == 1 ? '.' : drawing->costs[cell] == 10 ? ':' : '#';
+}
+
+static void show(const struct drawing *drawing, const uint8_t *sheet, int practice, int ascii)
 {
     for (int row = 0; row < SIDE; row++) {
+        for (int column = 0; practice && column < SIDE; column++)
+            printf("%c%s", cell_of(drawing, row * SIDE + column), column == SIDE - 1 ? "   " : "");
         for (int column = 0; column < SIDE; column++) {
             int cell = row * SIDE + column;
             printf("%s ", shown(sheet[cell], drawing->costs[cell], ascii));
@@ -175,6 +188,8 @@ static void show(const struct drawing *drawing, const uint8_t *sheet, int ascii)
         printf("\n");
     }
     printf("\n%s wall   x not reached   G goal   * goal in sight, no arrow needed\n", ascii ? "##" : "█");
+    if (practice)
+        printf("on the left, the floor: . cost 1   : cost 10   # wall   G goal, cell %d, cost 1\n", drawing->first);
 }
 
 /* Ends with an error where what was printed did not arrive. */
@@ -191,45 +206,87 @@ static void help(void)
     exit(0);
 }
 
-/* The file that the words name, or NULL for standard input. Options may stand before it and behind it. */
-static const char *file_of(int count, char **words, int *ascii)
+/* What the words ask for: the file, NULL for standard input, or the seed of a practice floor. */
+struct asked {
+    const char *file;
+    const char *seed;
+    int ascii;
+};
+
+/* The words taken apart. Options may stand before the file and behind it. */
+static struct asked asked_for(int count, char **words)
 {
-    const char *file = NULL;
+    struct asked asked = {0};
     for (int i = 1; i < count; i++) {
         if (strcmp(words[i], "--help") == 0)
             help();
         if (strcmp(words[i], "--ascii") == 0)
-            *ascii = 1;
+            asked.ascii = 1;
+        else if (strcmp(words[i], "--practice") == 0 && asked.seed != NULL)
+            fail("--practice twice; %s", USAGE);
+        else if (strcmp(words[i], "--practice") == 0)
+            asked.seed = ++i < count ? words[i] : "";
         else if (words[i][0] == '-' && words[i][1] != '\0')
             fail("%s is not understood; %s", words[i], USAGE);
-        else if (file != NULL)
-            fail("%s beside %s; %s", words[i], file, USAGE);
+        else if (asked.file != NULL)
+            fail("%s beside %s; %s", words[i], asked.file, USAGE);
         else
-            file = words[i];
+            asked.file = words[i];
     }
-    return file != NULL && strcmp(file, "-") == 0 ? NULL : file;
+    if (asked.seed != NULL && asked.file != NULL)
+        fail("%s beside --practice; %s", asked.file, USAGE);
+    if (asked.file != NULL && strcmp(asked.file, "-") == 0)
+        asked.file = NULL;
+    return asked;
 }
 
-int main(int count, char **words)
+/* The number that a seed's digits give. */
+static uint32_t seed_of(const char *digits)
 {
-    struct drawing drawing = {0};
-    uint8_t step[HANJOLUM_STEP];
-    uint8_t sheet[HANJOLUM_CELLS] = {0};
-    int ascii = 0;
-    const char *name = file_of(count, words, &ascii);
+    uint64_t seed = 0;
+    size_t length = strspn(digits, "0123456789");
+    if (length == 0 || digits[length] != '\0')
+        fail(SEED);
+    for (size_t i = 0; i < length; i++) {
+        seed = 10 * seed + (uint64_t)(digits[i] - '0');
+        if (seed > UINT32_MAX)
+            fail(SEED);
+    }
+    return (uint32_t)seed;
+}
+
+static struct drawing practice_drawing(const char *seed)
+{
+    HanjolumPracticeFloor floor = hanjolum_practice_floor(seed_of(seed));
+    struct drawing drawing = {.name = seed, .mark = 'G', .marked = 1, .first = floor.goal, .last = floor.goal};
+    memcpy(drawing.costs, floor.costs, sizeof drawing.costs);
+    return drawing;
+}
+
+static struct drawing file_drawing(const char *name)
+{
+    struct drawing drawing = {.name = name == NULL ? "standard input" : name};
     FILE *file = name == NULL ? stdin : fopen(name, "r");
-    drawing.name = name == NULL ? "standard input" : name;
     if (file == NULL)
         fail("%s cannot be opened: %s", name, strerror(errno));
     read_drawing(&drawing, file);
     fclose(file);
     check_marks(&drawing);
+    return drawing;
+}
+
+int main(int count, char **words)
+{
+    struct asked asked = asked_for(count, words);
+    struct drawing drawing = asked.seed != NULL ? practice_drawing(asked.seed) : file_drawing(asked.file);
+    uint8_t step[HANJOLUM_STEP];
+    uint8_t sheet[HANJOLUM_CELLS] = {0};
     make_step(&drawing, step);
     HanjolumBuildAnswer answer =
         hanjolum_sector(drawing.costs, HANJOLUM_CELLS, step, HANJOLUM_STEP, false, NULL, 0, sheet, HANJOLUM_CELLS);
     if (answer.number != 0)
         fail("%s: refused with number %d", drawing.name, answer.number);
-    show(&drawing, sheet, ascii);
+    show(&drawing, sheet, asked.seed != NULL, asked.ascii);
     written();
     return 0;
 }

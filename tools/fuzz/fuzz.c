@@ -3,9 +3,11 @@
  * Lengths go from 0 past every limit, bytes are any or nearly good. A refused call must leave its sheet as it was and
  * answer zeros, and a leg must leave the sectors that it does not name. No step is accepted with a wall under its goal or a
  * window cell. The arrows of a planned leg, followed from every reached cell of a later sector, come into the goal's sector
- * in at most 1,500 moves, as far as there is no cost 0 on the way. A fault, and a run in which no call was accepted or none
- * refused, no leg of several steps planned, none refused with 15, no arrow followed, or init, the sector call or a leg never
- * refused with 16, is one line on standard error and exit status 1.
+ * in at most 1,500 moves, as far as there is no cost 0 on the way. A practice floor has costs of 1, 10 and 255, its goal
+ * inside and on cost 1, is the same when it is made again, and is planned for its goal. A fault, and a run in which no call
+ * was accepted or none refused, no leg of several steps planned, none refused with 15, no arrow followed, init, the sector
+ * call or a leg never refused with 16, or no practice floor with all three costs, is one line on standard error and exit
+ * status 1.
  */
 #define _DEFAULT_SOURCE
 #include <stdio.h>
@@ -150,8 +152,8 @@ static int zeros(const void *part, size_t length)
 
 /* How many calls answered 0, and how many a number; how many legs of several steps were planned, and how many had a window
    in which no cell counts; from how many cells arrows were followed; how many of init, sector calls and legs had a step on
-   a wall. */
-static unsigned long accepted, turned_away, planned, closed, followed, on_wall[3];
+   a wall; how many practice floors had all three costs. */
+static unsigned long accepted, turned_away, planned, closed, followed, on_wall[3], practised;
 
 static void counted(uint8_t number)
 {
@@ -294,10 +296,35 @@ static void a_leg(const Fenced *costs, const Fenced *route, Fenced *sheet)
         journeys(costs, route, sheet);
 }
 
+/* A practice floor: every seed is taken, and a step to its goal too. */
+static void a_practice_floor(Fenced *sheet)
+{
+    uint32_t seed = below(8) ? draw() : 0u - below(3);
+    HanjolumPracticeFloor floor = hanjolum_practice_floor(seed), again = hanjolum_practice_floor(seed);
+    uint8_t step[HANJOLUM_STEP] = {0, floor.goal, 0, 0, 0, 0, 0, 0};
+    int ones = 0, tens = 0, walls = 0;
+    for (int i = 0; i < HANJOLUM_CELLS; i++) {
+        ones += floor.costs[i] == 1;
+        tens += floor.costs[i] == 10;
+        walls += floor.costs[i] == HANJOLUM_WALL;
+    }
+    if (ones + tens + walls != HANJOLUM_CELLS)
+        fail("a practice floor has another cost than 1, 10 and 255");
+    if (floor.goal >= HANJOLUM_CELLS || floor.costs[floor.goal] != 1)
+        fail("the goal of a practice floor is not inside, or not on cost 1");
+    if (memcmp(floor.costs, again.costs, sizeof floor.costs) != 0 || floor.goal != again.goal)
+        fail("a practice floor is another when it is made again");
+    practised += ones > 0 && tens > 0 && walls > 0;
+    place(sheet, HANJOLUM_CELLS);
+    if (hanjolum_sector(floor.costs, HANJOLUM_CELLS, step, HANJOLUM_STEP, false, NULL, 0, sheet->at, sheet->length).number != 0)
+        fail("a practice floor is refused for its own goal");
+}
+
 /* One call of each kind that writes a sheet, and one of each that does not. */
 static void round_of_calls(Fenced *costs, Fenced *route, Fenced *previous, Fenced *sheet)
 {
     file_calls(route, sheet);
+    a_practice_floor(sheet);
     int leg = below(4) == 0;
     place(costs, near(leg ? 6400 : 100));
     place(route, near(leg ? 8 * (1 + below(17)) : 8));
@@ -370,10 +397,12 @@ static void report(unsigned long rounds)
         fail("no arrow of a leg was followed");
     if (on_wall[0] == 0 || on_wall[1] == 0 || on_wall[2] == 0)
         fail("init, the sector call or a leg was never refused with 16");
+    if (practised == 0)
+        fail("no practice floor had all three costs");
     printf("%lu rounds of calls, %lu accepted and %lu refused, %lu legs of several steps planned and %lu refused with 15, "
            "arrows followed from %lu cells to the goal's sector, "
-           "%lu init, %lu sector calls and %lu legs refused with 16, nothing found\n",
-           rounds, accepted, turned_away, planned, closed, followed, on_wall[0], on_wall[1], on_wall[2]);
+           "%lu init, %lu sector calls and %lu legs refused with 16, %lu practice floors, nothing found\n",
+           rounds, accepted, turned_away, planned, closed, followed, on_wall[0], on_wall[1], on_wall[2], practised);
     written();
 }
 

@@ -18,6 +18,7 @@ fn groups_name_their_judges() {
     assert_eq!(names("leg, gaps"), ["published Rust", "model"]);
     assert_eq!(names("leg, on walls"), ["published Rust", "table of refusals", "model"]);
     assert_eq!(names("journey"), ["published Rust", "model"]);
+    assert_eq!(names("practice"), ["model"]);
     assert_eq!(names("leg refusals"), ["published Rust", "table of refusals", "model"]);
     assert_eq!(names("build refusals"), ["published Rust", "counted copy", "table of refusals"]);
 }
