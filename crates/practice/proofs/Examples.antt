@@ -3,7 +3,7 @@
 use mathlib.Core.Path.{_≡_, refl}
 use mathlib.Core.List.{[], _∷_}
 use Rattle.practice.specs.declared.PracticeFloor.{PracticeFloor}
-use Rattle.practice.specs.Values.{wrappedSum, nextValue, valuesTo, valueAt}
+use Rattle.practice.specs.Values.{wrappedSum, nextValue, valuesTo, practiceValue}
 use Rattle.practice.specs.Floor.{costOf, drawnCosts, practiceGoal, practiceFloor}
 
 -- seed 1: the goal's cell, 63, was drawn as a wall
@@ -25,5 +25,5 @@ floor-1 =
     }
 
 pub seed-1 : practiceFloor 1 ≡ floor-1
-unfolding wrappedSum nextValue valuesTo valueAt costOf drawnCosts practiceGoal practiceFloor
+unfolding wrappedSum nextValue valuesTo practiceValue costOf drawnCosts practiceGoal practiceFloor
 seed-1 = refl

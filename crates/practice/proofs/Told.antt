@@ -15,20 +15,20 @@ use lib.ListN.{length, getD, set, take, drop, length-set, length-drop}
 use lib.Seq.{take-suc-set, take-suc, take-all, length-take-le, getD-set-same, getD-set-other, getD-take, getD-drop}
 use borrow.Author.Tests.{ltb-true, ltb-false, leb-true, leb-false}
 use Rattle.practice.specs.declared.PracticeFloor.{PracticeFloor}
-use Rattle.practice.specs.Values.{valuesTo, valueAt}
+use Rattle.practice.specs.Values.{valuesTo, practiceValue}
 use Rattle.practice.specs.Floor.{topByte, costOf, drawnCosts, practiceGoal, practiceFloor}
-use Rattle.practice.specs.Promise.{Generates, Drawn, DrawnBy, PracticeTold}
+use Rattle.practice.specs.Promise.{Generates, CellDrawn, DrawnBy, PracticeTold}
 use Rattle.practice.proofs.Values.{values-length, values-before, generates, follows}
 
 -- what a value's top byte gives
-drawn : (value : ℕ) → Drawn value (costOf value)
+drawn : (value : ℕ) → CellDrawn value (costOf value)
 unfolding costOf
 drawn value = go (ltb (topByte value) 128) (leb (topByte value) 191) refl refl
   where
-    go : (s t : Bool) → ltb (topByte value) 128 ≡ s → leb (topByte value) 191 ≡ t → Drawn value (cond s 1 (cond t 10 255))
-    go true t e f = Drawn.free (ltb-true (topByte value) 128 e)
-    go false true e f = Drawn.dear (ltb-false (topByte value) 128 e) (leb-true (topByte value) 191 f)
-    go false false e f = Drawn.wall (leb-false (topByte value) 191 f)
+    go : (s t : Bool) → ltb (topByte value) 128 ≡ s → leb (topByte value) 191 ≡ t → CellDrawn value (cond s 1 (cond t 10 255))
+    go true t e f = CellDrawn.free (ltb-true (topByte value) 128 e)
+    go false true e f = CellDrawn.dear (ltb-false (topByte value) 128 e) (leb-true (topByte value) 191 f)
+    go false false e f = CellDrawn.wall (leb-false (topByte value) 191 f)
 
 pub map-length : (f : ℕ → ℕ) (l : List ℕ) → length (map f l) ≡ length l
 map-length f [] = refl
@@ -80,10 +80,10 @@ module _ (seed : ℕ) where
 
   module _ (v : ℕ → ℕ) (g : Generates seed v) where
     goal-by : practiceGoal seed ≡ v 155 % 100
-    unfolding practiceGoal valueAt
+    unfolding practiceGoal practiceValue
     goal-by = rw (follows seed v g 155 155 (omega arith))
 
-    cell-by : (i : ℕ) → i < 100 → Drawn (v (i + 55)) (getD (drawnCosts seed) i 0)
+    cell-by : (i : ℕ) → i < 100 → CellDrawn (v (i + 55)) (getD (drawnCosts seed) i 0)
     cell-by i h =
         let k : 55 + i ≡ i + 55 = omega arith in
         rw (cell-drawn i h, k, follows seed v g 154 (i + 55) (omega arith)) (drawn (v (i + 55)))
@@ -110,5 +110,5 @@ module _ (seed : ℕ) where
 -- the floor made of an array of values and of the costs drawn from it
 pub floor-made : (seed : ℕ) (values costs : List ℕ) → values ≡ valuesTo seed 155 → costs ≡ map costOf (drop 55 (take 155 values))
     → _≡_ {A = PracticeFloor} (record { costs = set costs (getD values 155 0 % 100) 1; goal = getD values 155 0 % 100 }) (practiceFloor seed)
-unfolding practiceFloor practiceGoal drawnCosts valueAt
+unfolding practiceFloor practiceGoal drawnCosts practiceValue
 floor-made seed values costs e f = rw (f, e, values-before seed 154)

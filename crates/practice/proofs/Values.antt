@@ -15,7 +15,7 @@ use lib.Dec.{ltb, leb}
 use lib.ListN.{length, getD, set, take, length-append, List·getD-append}
 use lib.Seq.{take-suc-set, take-at, getD-at, getD-take, length-take-le}
 use borrow.Author.Tests.{ltb-true, ltb-false, leb-true, leb-false, lt-ltb, le-ltb}
-use Rattle.practice.specs.Values.{wrappedSum, nextValue, valuesTo, valueAt}
+use Rattle.practice.specs.Values.{wrappedSum, nextValue, valuesTo, practiceValue}
 use Rattle.practice.specs.Promise.{Generates}
 
 pub values-length : (seed n : ℕ) → length (valuesTo seed n) ≡ suc n
@@ -72,13 +72,13 @@ module _ (seed m : ℕ) where
   unfolding valuesTo
   kept n h = List·getD-append (valuesTo seed m) (nextValue (valuesTo seed m) ∷ []) 0 n (omega (arith, values-length seed m))
 
-  newest : valueAt seed (suc m) ≡ nextValue (valuesTo seed m)
-  unfolding valuesTo valueAt
+  newest : practiceValue seed (suc m) ≡ nextValue (valuesTo seed m)
+  unfolding valuesTo practiceValue
   newest = getD-at (valuesTo seed m) (nextValue (valuesTo seed m)) [] 0 (suc m) (values-length seed m)
 
-  by-place : (v : ℕ → ℕ) → ((n : ℕ) → n ≤ m → getD (valuesTo seed m) n 0 ≡ v n) → valueAt seed (suc m) ≡ v (suc m)
+  by-place : (v : ℕ → ℕ) → ((n : ℕ) → n ≤ m → getD (valuesTo seed m) n 0 ≡ v n) → practiceValue seed (suc m) ≡ v (suc m)
       → (n : ℕ) → n ≤ suc m → getD (valuesTo seed (suc m)) n 0 ≡ v n
-  unfolding valueAt
+  unfolding practiceValue
   by-place v before last n h = go (leb n m) refl
     where
       go : (t : Bool) → leb n m ≡ t → getD (valuesTo seed (suc m)) n 0 ≡ v n
@@ -89,30 +89,30 @@ module _ (seed m : ℕ) where
           rw k last
 
 -- a place's value is the same in every longer list
-pub same-value : (seed m n : ℕ) → n ≤ m → getD (valuesTo seed m) n 0 ≡ valueAt seed n
-unfolding valueAt
+pub same-value : (seed m n : ℕ) → n ≤ m → getD (valuesTo seed m) n 0 ≡ practiceValue seed n
+unfolding practiceValue
 same-value seed zero n h = let e : n ≡ 0 = omega arith in rw e
-same-value seed (suc m) n h = by-place seed m (valueAt seed) (same-value seed m) refl n h
+same-value seed (suc m) n h = by-place seed m (practiceValue seed) (same-value seed m) refl n h
 
 -- the request's three rules
 module _ (seed : ℕ) where
-  first-value : valueAt seed 0 ≡ seed
-  unfolding valueAt valuesTo
+  first-value : practiceValue seed 0 ≡ seed
+  unfolding practiceValue valuesTo
   first-value = refl
 
-  value-adds : (n : ℕ) → n < 54 → valueAt seed (n + 1) ≡ (valueAt seed n + 2654435769) % 4294967296
+  value-adds : (n : ℕ) → n < 54 → practiceValue seed (n + 1) ≡ (practiceValue seed n + 2654435769) % 4294967296
   value-adds n h =
       let added = next-adds (valuesTo seed n) n (omega (arith, values-length seed n)) h in
       rw (add-one n, newest seed n, added, same-value seed n n (omega arith))
 
-  value-sums : (n : ℕ) → valueAt seed (n + 55) ≡ (valueAt seed (n + 31) + valueAt seed n) % 4294967296
+  value-sums : (n : ℕ) → practiceValue seed (n + 55) ≡ (practiceValue seed (n + 31) + practiceValue seed n) % 4294967296
   value-sums n =
       let m = n + 54 in
       let k : n + 55 ≡ suc m = omega arith in
       let summed = next-sums (valuesTo seed m) n (omega (arith, values-length seed m)) in
       rw (k, newest seed m, summed, same-value seed m (n + 31) (omega arith), same-value seed m n (omega arith))
 
-  pub generates : Generates seed (valueAt seed)
+  pub generates : Generates seed (practiceValue seed)
   generates = record { first = first-value; adds = value-adds; sums = value-sums }
 
 -- every sequence that keeps to the request's words has these values

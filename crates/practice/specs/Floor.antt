@@ -7,7 +7,7 @@ use Prim.Native.Nat.{ℕ, _/_, _%_}
 use lib.Dec.{ltb, leb}
 use lib.ListN.{set, drop}
 use Rattle.practice.specs.declared.PracticeFloor.{PracticeFloor}
-use Rattle.practice.specs.Values.{valuesTo, valueAt}
+use Rattle.practice.specs.Values.{valuesTo, practiceValue}
 
 -- the top byte of a value
 abbrev pub topByte : ℕ → ℕ
@@ -23,7 +23,7 @@ drawnCosts seed = map costOf (drop 55 (valuesTo seed 154))
 
 -- the next value, whole, modulo 100
 unfoldable pub practiceGoal : ℕ → ℕ
-practiceGoal seed = valueAt seed 155 % 100
+practiceGoal seed = practiceValue seed 155 % 100
 
 -- the floor of a seed: the goal's cell becomes cost 1
 unfoldable pub practiceFloor : ℕ → PracticeFloor

@@ -32,5 +32,5 @@ valuesTo seed zero = seed ∷ []
 valuesTo seed (suc n) = oneMore (valuesTo seed n)
 
 -- the value at a place
-unfoldable pub valueAt : ℕ → ℕ → ℕ
-valueAt seed n = getD (valuesTo seed n) n 0
+unfoldable pub practiceValue : ℕ → ℕ → ℕ
+practiceValue seed n = getD (valuesTo seed n) n 0
