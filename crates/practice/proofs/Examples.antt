@@ -1,4 +1,4 @@
--- Practice floors, computed (02, Job 6). What is expected comes from the second implementation, in tools/oracle/src/model.
+-- Practice floors, computed (02, Job 6). What is expected is what the second implementation gives for that seed (tools/oracle/tests/practice.rs).
 -- Assumes nothing.
 use mathlib.Core.Path.{_≡_, refl}
 use mathlib.Core.List.{[], _∷_}
