@@ -1,4 +1,4 @@
--- The neighbours that a look does not pass over: no walls, and no diagonals between two walls.
+-- The neighbours that a look does not pass over: no walls, and no diagonals that pass one.
 --     Near                          a neighbour by rows and columns: beside the cell, or one row and one column away
 --     Sees                          a neighbour that a look does not pass over
 --     reached-there, reached-back   it is reached if and only if the cell is: a permitted diagonal has a side cell that is no wall
@@ -6,7 +6,7 @@
 --     sees-beside                   a cell beside that is no wall is seen in some direction
 -- Assumes nothing.
 use mathlib.Core.Path.{_≡_, refl, sym}
-use mathlib.Core.Bool.{Bool, true, false, true≢false, not, _&&_, and-false}
+use mathlib.Core.Bool.{Bool, true, false, true≢false, not, _||_, and-false}
 use mathlib.Core.Logic.{_⊎_, inl, inr}
 use mathlib.Core.List.{List, [], _∷_, List·Memᴰ, List·Memᴰ·head, List·Memᴰ·tail, Memᴰ·append-left}
 use Prim.Native.Nat.{ℕ, _+_, _*_, _/_, _%_, _<_}
@@ -23,7 +23,7 @@ use Rattle.fields.specs.Neighbours.{ByOne, BesideAt}
 use Rattle.fields.specs.Steps.{Arrives}
 use Rattle.fields.proofs.Steps.{stepped-cell, steps-to, cell-inside, cell-of-index}
 use Rattle.fields.proofs.Beside.{step-beside, beside-step, beside-flip, beside-below}
-use Rattle.integration_field.specs.Diagonal.{wallAt, diagonal, betweenWalls}
+use Rattle.integration_field.specs.Diagonal.{wallAt, diagonal, passesWall}
 use Rattle.arrows.proofs.Fall.{Sector, value, NoWall, spreads}
 
 -- n is a cell beside i, or one row and one column away
@@ -55,7 +55,7 @@ pub record Sees (cells : List ℕ) (i : ℕ) (d : CompassDir) (n : ℕ) : Type 0
   pub steps : stepped (cellAt i) d ≡ Cell (cellAt n)
   pub to : Near i n
   pub no-wall : wallAt cells n ≡ false
-  pub open-way : betweenWalls cells i n ≡ false
+  pub open-way : passesWall cells i n ≡ false
 
 by-one : {a b : ℕ} → ByOne a b → a ≡ b → ⊥
 by-one (inl e) q = omega arith
@@ -81,13 +81,9 @@ beside-column i n h l r = record {
   one-apart = inl (omega arith, let e : aside i n / 10 ≡ i / 10 = omega arith in rw e r);
 }
 
-turned : {a b : ℕ} → ByOne a b → ByOne b a
-turned (inl e) = inr e
-turned (inr e) = inl e
-
-one-false : (a b : Bool) → (a && b) ≡ false → (a ≡ false) ⊎ (b ≡ false)
-one-false true b e = inr e
-one-false false b e = inl refl
+first-false : (a b : Bool) → (a || b) ≡ false → a ≡ false
+first-false true b e = e
+first-false false b e = refl
 
 pub differ : (a b : ℕ) → (a ≡ b → ⊥) → not (eqb a b) ≡ true
 differ a b h = rw (ne-eqb a b h)
@@ -98,21 +94,15 @@ module _ (cells : List ℕ) (i n : ℕ) where
     direct : BesideAt i n → Way
     around : (m : ℕ) → BesideAt i m → BesideAt m n → wallAt cells m ≡ false → Way
 
-  open-sides : ByOne (i % 10) (n % 10) → ByOne (i / 10) (n / 10) → betweenWalls cells i n ≡ false
-      → (wallAt cells (aside i n) ≡ false) ⊎ (wallAt cells (aside n i) ≡ false)
-  unfolding betweenWalls
-  open-sides c r e =
-      one-false (wallAt cells (aside i n)) (wallAt cells (aside n i))
+  open-side : ByOne (i % 10) (n % 10) → ByOne (i / 10) (n / 10) → passesWall cells i n ≡ false → wallAt cells (aside i n) ≡ false
+  unfolding passesWall
+  open-side c r e =
+      first-false (wallAt cells (aside i n)) (wallAt cells (aside n i))
       (rw (differ (i / 10) (n / 10) (by-one r), differ (i % 10) (n % 10) (by-one c)) at e)
 
-  way : Near i n → betweenWalls cells i n ≡ false → Way
+  way : Near i n → passesWall cells i n ≡ false → Way
   way (beside b) e = direct b
-  way (corner h l c r) e = go (open-sides c r e)
-    where
-      go : (wallAt cells (aside i n) ≡ false) ⊎ (wallAt cells (aside n i) ≡ false) → Way
-      go (inl w) = around (aside i n) (beside-row i n h c) (beside-column i n h l r) w
-      go (inr w) = around (aside n i) (beside-flip (cellAt (aside n i)) (cellAt i) (beside-column n i l h (turned r)))
-          (beside-flip (cellAt n) (cellAt (aside n i)) (beside-row n i l (turned c))) w
+  way (corner h l c r) e = around (aside i n) (beside-row i n h c) (beside-column i n h l r) (open-side c r e)
 
 module _ {costs window cells corners built : List ℕ} (s : Sector costs window cells corners built) (i : ℕ) where
   -- a neighbour that the look does not pass over is reached where the cell is, and the cell where it is
@@ -133,7 +123,7 @@ module _ {costs window cells corners built : List ℕ} (s : Sector costs window 
 -- ---- what is seen
 
 module _ (cells : List ℕ) (i : ℕ) (h : i < 100) where
-  pub sees : (d : CompassDir) (c : FieldCell) → stepped (cellAt i) d ≡ Cell c → wallAt cells (indexOf c) ≡ false → betweenWalls cells i (indexOf c) ≡ false
+  pub sees : (d : CompassDir) (c : FieldCell) → stepped (cellAt i) d ≡ Cell c → wallAt cells (indexOf c) ≡ false → passesWall cells i (indexOf c) ≡ false
       → Sees cells i d (indexOf c)
   sees d c e w b =
       let a = stepped-cell (cellAt i) d c e in
@@ -144,7 +134,7 @@ module _ (cells : List ℕ) (i : ℕ) (h : i < 100) where
 
   -- a cell beside i that is no wall is seen in some direction
   pub sees-beside : (n : ℕ) → BesideAt i n → wallAt cells n ≡ false → (d : CompassDir) × List·Memᴰ d all × Sees cells i d n
-  unfolding betweenWalls
+  unfolding passesWall
   sees-beside n b w =
       let r = beside-step (cellAt i) (cellAt n) b in
       (r .0, in-all (r .0) (r .1), record { steps = r .2; to = beside b; no-wall = w; open-way = rw (no-diagonal (b .one-apart)) })

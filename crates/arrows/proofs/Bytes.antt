@@ -3,6 +3,7 @@
 --     new-length                100 bytes
 --     pointed-is                a byte made of a direction: its arrow has that direction's bits, and it has not all of 0xE0
 --     portal-kept, window-bits  a window cell's byte, whatever the step's window: 0x10 is set, and not all of 0xE0
+--     made-byte, portal-byte    the byte that building makes of a new one, and of a window cell's: it can be walked, so that it does not look
 -- Assumes nothing.
 use mathlib.Core.Path.{_≡_, refl, sym, ap, _∙_}
 use mathlib.Core.Bool.{Bool, true, false, true≢false, cond, not, _&&_, _||_}
@@ -21,7 +22,7 @@ use Rattle.route.specs.declared.PortalWindow.{PortalWindow}
 use Rattle.route.specs.Window.{below, stride}
 use Rattle.route.proofs.Below.{holds-at, same-at}
 use Rattle.flow_bits.specs.Byte.{bitsOf, isPathable, isImpassable}
-use Rattle.flow_byte.specs.New.{facingBits, facingValue, unlessEnd, facingChoice, windowBits, newByte, newBytes}
+use Rattle.flow_byte.specs.New.{isIn, startOf, facingBits, facingValue, unlessEnd, facingChoice, windowBits, newByte, newBytes}
 use Rattle.flow_byte.specs.Look.{pointed, builtByte, flowBuild}
 
 -- ---- a byte at an index
@@ -85,7 +86,7 @@ bits-few : (d : CompassDir) → bitsOf d ≤ 12
 bits-few d = let s = small d refl in omega (arith, s .columns, s .rows)
 
 -- the bits of a side, straight or towards either end
-abbrev sideBits : Bool → Bool → CompassDir → ℕ
+abbrev pub sideBits : Bool → Bool → CompassDir → ℕ
 sideBits straight lower side =
     cond straight (bitsOf side) (cond lower (bitsOf side + bitsOf (lowerSide side)) (bitsOf side + bitsOf (opposite (lowerSide side))))
 
@@ -114,3 +115,23 @@ window-bits portal has previous i = go (not has || eqb (portal .start) (portal .
     go : (t : Bool) → cond t (bitsOf side) (facingBits side lower (facingValue previous side i) higher) < 32
     go true = side-bits true true side
     go false = facing-bits side lower (facingValue previous side i) higher
+
+-- ---- new and built
+
+module _ (portal : PortalWindow) (window cells : List ℕ) (has : Bool) (previous : List ℕ) where
+  abbrev bytes : List ℕ
+  bytes = flowBuild cells (newBytes portal window cells has previous)
+
+  -- what building begins from
+  abbrev newAt : ℕ → ℕ
+  newAt x = newByte portal window (getD cells x 0) has previous x
+
+  pub made-byte : (x : ℕ) → x < 100 → getD bytes x 0 ≡ builtByte cells x (newAt x)
+  made-byte x h = built-byte cells (newBytes portal window cells has previous) x h ∙ ap (builtByte cells x) (new-byte portal window cells has previous x h)
+
+  pub portal-byte : (x : ℕ) → x < 100 → isIn x window ≡ true → getD cells x 0 ≡ 0x80000 → getD bytes x 0 ≡ bitOr 0x90 (windowBits portal has previous x)
+  unfolding newByte startOf builtByte
+  portal-byte x h i e =
+      let b = windowBits portal has previous x in
+      let n : newAt x ≡ bitOr 0x90 b = rw (e, i) in
+      rw (made-byte x h, n, portal-kept b (window-bits portal has previous x) .pathable)

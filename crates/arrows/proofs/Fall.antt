@@ -1,4 +1,5 @@
 -- The built costs of a window sector: they fall from every reached cell to the window, and spread to every cell beside a reached one.
+--     zero-stays  a cell of value 0 keeps its word when a field is built
 --     by-kind     a cell's built word is a window cell's, a wall's, or a cost alone
 --     falls       beside a reached cell that is no window cell lies one of lower cost, from which its own cost is made
 --     rank        how many cells cost less than a cell: at most 99
@@ -40,6 +41,15 @@ in-among x (y ∷ l) e = go (eqb y x) refl e (λ t. in-among x l t)
     go true q t f = (0, omega arith, eqb-true y x q)
     go false q t f = let r = f t in (suc (r .0), omega (arith, r .1), r .2)
 
+-- ---- what building leaves
+
+pub zero-stays : {costs cells corners built : List ℕ} → LeastWalks costs cells corners built → (x : ℕ) → low (getD cells x 0) ≡ 0 → getD built x 0 ≡ getD cells x 0
+zero-stays {costs} {cells} {corners} {built} l x z = go (l .attained x)
+  where
+    go : (getD built x 0 ≡ getD cells x 0) ⊎ Walked costs cells corners x (getD built x 0) → getD built x 0 ≡ getD cells x 0
+    go (inl e) = e
+    go (inr w) = absurd (omega (arith, w .lower))
+
 -- ---- a window sector, started and built
 
 pub record Sector (costs window cells corners built : List ℕ) : Type 0 where
@@ -58,14 +68,7 @@ module _ {costs window cells corners built : List ℕ} (s : Sector costs window 
     pub no-wall : getD costs x 0 ≡ 255 → ⊥
 
   pub window-word : (x : ℕ) → Among x window → getD built x 0 ≡ 0x80000
-  window-word x a = go (s .least .attained x)
-    where
-      was : getD cells x 0 ≡ 0x80000
-      was = s .started .portal-cell x a
-
-      go : (getD built x 0 ≡ getD cells x 0) ⊎ Walked costs cells corners x (getD built x 0) → getD built x 0 ≡ 0x80000
-      go (inl e) = e ∙ was
-      go (inr w) = absurd (omega (arith, w .lower, ap low was))
+  window-word x a = let was = s .started .portal-cell x a in zero-stays (s .least) x (ap low was) ∙ was
 
   pub wall-word : (x : ℕ) → x < 100 → getD costs x 0 ≡ 255 → (Among x window → ⊥) → getD built x 0 ≡ 0x200FFFF
   wall-word x h c a = let was = s .started .wall-cell x h c a in s .least .walls-stay x (ap isImpassable was) ∙ was

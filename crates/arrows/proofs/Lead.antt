@@ -25,7 +25,7 @@ use Rattle.route.specs.Step.{portalOf}
 use Rattle.route.specs.Target.{Target, to-goal, to-window, windowOf, targetOf}
 use Rattle.integration_field.specs.Word.{low, isGoal, isPortal}
 use Rattle.integration_field.specs.Word as word
-use Rattle.integration_field.specs.Diagonal.{wallAt, betweenWalls}
+use Rattle.integration_field.specs.Diagonal.{wallAt, passesWall}
 use Rattle.integration_field.specs.Listed.{listOf}
 use Rattle.integration_field.proofs.Flags.{small-flag}
 use Rattle.integration_field.proofs.Least.{least-walks}
@@ -43,9 +43,10 @@ use Rattle.arrows.specs.Arrows.{Reached, arrow, Away, Cuts, Move, Leads,
 use Rattle.arrows.specs.Promise.{WindowSector, builtCells, BuildArrows}
 use Rattle.arrows.proofs.Fall.{is-in, in-among, Sector, value, Plain, window-word, wall-word, by-kind, Lower, falls, rank, rank-less, rank-few}
 use Rattle.arrows.proofs.Around.{Sees, differ, near-in, reached-there, reached-back, sees-beside}
+use Rattle.arrows.proofs.Clear.{arrows-clear, target-on}
 use Rattle.arrows.proofs.Look.{Found, found, Nothing, nothing}
 use Rattle.arrows.proofs.Moves.{away, reads-so, away-once}
-use Rattle.arrows.proofs.Bytes.{built-byte, new-byte, new-length, Pointed, pointed-is, Kept, portal-kept, window-bits}
+use Rattle.arrows.proofs.Bytes.{new-length, Pointed, pointed-is, Kept, portal-kept, window-bits, made-byte, portal-byte}
 
 -- a word without flags starts with 0
 small-start : (w : ℕ) → w < 2 ^ 16 → startOf w ≡ 0
@@ -70,7 +71,7 @@ module _ (costs window cells corners built : List ℕ) (s : Sector costs window 
   newAt x = newByte portal window (getD built x 0) has previous x
 
   made : (x : ℕ) → x < 100 → getD bytes x 0 ≡ builtByte built x (newAt x)
-  made x h = built-byte built (newBytes portal window built has previous) x h ∙ ap (builtByte built x) (new-byte portal window built has previous x h)
+  made = made-byte portal window built has previous
 
   no-bits : (x : ℕ) → (Among x window → ⊥) → isIn x window ≡ false
   no-bits x a = go (isIn x window) refl
@@ -79,13 +80,8 @@ module _ (costs window cells corners built : List ℕ) (s : Sector costs window 
       go true e = absurd (a (in-among x window e))
       go false e = refl
 
-  -- it can be walked from the start, so that it does not look
   window-byte : (x : ℕ) → x < 100 → Among x window → getD built x 0 ≡ 0x80000 → getD bytes x 0 ≡ bitOr 0x90 (windowBits portal has previous x)
-  unfolding newByte startOf builtByte
-  window-byte x h a e =
-      let b = windowBits portal has previous x in
-      let n : newAt x ≡ bitOr 0x90 b = rw (e, is-in x window a) in
-      rw (made x h, n, portal-kept b (window-bits portal has previous x) .pathable)
+  window-byte x h a e = portal-byte portal window built has previous x h (is-in x window a) e
 
   window-kept : (x : ℕ) → x < 100 → Among x window → getD built x 0 ≡ 0x80000 → Kept (getD bytes x 0)
   window-kept x h a e = rw (window-byte x h a e) (portal-kept (windowBits portal has previous x) (window-bits portal has previous x))
@@ -108,12 +104,11 @@ module _ (costs window cells corners built : List ℕ) (s : Sector costs window 
   wall-at : (x : ℕ) → x < 100 → Wall costs target x → wallAt built x ≡ true
   wall-at x h w = ap word.isImpassable (wall-word s x h (w .impassable) (λ a. w .not-window (among-mem x window a)))
 
-  no-cut : (x n : ℕ) → x < 100 → n < 100 → betweenWalls built x n ≡ false → Cuts costs target x n → ⊥
-  unfolding betweenWalls
+  no-cut : (x n : ℕ) → x < 100 → n < 100 → passesWall built x n ≡ false → Cuts costs target x n → ⊥
+  unfolding passesWall
   no-cut x n h l e c =
       let r : wallAt built (x / 10 * 10 + n % 10) ≡ true = wall-at (x / 10 * 10 + n % 10) (omega arith) (c .wall-in-row) in
-      let k : wallAt built (n / 10 * 10 + x % 10) ≡ true = wall-at (n / 10 * 10 + x % 10) (omega arith) (c .wall-in-column) in
-      true≢false (rw (differ (x / 10) (n / 10) (c .other-row), differ (x % 10) (n % 10) (c .other-column), r, k) at e)
+      true≢false (rw (differ (x / 10) (n / 10) (c .other-row), differ (x % 10) (n % 10) (c .other-column), r) at e)
 
   -- where the byte of a cell points
   record Next (x : ℕ) : Type 0 where
@@ -274,6 +269,9 @@ build-arrows cells entry exit writes = record {
   arrows = λ costs step has previous w c e.
       (let made : exit ≡ flowBuild cells entry = writes (ap length e ∙ new-length (portalOf step) (windowOf (targetOf step)) cells has previous) in
       rw (made, e, c) (arrows-lead costs (targetOf step) w (portalOf step) has previous));
+  clear = λ costs step has previous full inside c e.
+      (let made : exit ≡ flowBuild cells entry = writes (ap length e ∙ new-length (portalOf step) (windowOf (targetOf step)) cells has previous) in
+      rw (made, e, c) (arrows-clear costs (targetOf step) full inside (portalOf step) (target-on step) has previous));
 }
 
 -- ---- following is determined

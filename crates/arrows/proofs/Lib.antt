@@ -3,4 +3,5 @@ pub mod Around
 pub mod Look
 pub mod Bytes
 pub mod Moves
+pub mod Clear
 pub mod Lead

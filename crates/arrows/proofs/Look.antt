@@ -1,6 +1,7 @@
 -- A look, direction by direction.
 --     came          what looking in one more direction comes to
 --     along         what each direction keeps, holds of the whole look
+--     aims          whatever the cells are: it comes to no direction, or to that of a cell that it sees
 --     found         where all that a look sees is reached, and one cell of it is lower: it comes to a lower cell, or takes one
 --     nothing       where nothing that it sees is reached: it comes to no direction
 -- Assumes nothing.
@@ -22,7 +23,7 @@ use Rattle.fields.specs.declared.Stepped.the-variants.{Cell, Outside}
 use Rattle.fields.specs.Cell.{indexOf, cellAt, stepped}
 use Rattle.fields.proofs.Steps.{index-of-cell}
 use Rattle.integration_field.specs.Word.{low, isGoal, isPortal}
-use Rattle.integration_field.specs.Diagonal.{wallAt, betweenWalls}
+use Rattle.integration_field.specs.Diagonal.{wallAt, passesWall}
 use Rattle.flow_byte.specs.declared.Look.{Look}
 use Rattle.flow_byte.specs.declared.Look.the-variants.{Looking, Taken, Ended}
 use Rattle.flow_byte.specs.Look.{seen, seenAt, lookAt, lookAlong, lookAround}
@@ -49,7 +50,7 @@ module _ (cells : List ℕ) (i : ℕ) (h : i < 100) where
 
   came-cell : (d best : CompassDir) (value : ℕ) (c : FieldCell) → stepped (cellAt i) d ≡ Cell c → Came d best value (seen cells i d (indexOf c) best value)
   unfolding seen
-  came-cell d best value c e = passing (wallAt cells n) (betweenWalls cells i n) refl refl
+  came-cell d best value c e = passing (wallAt cells n) (passesWall cells i n) refl refl
     where
       n : ℕ
       n = indexOf c
@@ -76,13 +77,13 @@ module _ (cells : List ℕ) (i : ℕ) (h : i < 100) where
       taking s true q = is-taken n s q refl
       taking s false q = ending s q (eqb (low x) 65535) refl
 
-      hidden : (a b : Bool) → wallAt cells n ≡ a → betweenWalls cells i n ≡ b → (a || b) ≡ true → (m : ℕ) → Sees cells i d m → ⊥
+      hidden : (a b : Bool) → wallAt cells n ≡ a → passesWall cells i n ≡ b → (a || b) ≡ true → (m : ℕ) → Sees cells i d m → ⊥
       hidden a b p q t m s =
           let w : wallAt cells n ≡ false = rw (← same-cell d c m e s) (s .no-wall) in
-          let o : betweenWalls cells i n ≡ false = rw (← same-cell d c m e s) (s .open-way) in
+          let o : passesWall cells i n ≡ false = rw (← same-cell d c m e s) (s .open-way) in
           true≢false (sym t ∙ rw (← p, ← q, w, o))
 
-      passing : (a b : Bool) → wallAt cells n ≡ a → betweenWalls cells i n ≡ b
+      passing : (a b : Bool) → wallAt cells n ≡ a → passesWall cells i n ≡ b
           → Came d best value (cond (a || b) (Looking best value) (cond (isTaken n) (Taken d) untaken))
       passing true b p q = passed (hidden true b p q refl) refl
       passing false true p q = passed (hidden false true p q refl) refl
@@ -105,6 +106,28 @@ module _ (cells : List ℕ) (i : ℕ) (h : i < 100) where
       once (Looking best value) p = kept d best value (lookAt cells i (Looking best value) d) p (came d best value)
       once (Taken e) p = p
       once (Ended e) p = p
+
+  -- ---- whatever is seen
+
+  -- no direction, or that of a cell that the look sees
+  abbrev pub Toward : CompassDir → Type 0
+  Toward d = (d ≡ Zero) ⊎ ((n : ℕ) × Sees cells i d n)
+
+  abbrev pub Aims : Look → Type 0
+  Aims (Looking best value) = Toward best
+  Aims (Taken d) = Toward d
+  Aims (Ended best) = Toward best
+
+  pub aims : Aims (lookAround cells i)
+  unfolding lookAround
+  aims = along Aims kept all (Looking Zero 65535) (inl refl)
+    where
+      kept : (d best : CompassDir) (value : ℕ) (l : Look) → Aims (Looking best value) → Came d best value l → Aims l
+      kept d best value l s (passed p e) = rw e s
+      kept d best value l s (is-taken n p t e) = rw e (inr (n, p))
+      kept d best value l s (is-ended n p t v e) = rw e s
+      kept d best value l s (is-better n p v e) = rw e (inr (n, p))
+      kept d best value l s (not-better n p v e) = rw e s
 
   -- ---- all that is seen is reached
 

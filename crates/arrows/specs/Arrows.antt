@@ -1,5 +1,5 @@
--- Followed arrows (01, "Flow byte", last paragraph), in document 01's words: reached, arrow, move, cut. Walls and window cells are those of
--- permitted walks. Nothing here is told by the helpers of a look, nor by those that read a byte or step from a cell.
+-- Followed arrows (01, "Flow byte", last paragraph; 02, "Job 7"), in the documents' words: reached, arrow, move, cut, pass. Walls and window
+-- cells are those of permitted walks. Nothing here is told by the helpers of a look, nor by those that read a byte or step from a cell.
 -- Assumes nothing.
 use mathlib.Core.Path.{_≡_}
 use mathlib.Core.Bool.{true}
@@ -55,6 +55,19 @@ module _ (costs : List ℕ) (target : Target) where
     pub other-column : a % 10 ≡ b % 10 → ⊥
     pub wall-in-row : Wall costs target (indexOf (cell (b % 10) (a / 10)))
     pub wall-in-column : Wall costs target (indexOf (cell (a % 10) (b / 10)))
+
+  -- A move from a to b passes a wall diagonally when it is diagonal and either of the two cells beside it is a wall (02, Job 7: a diagonal is
+  -- now barred if either of the two cells beside it is a wall, no longer only both).
+  pub record PassesWall (a b : ℕ) : Type 0 where
+    pub other-row : a / 10 ≡ b / 10 → ⊥
+    pub other-column : a % 10 ≡ b % 10 → ⊥
+    pub wall-beside : Wall costs target (indexOf (cell (b % 10) (a / 10))) ⊎ Wall costs target (indexOf (cell (a % 10) (b / 10)))
+
+  -- From no cell of the sector, whatever it is, does an arrow that leads to a cell of the sector pass a wall diagonally (02, Job 7: arrows
+  -- inside a sector never pass one diagonally), and none leads onto a wall.
+  pub record ClearArrows (bytes : List ℕ) : Type 0 where
+    pub past-no-wall : (x y : ℕ) → x < 100 → y < 100 → Away (arrow bytes x) x y → PassesWall x y → ⊥
+    pub onto-no-wall : (x y : ℕ) → x < 100 → y < 100 → Away (arrow bytes x) x y → Wall costs target y → ⊥
 
   module _ (built bytes : List ℕ) where
     -- the move from x goes to y, a cell inside the sector of strictly lower built cost, and does not cut between two walls

@@ -14,7 +14,7 @@ use Rattle.line_end.specs.LineEnd.{gradient, intercept, floor, rowAt, firstEndi
 use Rattle.route.specs.Window.{onEdge, edge, cellsBetween}
 use Rattle.route.specs.Step.{portalOf, stepNumberOn}
 use Rattle.route.specs.Target.{targetOf}
-use Rattle.integration_field.specs.Diagonal.{betweenWalls}
+use Rattle.integration_field.specs.Diagonal.{passesWall}
 use Rattle.integration_field.specs.Listed.{listOf}
 use Rattle.integration_field.specs.Wave.{relaxed, offeredAround, offeredBy, changedFrom, next}
 use Rattle.integration_field.specs.Rest.{total}
@@ -116,5 +116,5 @@ cases =
     ∷ []
 
 pub as-expected : map (λ (c : Case). c .given) cases ≡ map (λ (c : Case). c .expected) cases
-unfolding onEdge stepped table toward nearest shallow steep line gradient intercept floor rowAt firstEnding slantedEnd endBy lineEnd add sub mul div neg ofInt edge cellsBetween targetOf betweenWalls relaxed offeredAround offeredBy changedFrom next total isEmpty settle build walls withPortals withGoal marked lineMarked seen extended sideTried wallMet neighbourLooked lookedAround waveLooked sightAfter cornerLine sightFrom startedFrom startedAt started initNumber stepNumberOn startOf facingBits facingChoice windowBits newByte newBytes look.seen lookAround pointed builtByte flowBuild sectorBytes
+unfolding onEdge stepped table toward nearest shallow steep line gradient intercept floor rowAt firstEnding slantedEnd endBy lineEnd add sub mul div neg ofInt edge cellsBetween targetOf passesWall relaxed offeredAround offeredBy changedFrom next total isEmpty settle build walls withPortals withGoal marked lineMarked seen extended sideTried wallMet neighbourLooked lookedAround waveLooked sightAfter cornerLine sightFrom startedFrom startedAt started initNumber stepNumberOn startOf facingBits facingChoice windowBits newByte newBytes look.seen lookAround pointed builtByte flowBuild sectorBytes
 as-expected = refl

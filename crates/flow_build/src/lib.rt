@@ -34,7 +34,7 @@ fn see(
     }
     let in_row = cells[from.row * 10 + to.column];
     let in_column = cells[to.row * 10 + from.column];
-    if integration_bits::is_between_walls(from, to, in_row, in_column) {
+    if integration_bits::passes_wall(from, to, in_row, in_column) {
         return Look::Looking(best, value);
     }
     if integration_bits::is_goal(cost) {

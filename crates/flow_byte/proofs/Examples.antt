@@ -8,9 +8,9 @@ use mathlib.Core.Path.{_≡_, refl}
 use mathlib.Core.List.{List}
 use Prim.Native.Nat.{ℕ}
 use lib.ListN.{set, replicate}
-use Rattle.utilities.specs.declared.CompassDir.the-variants.{North, South}
+use Rattle.utilities.specs.declared.CompassDir.the-variants.{North, East, NorthEast}
 use Rattle.fields.specs.Cell.{stepped}
-use Rattle.integration_field.specs.Diagonal.{betweenWalls}
+use Rattle.integration_field.specs.Diagonal.{passesWall}
 use Rattle.flow_byte.specs.declared.Look.the-variants.{Looking, Ended}
 use Rattle.flow_byte.specs.New.{startOf, facingBits, facingChoice}
 use Rattle.flow_byte.specs.Look.{seen, lookAround, pointed, lookedByte}
@@ -34,18 +34,29 @@ abbrev sevens : List ℕ
 sevens = replicate 100 7
 
 earliest : lookAround sevens 44 ≡ Looking North 7
-unfolding lookAround seen stepped betweenWalls
+unfolding lookAround seen stepped passesWall
 earliest = refl
 
 -- the cell to the East is not reached
 ended : lookAround (set sevens 45 65535) 44 ≡ Ended North
-unfolding lookAround seen stepped betweenWalls
+unfolding lookAround seen stepped passesWall
 ended = refl
 
--- walls to the North and to the East, and between them the cheapest cell
-uncut : lookAround (set (set (set sevens 34 0x200FFFF) 45 0x200FFFF) 35 1) 44 ≡ Looking South 7
-unfolding lookAround seen stepped betweenWalls
-uncut = refl
+-- the cheapest cell is the one to the North-East; a wall beside the move there, East of the cell or North of it, bars it (02, "Job 7")
+abbrev cheapest : List ℕ
+cheapest = set sevens 35 1
+
+unbarred : lookAround cheapest 44 ≡ Looking NorthEast 1
+unfolding lookAround seen stepped passesWall
+unbarred = refl
+
+barred-in-row : lookAround (set cheapest 45 0x200FFFF) 44 ≡ Looking North 7
+unfolding lookAround seen stepped passesWall
+barred-in-row = refl
+
+barred-in-column : lookAround (set cheapest 34 0x200FFFF) 44 ≡ Looking East 7
+unfolding lookAround seen stepped passesWall
+barred-in-column = refl
 
 ended-byte : lookedByte 0 (Ended North) ≡ 0xF1
 unfolding pointed

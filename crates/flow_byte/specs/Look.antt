@@ -1,4 +1,4 @@
--- Looking around for the cheapest neighbour (01, "Flow byte").
+-- Looking around for the cheapest neighbour (01, "Flow byte"; 02, "Job 7").
 -- Assumes nothing.
 use mathlib.Core.Bool.{cond, _||_}
 use mathlib.Core.List.{List, [], _∷_, map}
@@ -14,18 +14,18 @@ use Rattle.fields.specs.declared.Stepped.the-variants.{Cell, Outside}
 use Rattle.fields.specs.Cell.{cellAt, indexOf, stepped}
 use Rattle.route.specs.Window.{below}
 use Rattle.integration_field.specs.Word.{low, isGoal, isPortal}
-use Rattle.integration_field.specs.Diagonal.{wallAt, betweenWalls}
+use Rattle.integration_field.specs.Diagonal.{wallAt, passesWall}
 use Rattle.flow_byte.specs.declared.Look.{Look}
 use Rattle.flow_byte.specs.declared.Look.the-variants.{Looking, Taken, Ended}
 use Rattle.flow_bits.specs.Byte.{bitsOf, isPathable, isImpassable}
 
 -- What a look from cell i makes of the neighbour at index n in direction d, with the best so far and its value.
--- Walls and diagonals between two walls are passed over. The first GOAL or PORTAL is taken.
+-- Walls, and diagonals that pass one (02, Job 7), are passed over. The first GOAL or PORTAL is taken.
 -- Low bits 65535 first, in a cell with neither of these flags: looking ends. Best is strictly least, earliest.
 unfoldable pub seen : List ℕ → ℕ → CompassDir → ℕ → CompassDir → ℕ → Look
 seen cells i d n best value =
     let x = getD cells n 0 in
-    cond (wallAt cells n || betweenWalls cells i n) (Looking best value)
+    cond (wallAt cells n || passesWall cells i n) (Looking best value)
     (cond (isGoal x || isPortal x) (Taken d)
     (cond (eqb (low x) 65535) (Ended best)
     (cond (ltb (low x) value) (Looking d (low x)) (Looking best value))))

@@ -1,7 +1,7 @@
-// The bits of an integration field's cell: its cost and its flags, their readers, and the walls that cut a move.
+// The bits of an integration field's cell: its cost and its flags, their readers, and the walls that bar a move.
 use fields::FieldCell;
 ghost use mathlib.Core.Path.{_≡_};
-ghost use mathlib.Core.Bool.{not, _&&_};
+ghost use mathlib.Core.Bool.{not, _&&_, _||_};
 ghost use lib.Dec.{eqb};
 ghost use Rattle.integration_field.specs.Word.{low, isLos, isGoal, isBlocked, isPortal, isImpassable};
 
@@ -63,9 +63,9 @@ pub fn low_bits(cost: u32) -> u32
     cost & INT_FILTER_BITS_COST
 }
 
-// Whether a move between two cells is diagonal, with both cells beside it walls: the one in the row that it leaves, and the one in the column.
-pub fn is_between_walls(from: FieldCell, to: FieldCell, in_row: u32, in_column: u32) -> bool
-    ensures { λ r. ⌜ r ≡ ((not (eqb (from .row) (to .row)) && not (eqb (from .column) (to .column))) && (isImpassable «in_row» && isImpassable «in_column»)) ⌝ }
+// Whether a move between two cells is diagonal and passes a wall: the cell beside it in the row that it leaves, or the one in the column.
+pub fn passes_wall(from: FieldCell, to: FieldCell, in_row: u32, in_column: u32) -> bool
+    ensures { λ r. ⌜ r ≡ ((not (eqb (from .row) (to .row)) && not (eqb (from .column) (to .column))) && (isImpassable «in_row» || isImpassable «in_column»)) ⌝ }
 {
     let from_column = from.column;
     let from_row = from.row;
@@ -77,8 +77,5 @@ pub fn is_between_walls(from: FieldCell, to: FieldCell, in_row: u32, in_column: 
     if from_column == to_column {
         return false;
     }
-    if !is_impassable(in_row) {
-        return false;
-    }
-    is_impassable(in_column)
+    is_impassable(in_row) | is_impassable(in_column)
 }

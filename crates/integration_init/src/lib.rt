@@ -57,7 +57,7 @@ fn is_stopped(cells: &[u32; 100], previous: usize, n: usize) -> bool
     let to = FieldCell::from_index(n);
     let in_row = cells[from.row * 10 + to.column];
     let in_column = cells[to.row * 10 + from.column];
-    integration_bits::is_between_walls(from, to, in_row, in_column)
+    integration_bits::passes_wall(from, to, in_row, in_column)
 }
 
 // Marks and lists a cell of a line, if it is not blocked yet. Answers how many are listed.

@@ -7,7 +7,7 @@ use lib.ListN.{set, replicate}
 use Rattle.fields.specs.Cell.{stepped}
 use Rattle.route.specs.Window.{onEdge, edge, cellsBetween}
 use Rattle.route.specs.Target.{targetOf}
-use Rattle.integration_field.specs.Diagonal.{betweenWalls}
+use Rattle.integration_field.specs.Diagonal.{passesWall}
 use Rattle.integration_field.specs.Wave.{relaxed, offeredAround, offeredBy, changedFrom, next}
 use Rattle.integration_field.specs.Rest.{total}
 use Rattle.integration_field.specs.Build.{isEmpty, settle, build}
@@ -35,12 +35,12 @@ steps = (9 ∷ 0 ∷ 0 ∷ 0 ∷ 0 ∷ 0 ∷ 0 ∷ 0 ∷ []) ∷ (10 ∷ 0 ∷ 1
 abbrev after : List ℕ
 after = planned (walled 9) steps (replicate 6400 0)
 
--- From cell 5 of sector 18: three moves east along the window to cell 8, north-east into cell 99, north-west to 88, eight moves west to 80, and
--- north-west into cell 79 of the goal's sector.
+-- From cell 5 of sector 18: three moves east along the window to cell 8, north-east into cell 99, north to 89, since the way north-west to 88
+-- passes the wall 98 (02, "Job 7"), nine moves west to 80, and north-west into cell 79 of the goal's sector.
 pub three-sectors :
-    followed after 3 (placeOf 18 5) ∷ followed after 4 (placeOf 18 5) ∷ followed after 13 (placeOf 18 5) ∷ followed after 14 (placeOf 18 5) ∷ []
+    followed after 3 (placeOf 18 5) ∷ followed after 4 (placeOf 18 5) ∷ followed after 14 (placeOf 18 5) ∷ followed after 15 (placeOf 18 5) ∷ []
     ≡ placeOf 18 8 ∷ placeOf 10 99 ∷ placeOf 10 80 ∷ placeOf 9 79 ∷ []
-unfolding onEdge stepped edge cellsBetween targetOf betweenWalls relaxed offeredAround offeredBy changedFrom next total isEmpty settle build walls
+unfolding onEdge stepped edge cellsBetween targetOf passesWall relaxed offeredAround offeredBy changedFrom next total isEmpty settle build walls
     withPortals withGoal seen neighbourLooked lookedAround waveLooked sightAfter sightFrom startedFrom startedAt started startOf facingBits facingChoice
     windowBits newByte newBytes look.seen lookAround pointed builtByte flowBuild sectorBytes counts countingCells planned plannedFrom moved followed
 three-sectors = refl

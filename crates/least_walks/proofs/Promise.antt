@@ -1,6 +1,8 @@
 -- Demand 3 for every target inside the sector, of the started field as it is defined.
 --     accepts-started    the started field is one that `build` takes
---     demand3            least walks, and the exact count
+--     started-ground     what its cells are, as far as walks go
+--     started-walks      its least walks, once built
+--     demand3            the same in demand 3's words, and the exact count
 --     built, builds      what `build` answers for it, and the same of that answer
 --     builds-started     as it is promised of `build`
 --     once-built         as it is promised of `init`
@@ -18,6 +20,7 @@ use Rattle.integration_field.specs.declared.IntegrationField.{IntegrationField}
 use Rattle.integration_field.specs.declared.BuildAnswer.{BuildAnswer}
 use Rattle.integration_field.specs.Build.{build}
 use Rattle.integration_field.specs.Answer.{answerOf, allCells, Accepted, buildAnswer}
+use Rattle.integration_field.specs.Promise.{LeastWalks}
 use Rattle.integration_field.proofs.Answers.{number-accepted}
 use Rattle.started_field.specs.declared.InitAnswer.{InitAnswer}
 use Rattle.integration_field.proofs.Least.{least-walks, waves-counted}
@@ -66,14 +69,20 @@ module _ (costs : List ℕ) (target : Target) (full : length costs ≡ 100) (tar
   pub accepts-started : Accepted costs (started costs target)
   accepts-started = record { costs-hundred = full; count-in = told .list-fits; corners-in = all-below corners below }
 
+  hundred : length cells ≡ 100
+  hundred = long costs full cells corners target (told .cells-are)
+
+  pub started-ground : Ground costs cells corners (Wall costs target) (GoalCell target)
+  started-ground = ground costs full cells corners target (told .cells-are)
+
+  pub started-walks : LeastWalks costs cells corners (build costs cells corners .cells)
+  started-walks = least-walks costs cells corners hundred inside
+
   pub demand3 : Demand3 costs target (build costs cells corners .cells) (build costs cells corners .waves)
-  demand3 =
-      let n = long costs full cells corners target (told .cells-are) in
-      record {
-        least = started-least costs cells corners (Wall costs target) (GoalCell target) (ground costs full cells corners target (told .cells-are))
-            (build costs cells corners .cells) (least-walks costs cells corners n inside);
-        counted = waves-counted costs cells corners n inside;
-      }
+  demand3 = record {
+    least = started-least costs cells corners (Wall costs target) (GoalCell target) started-ground (build costs cells corners .cells) started-walks;
+    counted = waves-counted costs cells corners hundred inside;
+  }
 
   -- built by `build`
   pub built : (f : IntegrationField) → f ≡ started costs target → buildAnswer costs f ≡ answerOf 0 costs (started costs target)

@@ -23,7 +23,7 @@ use Rattle.leg_plan.specs.Inner.{LegReady}
 use Rattle.leg_plan.specs.Promise.{stepOf, sectorAt, targetAt, portalAt, hasBefore, costsAt, builtAt, builtBefore, LegPlanned}
 use Rattle.leg_plan.proofs.Steps.{steps-count, step-of}
 use Rattle.leg_plan.proofs.Numbers.{accepted, ready}
-use Rattle.counting.proofs.Counting.{leg-target-in}
+use Rattle.counting.proofs.Counting.{leg-target-in, leg-target-on}
 use Rattle.leg_plan.proofs.Sheet.{Fits, full-after, kept, written, built-is}
 
 pub part-hundred : (l : List ℕ) (sector : ℕ) → length l ≡ 6400 → sector < 64 → length (part l sector) ≡ 100
@@ -58,7 +58,8 @@ module _ (floor steps sheet : List ℕ) (ready : LegReady floor steps) (sheet-fu
             (sym (built-is floor (stepsOf steps) k))
             (subst (sector.Planned costs target (sectorField costs target .field) (waveCount costs (started costs target))) (sym (wrote k h))
             (sector-planned costs target (portalAt (stepsOf steps) k) (part-hundred floor (sectorAt (stepsOf steps) k) (ready .floor-full) (fits .in-floor k h))
-            (target-at k h) (hasBefore k) (builtBefore floor (stepsOf steps) k)));
+            (target-at k h) (hasBefore k) (builtBefore floor (stepsOf steps) k)
+            (leg-target-on (hasBefore k) (builtBefore floor (stepsOf steps) k) (stepOf (stepsOf steps) k))));
       }
 
 module _ (floor steps sheet : List ℕ) where

@@ -2,7 +2,7 @@
 --     bytes-hundred      100 bytes are written
 --     none-read          without a previous field, what is lent in its place plays no part
 --     runs               what the run's four calls leave
---     sector-planned     demand 3, of the definitions
+--     sector-planned     demand 3, and arrows clear of walls, of the definitions
 --     refuses, accepts   all that is promised of a refused call, and of an accepted one by its run
 -- Assumes nothing.
 use mathlib.Core.Path.{_≡_, refl, sym, ap, ap₂, _∙_}
@@ -27,6 +27,7 @@ use Rattle.flow_byte.specs.Look.{builtByte, flowBuild}
 use Rattle.flow_build.specs.Flow.{buildNumber, buildSheet}
 use Rattle.flow_byte.proofs.Sheets.{bytes-length}
 use Rattle.arrows.proofs.Bytes.{new-length}
+use Rattle.arrows.proofs.Clear.{OnEdge, arrows-clear, target-on}
 use Rattle.arrows.proofs.Lead.{arrows-lead}
 use Rattle.sector.specs.Sector.{sectorNumber, sectorField, sectorBytes, sectorAnswer, sectorSheet}
 use Rattle.sector.specs.Promise.{Planned}
@@ -57,9 +58,14 @@ module _ (costs : List ℕ) (target : Target) (portal : PortalWindow) where
         let e : b ≡ answerOf 0 costs (started costs target) = q ∙ built costs target full inside f p in
         (e, t ∙ rw (r, e) (ends (sectorField costs target .field)))
 
-    pub sector-planned : Planned costs target (sectorField costs target .field) (waveCount costs (started costs target)) (sectorBytes costs target portal has previous)
+    pub sector-planned : OnEdge portal target
+        → Planned costs target (sectorField costs target .field) (waveCount costs (started costs target)) (sectorBytes costs target portal has previous)
     unfolding sectorBytes
-    sector-planned = record { walks = demand3 costs target full inside; arrows = λ w. arrows-lead costs target w portal has previous }
+    sector-planned on = record {
+      walks = demand3 costs target full inside;
+      arrows = λ w. arrows-lead costs target w portal has previous;
+      clear = arrows-clear costs target full inside portal on has previous;
+    }
 
 module _ (costs step : List ℕ) (has : Bool) (previous sheet : List ℕ) where
   -- an answer, and the sheet that is left with it
@@ -76,4 +82,7 @@ module _ (costs step : List ℕ) (has : Bool) (previous sheet : List ℕ) where
       → b ≡ answerOf 0 costs (started costs (targetOf step)) → bytes ≡ sectorBytes costs (targetOf step) (portalOf step) has previous → Promised b bytes
   accepts z b bytes e w =
       let ok = accepted costs step has previous sheet z in
-      (e ∙ rw z, (w ∙ rw z, λ _. rw (e, w) (sector-planned costs (targetOf step) (portalOf step) (ok .costs-hundred) (target-in step (ok .step-good)) has previous)))
+      let inside = target-in step (ok .step-good) in (
+        e ∙ rw z,
+        (w ∙ rw z, λ _. rw (e, w) (sector-planned costs (targetOf step) (portalOf step) (ok .costs-hundred) inside has previous (target-on step))),
+      )

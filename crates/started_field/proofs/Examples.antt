@@ -7,7 +7,7 @@ use lib.ListN.{getD, set, replicate}
 use Rattle.utilities.specs.declared.CompassDir.the-variants.{North, East}
 use Rattle.fields.specs.Cell.{stepped}
 use Rattle.route.specs.Step.{stepNumberOn}
-use Rattle.integration_field.specs.Diagonal.{betweenWalls}
+use Rattle.integration_field.specs.Diagonal.{passesWall}
 use Rattle.started_field.specs.Sight.{
   walls,
   withPortals,
@@ -83,21 +83,29 @@ blocked-stays = refl
 
 -- in wave 1 the cells of a line get 2, 3, .. ; it stops before a wall ..
 pub line-counts : lineMarked 1 0 0 (0 ∷ 1 ∷ 2 ∷ []) (of (free ∷ free ∷ wall ∷ [])) .cells ≡ 0x4040002 ∷ 0x4040003 ∷ wall ∷ []
-unfolding lineMarked marked betweenWalls
+unfolding lineMarked marked passesWall
 line-counts = refl
 
--- .. and before a cell that it enters between two walls
-pub line-cut : lineMarked 1 0 0 (0 ∷ 11 ∷ []) (of (free ∷ wall ∷ replicate 8 free ++ wall ∷ free ∷ [])) .corners ≡ 0 ∷ []
-unfolding lineMarked marked betweenWalls
-line-cut = refl
+-- .. and before a cell that it enters diagonally past a wall, East of the cell that it leaves or South of it (02, "Job 7")
+pub line-unbarred : lineMarked 1 0 0 (0 ∷ 11 ∷ []) (of (replicate 12 free)) .corners ≡ 0 ∷ 11 ∷ []
+unfolding lineMarked marked passesWall
+line-unbarred = refl
+
+pub line-barred-in-row : lineMarked 1 0 0 (0 ∷ 11 ∷ []) (of (free ∷ wall ∷ replicate 10 free)) .corners ≡ 0 ∷ []
+unfolding lineMarked marked passesWall
+line-barred-in-row = refl
+
+pub line-barred-in-column : lineMarked 1 0 0 (0 ∷ 11 ∷ []) (of (replicate 10 free ++ wall ∷ free ∷ [])) .corners ≡ 0 ∷ []
+unfolding lineMarked marked passesWall
+line-barred-in-column = refl
 
 -- a wall north of cell 12: west of it is a corner first, then east; and only where the cell beside cell 12 is no wall
 pub sides-in-order : wallMet itself 1 12 2 North (of (replicate 2 free ++ wall ∷ replicate 11 free)) .corners ≡ 1 ∷ 3 ∷ []
-unfolding wallMet sideTried extended lineMarked marked betweenWalls stepped
+unfolding wallMet sideTried extended lineMarked marked passesWall stepped
 sides-in-order = refl
 
 pub side-closed : wallMet itself 1 12 2 North (of (replicate 2 free ++ wall ∷ replicate 8 free ++ wall ∷ free ∷ free ∷ [])) .corners ≡ 3 ∷ []
-unfolding wallMet sideTried extended lineMarked marked betweenWalls stepped
+unfolding wallMet sideTried extended lineMarked marked passesWall stepped
 side-closed = refl
 
 -- a look leaves the goal as it is, and queues a cell that comes into sight

@@ -22,7 +22,7 @@ use Rattle.fields.specs.Cell.{cell, Inside, cellAt, indexOf, stepped}
 use Rattle.fields.specs.Steps.{Arrives}
 use Rattle.fields.proofs.Steps.{stepped-cell, steps-to, step-back, index-below, index-of-cell, cell-inside, cell-of-index}
 use Rattle.integration_field.specs.Word.{isLos, isGoal, isBlocked, isImpassable}
-use Rattle.integration_field.specs.Diagonal.{wallAt, betweenWalls}
+use Rattle.integration_field.specs.Diagonal.{wallAt, passesWall}
 use Rattle.started_field.specs.Sight.{Sight, cornerWord, sightWord, listed, marked, stopped, lineMarked, seen, extended, sideTried, wallMet, neighbourLooked, looked, lookedAround}
 use Rattle.started_field.specs.Lines.{Lines}
 use Rattle.started_field.proofs.Count.{Each, count, Passes, once-room, each-more, each-one, once-more, at-set}
@@ -273,7 +273,7 @@ module _ (goal : ℕ) (goal-in : goal < 100) (walls : ℕ → Bool) where
           (marked-blocked (1 + 1 + 0) c t (omega (arith, p .sound .room .full)) (omega arith))
 
       open-way : (t : Sight) → First Never Never t → stopped (t .cells) c c ≡ false
-      unfolding betweenWalls
+      unfolding passesWall
       open-way t p = rw (p .sound .same c, free, eq-eqb (c / 10) (c / 10) refl)
 
       line-blocks : (t : Sight) → First Never Never t → First Only Never (extended cornerLine 1 c t)

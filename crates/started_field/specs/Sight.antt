@@ -13,7 +13,7 @@ use Rattle.fields.specs.declared.Stepped.{Stepped}
 use Rattle.fields.specs.declared.Stepped.the-variants.{Cell, Outside}
 use Rattle.fields.specs.Cell.{cellAt, indexOf, stepped}
 use Rattle.integration_field.specs.Word.{isLos, isGoal, isBlocked, isImpassable}
-use Rattle.integration_field.specs.Diagonal.{wallAt, betweenWalls}
+use Rattle.integration_field.specs.Diagonal.{wallAt, passesWall}
 
 -- All cells start at 65535; cost 255 gives 0x200FFFF, a wall.
 abbrev pub wallOr : ℕ → ℕ
@@ -53,9 +53,9 @@ listed value n s = record { cells = set (s .cells) n (cornerWord value); corners
 unfoldable pub marked : ℕ → ℕ → Sight → Sight
 marked value n s = cond (isBlocked (getD (s .cells) n 0)) s (listed value n s)
 
--- The line stops before a wall, and before a cell entered by a diagonal move between two walls.
+-- The line stops before a wall, and before a cell entered by a diagonal move that passes one (02, Job 7).
 abbrev pub stopped : List ℕ → ℕ → ℕ → Bool
-stopped cells previous n = wallAt cells n || betweenWalls cells previous n
+stopped cells previous n = wallAt cells n || passesWall cells previous n
 
 -- The line's i-th cell (from 0, all its cells counted) gets wave cost + 1 + i; here from the i-th on, which is entered from `previous`.
 unfoldable pub lineMarked : ℕ → ℕ → ℕ → List ℕ → Sight → Sight

@@ -7,7 +7,9 @@ use std::cell::Cell;
 pub enum Judge {
     /// The Rust's nine files as they are.
     Published,
-    /// The copy of them with one line more: the wave count, beside the published Rust.
+    /// The copy of them with the rule of diagonals that document 02, Job 7 asks for.
+    Altered,
+    /// The copy of them with one line more: the wave count, beside the copy that decides the cells.
     Counted,
     /// The table of refusals, as `refusals` reads it.
     Table,
@@ -16,11 +18,12 @@ pub enum Judge {
 }
 
 impl Judge {
-    pub const ALL: [Judge; 4] = [Judge::Published, Judge::Counted, Judge::Table, Judge::Model];
+    pub const ALL: [Judge; 5] = [Judge::Published, Judge::Altered, Judge::Counted, Judge::Table, Judge::Model];
 
     pub fn name(self) -> &'static str {
         match self {
             Judge::Published => "published Rust",
+            Judge::Altered => "altered Rust",
             Judge::Counted => "counted copy",
             Judge::Table => "table of refusals",
             Judge::Model => "model",
@@ -29,10 +32,10 @@ impl Judge {
 }
 
 /// For each judge whether it decided, by its place in `Judge::ALL`.
-pub type Judges = [bool; 4];
+pub type Judges = [bool; Judge::ALL.len()];
 
 thread_local! {
-    static DECIDED: Cell<Judges> = const { Cell::new([false; 4]) };
+    static DECIDED: Cell<Judges> = const { Cell::new([false; Judge::ALL.len()]) };
 }
 
 /// Notes that a judge decides the answer that is being made, or a part of it.
@@ -44,7 +47,7 @@ pub fn decides(judge: Judge) {
 
 /// What is answered, and by which judges it was decided.
 pub fn during<T>(answer: impl FnOnce() -> T) -> (T, Judges) {
-    DECIDED.set([false; 4]);
+    DECIDED.set([false; Judge::ALL.len()]);
     (answer(), DECIDED.get())
 }
 

@@ -2,6 +2,7 @@
 
 pub mod cases;
 pub mod command;
+pub mod copies;
 pub mod fence;
 pub mod floors;
 pub mod groups;

@@ -1,14 +1,11 @@
 //! The oracle: refusal numbers by the table of documents 01 and 02, everything else by the Rust, but for what has no Rust,
 //! leg files, legs in which some window cell does not count, and practice floors (02, Jobs 1, 2 and 6), which the model
-//! answers. A step whose goal or some window cell is of cost 255 (02, Job 3) is the table's, and the Rust, which takes it,
-//! is not asked. Wave counts come from the counted copy, whose fields are asserted equal to the published one's. Each judge
-//! is noted where it is asked.
+//! answers. What diagonals decide, `init`, `build` of a flow field, the sector call and a leg, is the Rust's altered in
+//! these tests alone (02, Job 7); what did not move is the published Rust's. A step whose goal or some window cell is of
+//! cost 255 (02, Job 3) is the table's, and the Rust, which takes it, is not asked. Wave counts come from the counted copy,
+//! whose fields are asserted equal to those of the copy that decides. Each judge is noted where it is asked.
 
-use reference::flowfields as rust;
-use reference::flowfields::fields::bresenham::{walk_bresenham_shallow, walk_bresenham_steep};
-use reference::flowfields::fields::{Field, flow_field};
-use reference::flowfields::utilities::CompassDir;
-
+use crate::copies::{altered, counted_build, published};
 use crate::judges::{Judge, aside, decides};
 use crate::model::Model;
 use crate::refusals::{self, Given};
@@ -19,8 +16,10 @@ pub struct Oracle;
 /// The judges of a call that the table takes.
 pub fn judges(call: Call) -> &'static [Judge] {
     match call {
-        Call::Build | Call::Sector => &[Judge::Published, Judge::Counted],
-        Call::Leg => &[Judge::Published, Judge::Model],
+        Call::Init | Call::FlowBuild => &[Judge::Altered],
+        Call::Build => &[Judge::Published, Judge::Counted],
+        Call::Sector => &[Judge::Altered, Judge::Counted],
+        Call::Leg => &[Judge::Altered, Judge::Model],
         Call::LegFileWrite | Call::LegFileRead | Call::PracticeFloor => &[Judge::Model],
         _ => &[Judge::Published],
     }
@@ -35,23 +34,8 @@ fn number(given: &Given) -> u8 {
     number
 }
 
-const BOUNDARIES: [CompassDir; 4] = [CompassDir::North, CompassDir::East, CompassDir::South, CompassDir::West];
-
-/// A hundred values of a slice that has passed the table.
-fn hundred<T: Copy>(values: &[T]) -> [T; CELLS] {
-    values.try_into().expect("the table lets only a hundred pass")
-}
-
-fn cell(at: FieldCell) -> rust::fields::FieldCell {
-    rust::fields::FieldCell::new(at.column, at.row)
-}
-
-fn answered(at: &rust::fields::FieldCell) -> FieldCell {
-    FieldCell { column: at.get_column(), row: at.get_row() }
-}
-
 /// The answer of these cells, where the table takes the two ends.
-fn line_of(ends: [FieldCell; 2], walked: impl FnOnce() -> Vec<rust::fields::FieldCell>) -> Line {
+fn line_of(ends: [FieldCell; 2], walked: impl FnOnce() -> Vec<FieldCell>) -> Line {
     let coordinates = [ends[0].column, ends[0].row, ends[1].column, ends[1].row];
     let number = number(&Given { coordinates: &coordinates, ..Given::default() });
     if number != 0 {
@@ -60,102 +44,29 @@ fn line_of(ends: [FieldCell; 2], walked: impl FnOnce() -> Vec<rust::fields::Fiel
     decides(Judge::Published);
     let walked = walked();
     let mut line = Line { count: walked.len(), ..Line::default() };
-    for (place, at) in line.cells.iter_mut().zip(&walked) {
-        *place = answered(at);
-    }
+    line.cells[..walked.len()].copy_from_slice(&walked);
     line
 }
 
-/// The Rust's step of eight bytes that have passed the table.
-pub fn route_step(step: &[u8]) -> rust::route::RouteStep {
-    let (sector, goal) = (i32::from(step[0]), usize::from(step[1]));
-    let portal = (step[2] == 1).then(|| {
-        let ends = [step[3], step[4]].map(|index| rust::fields::FieldCell::from_index(usize::from(index)));
-        rust::portal::PortalWindow::new(ends[0], ends[1], BOUNDARIES[usize::from(step[5])])
-    });
-    rust::route::RouteStep::new(&rust::sectors::SectorID::new(sector % 8, sector / 8), goal, portal)
-}
-
-pub fn cost_field(costs: &[u8]) -> rust::fields::cost_field::CostField {
-    rust::fields::cost_field::CostField::oracle_from(hundred(costs))
-}
-
-type RustField = rust::fields::integration_field::IntegrationField;
-
-fn rust_field(field: &IntegrationField) -> RustField {
-    RustField::oracle_from(field.field, field.corners().to_vec())
-}
-
-/// Flow calls do not look at the list, which may then be one that `build` refuses.
-fn rust_cells(field: [u32; CELLS]) -> RustField {
-    RustField::oracle_from(field, Vec::new())
-}
-
-fn from_rust(field: &RustField) -> IntegrationField {
-    IntegrationField::new(*field.get(), field.oracle_corners())
-}
-
-/// What the counted copy makes of a field.
-pub struct Counted {
-    pub cells: [u32; CELLS],
-    /// The calls of `propagate_integrated_wavefront` but the first.
-    pub waves: usize,
-    /// The entries of the longest wavefront.
-    pub longest: usize,
-}
-
-/// The counted copy's build.
-pub fn counted_build(costs: &[u8], field: &IntegrationField) -> Counted {
-    use counted::flowfields::fields::{Field, cost_field::CostField, integration_field::IntegrationField as Copied};
-    let mut copy = Copied::oracle_from(field.field, field.corners().to_vec());
-    counted::WAVEFRONTS.set((0, 0));
-    copy.build(&CostField::oracle_from(hundred(costs)));
-    let (calls, longest) = counted::WAVEFRONTS.get();
-    Counted { cells: *copy.get(), waves: calls - 1, longest }
-}
-
-/// What the Rust starts on any costs, for a step that 4 to 8 take. It opens a wall under the goal or a window cell, which
-/// `init` refuses: then a field to be given by hand.
+/// What the altered Rust starts on any costs, for a step that 4 to 8 take. It opens a wall under the goal or a window cell,
+/// which `init` refuses: then a field to be given by hand.
 pub fn rust_started(costs: &[u8], step: &[u8]) -> IntegrationField {
-    from_rust(&RustField::init(&cost_field(costs), &route_step(step)))
+    altered::started(costs, step)
 }
 
 /// The same, built.
 pub fn rust_built(costs: &[u8], step: &[u8]) -> IntegrationField {
-    let mut field = RustField::init(&cost_field(costs), &route_step(step));
-    field.build(&cost_field(costs));
-    from_rust(&field)
+    altered::built(costs, &altered::started(costs, step))
+}
+
+/// The waves of a field, of which a copy of the Rust made these cells.
+fn waves_of(costs: &[u8], field: &IntegrationField, cells: &[u32; CELLS]) -> usize {
+    let counted = counted_build(costs, field);
+    assert_eq!(cells, &counted.cells, "the counted copy builds another field");
+    counted.waves
 }
 
 impl Oracle {
-    fn start(&self, costs: &[u8], step: &[u8]) -> IntegrationField {
-        decides(Judge::Published);
-        rust_started(costs, step)
-    }
-
-    fn built(&self, costs: &[u8], field: &IntegrationField) -> (IntegrationField, usize) {
-        decides(Judge::Published);
-        let mut published = rust_field(field);
-        published.build(&cost_field(costs));
-        let counted = counted_build(costs, field);
-        assert_eq!(published.get(), &counted.cells, "the counted copy builds another field");
-        (from_rust(&published), counted.waves)
-    }
-
-    fn arrows(&self, step: &[u8], field: &IntegrationField, previous: Option<&[u32]>) -> flow_field::FlowField {
-        decides(Judge::Published);
-        let previous = previous.map(|numbers| rust_cells(hundred(numbers)));
-        flow_field::FlowField::new(&route_step(step), &rust_cells(field.field), previous.as_ref())
-    }
-
-    /// The built field, its waves, and the flow bytes.
-    fn planned(&self, costs: &[u8], step: &[u8], previous: Option<&[u32]>) -> (IntegrationField, usize, [u8; CELLS]) {
-        let (field, waves) = self.built(costs, &self.start(costs, step));
-        let mut flow = self.arrows(step, &field, previous);
-        flow.build(&rust_cells(field.field));
-        (field, waves, *flow.get())
-    }
-
     /// The built field and the flow bytes of each step of a leg, the calls chained as document 01 says; none where a
     /// window has a cell that does not count.
     fn chained(&self, floor: &[u8], steps: &[u8]) -> Option<Vec<(IntegrationField, [u8; CELLS])>> {
@@ -166,7 +77,7 @@ impl Oracle {
                 return None;
             }
             let previous = before.as_ref().map(|field| &field.field[..]);
-            let (field, _, bytes) = self.planned(&floor[part(step)], step, previous);
+            let (field, bytes) = altered::planned(&floor[part(step)], step, previous);
             planned.push((field, bytes));
             before = Some(field);
         }
@@ -195,7 +106,7 @@ pub fn every_cell_counts(step: &[u8], before: &[u32; CELLS]) -> bool {
         2 => cell - 90,
         _ => cell + 9,
     };
-    let window = route_step(step).portal().map_or(Vec::new(), |window| window.get_all_window_cells());
+    let window = altered::window_cells(step);
     let reached: Vec<bool> = window.iter().map(|cell| before[across(*cell)] as u16 != u16::MAX).collect();
     (0..reached.len()).all(|k: usize| reached[k.saturating_sub(1)..(k + 2).min(reached.len())].contains(&true))
 }
@@ -210,15 +121,11 @@ impl Subject for Oracle {
     }
 
     fn line(&self, source: FieldCell, target: FieldCell) -> Line {
-        line_of([source, target], || cell(source).get_cells_between_points(&cell(target)))
+        line_of([source, target], || published::line(source, target))
     }
 
     fn walk(&self, steep: bool, source: FieldCell, target: FieldCell) -> Line {
-        let walk = if steep { walk_bresenham_steep } else { walk_bresenham_shallow };
-        let number = |coordinate: usize| coordinate as i32;
-        line_of([source, target], || {
-            walk(number(source.column), number(source.row), number(target.column), number(target.row))
-        })
+        line_of([source, target], || published::walk(steep, source, target))
     }
 
     fn line_end(&self, corner: FieldCell, goal: FieldCell) -> LineEnd {
@@ -228,28 +135,22 @@ impl Subject for Oracle {
             return refused::line_end(number);
         }
         decides(Judge::Published);
-        let end = rust::fields::integration_field::oracle_line_end(&cell(corner), &cell(goal));
-        LineEnd { number: 0, cell: answered(&end) }
+        LineEnd { number: 0, cell: published::line_end(corner, goal) }
     }
 
     fn readings(&self, byte: u8) -> Readings {
         decides(Judge::Published);
-        Readings {
-            is_pathable: flow_field::is_pathable(byte),
-            is_goal: flow_field::is_goal(byte),
-            is_portal_goal: flow_field::is_portal_goal(byte),
-            has_line_of_sight: flow_field::has_line_of_sight(byte),
-            is_wall: flow_field::is_wall(byte),
-            direction: flow_field::get_compass_dir_from_bits(byte) as u8,
-        }
+        published::readings(byte)
     }
 
     fn init(&self, costs: &[u8], step: &[u8]) -> InitAnswer {
         let given = Given { costs: Some(costs), steps: Some(step), ..Given::default() };
-        match number(&given) {
-            0 => InitAnswer { number: 0, field: self.start(costs, step) },
-            number => refused::init(number),
+        let number = number(&given);
+        if number != 0 {
+            return refused::init(number);
         }
+        decides(Judge::Altered);
+        InitAnswer { number, field: altered::started(costs, step) }
     }
 
     fn build(&self, costs: &[u8], field: IntegrationField) -> BuildAnswer {
@@ -258,16 +159,18 @@ impl Subject for Oracle {
         if number != 0 {
             return refused::build(number);
         }
-        let (field, waves) = self.built(costs, &field);
+        decides(Judge::Published);
+        let built = published::built(costs, &field);
         decides(Judge::Counted);
-        BuildAnswer { number, field, waves }
+        BuildAnswer { number, field: built, waves: waves_of(costs, &field, &built.field) }
     }
 
     fn flow_new(&self, step: &[u8], field: IntegrationField, previous: Previous, sheet: &mut [u8]) -> u8 {
         let given = Given { sheet: Some(sheet.len()), steps: Some(step), previous: Some(previous), ..Given::default() };
         let number = number(&given);
         if number == 0 {
-            sheet.copy_from_slice(self.arrows(step, &field, lent(previous)).get());
+            decides(Judge::Published);
+            sheet.copy_from_slice(&published::flow_new(step, &field.field, lent(previous)));
         }
         number
     }
@@ -275,10 +178,8 @@ impl Subject for Oracle {
     fn flow_build(&self, field: IntegrationField, sheet: &mut [u8]) -> u8 {
         let number = number(&Given { sheet: Some(sheet.len()), ..Given::default() });
         if number == 0 {
-            decides(Judge::Published);
-            let mut flow = flow_field::FlowField::oracle_from(hundred(sheet));
-            flow.build(&rust_cells(field.field));
-            sheet.copy_from_slice(flow.get());
+            decides(Judge::Altered);
+            sheet.copy_from_slice(&altered::flow_build(&field.field, sheet));
         }
         number
     }
@@ -295,10 +196,11 @@ impl Subject for Oracle {
         if number != 0 {
             return refused::build(number);
         }
-        let (field, waves, bytes) = self.planned(costs, step, lent(previous));
+        decides(Judge::Altered);
+        let (field, bytes) = altered::planned(costs, step, lent(previous));
         decides(Judge::Counted);
         sheet.copy_from_slice(&bytes);
-        BuildAnswer { number, field, waves }
+        BuildAnswer { number, field, waves: waves_of(costs, &altered::started(costs, step), &field.field) }
     }
 
     fn leg(&self, floor: &[u8], steps: &[u8], sheet: &mut [u8]) -> u8 {
@@ -312,7 +214,7 @@ impl Subject for Oracle {
             decides(Judge::Model);
             return Model::PLAIN.leg(floor, steps, sheet);
         };
-        decides(Judge::Published);
+        decides(Judge::Altered);
         for (step, (_, bytes)) in steps.chunks(8).zip(planned) {
             sheet[part(step)].copy_from_slice(&bytes);
         }

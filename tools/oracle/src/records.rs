@@ -7,34 +7,36 @@
 //! | line | 16 | source column, source row, target column, target row | number, count, 10 cell indexes |
 //! | line_end | 8 | corner column, corner row, goal column, goal row | number, column, row, 0 |
 //! | readers | 8 | byte | is_pathable, is_goal, is_portal_goal, has_line_of_sight, is_wall, direction, 0 |
-//! | init | 610 | 100 costs, 8 step | number, count, 100 corners, 100 cells of 32 bits |
+//! | init.altered | 610 | 100 costs, 8 step | number, count, 100 corners, 100 cells of 32 bits |
 //! | build | 1104 | 100 costs, 100 cells of 32 bits, count, 100 corners | number, waves, count, 100 corners, 100 cells of 32 bits |
 //! | flow_new | 910 | 8 step, 100 cells of 32 bits, has_previous, 100 previous of 32 bits | number, 100 sheet |
-//! | flow_build | 601 | 100 cells of 32 bits, 100 sheet | number, 100 sheet |
-//! | sector | 1112 | 100 costs, 8 step, has_previous, 100 previous of 32 bits | number, waves, count, 100 corners, 100 cells of 32 bits, 100 sheet |
-//! | init.table, sector.table | 610, 1112 | as init and sector | as init and sector |
-//! | leg, leg.model, leg.table | 3330 | step count, 128 steps, 16 times 100 costs | number, 16 times 100 sheet |
+//! | flow_build.altered | 601 | 100 cells of 32 bits, 100 sheet | number, 100 sheet |
+//! | sector.altered | 1112 | 100 costs, 8 step, has_previous, 100 previous of 32 bits | number, waves, count, 100 corners, 100 cells of 32 bits, 100 sheet |
+//! | init.table, sector.table | 610, 1112 | as init.altered and sector.altered | the same |
+//! | leg.altered, leg.model, leg.table | 3330 | step count, 128 steps, 16 times 100 costs | number, 16 times 100 sheet |
 //! | refusals.table | 160 | see below | number, 2 zeros |
 //! | leg_file_write.model | 314 | list length, buffer length, buffer's byte, list in 150 places | number, buffer in 160 places |
 //! | leg_file_read.model | 154 | file length, file in 150 places | number, start, length of the part |
 //! | practice.model | 105 | seed of 32 bits | 100 costs, goal |
 //! | practice_text.model | 223 | input length, input in 8 places | text length, text in 213 places |
 //!
-//! A file whose name has no dot holds answers of the Rust; its wave counts are those of the counted copy. Behind a dot
-//! stands the judge of a file that has no Rust: `table`, the reading of the documents' table of refusals, or `model`, the
-//! model of the documents.
+//! A file whose name has no dot holds answers of the published Rust. Behind a dot stands the judge of a file that has
+//! another: `altered`, the Rust altered in one rule (document 02, Job 7: a diagonal is barred if either cell beside it is a
+//! wall); `table`, the reading of the documents' table of refusals; or `model`, the model of the documents. Wave counts are
+//! those of the counted copy.
 //!
-//! flow_new, flow_build, sector, sector.table: the flow calls do not look at a field's list, so none is recorded
-//! (count 0). The sheet lent to `flow_new` and to the sector call holds 0x55 in every byte, and still does where the
-//! number is not 0.
+//! flow_new, flow_build.altered, sector.altered, sector.table: the flow calls do not look at a field's list, so none is
+//! recorded (count 0). The sheet lent to `flow_new` and to the sector call holds 0x55 in every byte, and still does where
+//! the number is not 0.
 //!
-//! init.table, sector.table: the floors and steps of `init` and of `sector` as they were drawn, with a wall under the goal
-//! or a window cell (number 16); there these walls are floor. leg.table: legs with such a step (16, or 8 before it).
+//! init.table, sector.table: the floors and steps of init.altered and sector.altered as they were drawn, with a wall under
+//! the goal or a window cell (number 16); there these walls are floor. leg.table: legs with such a step (16, or 8 before
+//! it).
 //!
-//! leg, leg.model, leg.table: the k-th 100 costs and sheet bytes are those of the sector that step k names. Cost bytes of
+//! leg.altered, leg.model, leg.table: the k-th 100 costs and sheet bytes are those of the sector that step k names. Cost bytes of
 //! sectors not named are 1; every byte of the sheet is 0x55 before the call, and those of sectors not
 //! named still are after it, as all are where the number is not 0. What stands beyond the last step is 0.
-//! In `leg` every window cell counts; in `leg.model` some window has a cell that does not.
+//! In leg.altered every window cell counts; in leg.model some window has a cell that does not.
 //!
 //! refusals.table: call (0 init, 1 build, 2 flow_new, 3 flow_build, 4 sector, 5 leg, 6 line, 7 line_end), then
 //! in 16 bits each costs length, sheet length, step bytes' length; has_previous; in 16 bits each
@@ -66,7 +68,7 @@ const SEED: u64 = 20_261_022;
 
 /// A section of the sample: a file.
 pub struct Section {
-    /// The file's name, with the judge behind a dot where it is not the Rust.
+    /// The file's name, with the judge behind a dot where it is not the published Rust.
     pub name: &'static str,
     /// Bytes of a record.
     pub length: usize,
@@ -77,10 +79,12 @@ impl Section {
     /// Who decided what is expected, by the name.
     pub fn judges(&self) -> &'static [Judge] {
         match self.name.split_once('.') {
+            Some(("sector", "altered")) => &[Judge::Altered, Judge::Counted],
+            Some((_, "altered")) => &[Judge::Altered],
             Some((_, "table")) => &[Judge::Table],
             Some((_, "model")) => &[Judge::Model],
             Some((_, other)) => panic!("{}: there is no judge `{other}`", self.name),
-            None if ["build", "sector"].contains(&self.name) => &[Judge::Published, Judge::Counted],
+            None if self.name == "build" => &[Judge::Published, Judge::Counted],
             None => &[Judge::Published],
         }
     }
@@ -100,14 +104,14 @@ pub fn sections() -> Vec<Section> {
         Section { name: "line", length: 16, records: lines() },
         Section { name: "line_end", length: 8, records: line_ends() },
         Section { name: "readers", length: 8, records: readers() },
-        Section { name: "init", length: 610, records: inits(rng(), open_inputs) },
+        Section { name: "init.altered", length: 610, records: inits(rng(), all_open) },
         Section { name: "init.table", length: 610, records: inits(rng(), inputs_on_walls) },
         Section { name: "build", length: 1104, records: builds(rng()) },
         Section { name: "flow_new", length: 910, records: flows_new(rng()) },
-        Section { name: "flow_build", length: 601, records: flows_build(rng()) },
-        Section { name: "sector", length: 1112, records: sectors(rng(), some_open) },
+        Section { name: "flow_build.altered", length: 601, records: flows_build(rng()) },
+        Section { name: "sector.altered", length: 1112, records: sectors(rng(), some_open) },
         Section { name: "sector.table", length: 1112, records: sectors(rng(), some_on_walls) },
-        Section { name: "leg", length: 3330, records: legs(rng(), Judge::Published) },
+        Section { name: "leg.altered", length: 3330, records: legs(rng(), Judge::Altered) },
         Section { name: "leg.model", length: 3330, records: legs(rng(), Judge::Model) },
         Section { name: "leg.table", length: 3330, records: legs(rng(), Judge::Table) },
         Section { name: "refusals.table", length: 160, records: refusals() },
@@ -219,6 +223,19 @@ fn open_inputs(rng: &mut Rng) -> Vec<(Costs, Step)> {
     let mut list = inputs(rng);
     list.iter_mut().for_each(|(costs, step)| floors::open(rng, costs, step));
     list
+}
+
+/// One wall beside diagonals: of a corner's line in each of its four directions, with the goal in a corner of the sector,
+/// and of looks, toward a window on each side.
+fn past_one_wall() -> impl Iterator<Item = (Costs, Step)> {
+    let goals = [(0, 22), (9, 27), (90, 72), (99, 77)].map(|(goal, wall)| (wall, floors::goal_step(0, goal)));
+    let windows = [0, 1, 2, 3].map(|boundary| (55, floors::window_step(0, boundary, 0, 9)));
+    goals.into_iter().chain(windows).map(|(wall, step)| (floors::one_wall(wall), step))
+}
+
+/// Both.
+fn all_open(rng: &mut Rng) -> Vec<(Costs, Step)> {
+    open_inputs(rng).into_iter().chain(past_one_wall()).collect()
 }
 
 /// Those that have such a wall.
@@ -349,10 +366,10 @@ fn sector(costs: Costs, step: Step, (lent, numbers): (bool, Vec<u32>)) -> Vec<u8
     record
 }
 
-/// Goal 99 and sector 63, then a part of the floors.
+/// Goal 99 and sector 63, then a part of the floors, and those with one wall.
 fn some_open(rng: &mut Rng) -> Vec<(Costs, Step)> {
     let edges = [(floors::one_wall(44), floors::goal_step(0, 99)), (floors::uniform(1), floors::goal_step(63, 44))];
-    edges.into_iter().chain(open_inputs(rng).into_iter().step_by(3)).collect()
+    edges.into_iter().chain(open_inputs(rng).into_iter().step_by(3)).chain(past_one_wall()).collect()
 }
 
 /// Goal 99 and sector 63 with a wall under the goal, then a part of the floors with walls there.

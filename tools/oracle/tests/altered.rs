@@ -1,44 +1,44 @@
-//! An altered copy of the Rust (`either_wall`) differs from the published one where its rule says so, and nowhere else.
-//! The model with the same rule planted is its judge.
+//! The altered copy of the Rust (`either_wall`: 02, Job 7) differs from the published one where its rule says so, and
+//! nowhere else: each is the model with its own rule, and what no diagonal decides is the same in both.
 
-use either_wall::flowfields as altered;
-use either_wall::flowfields::fields::Field;
-use oracle::floors::{Costs, Rng, Step, any, any_field, any_sheet, any_step, goal_step, one_wall, open, uniform};
+use oracle::copies::{altered, published};
+use oracle::floors::{Costs, Rng, Step, any, any_field, any_open, any_previous, any_sheet, any_step};
+use oracle::floors::{goal_step, one_wall, open, uniform, window_step};
 use oracle::model::{Model, Slip};
-use oracle::oracle::{Oracle, rust_built};
+use oracle::oracle::rust_built;
 use oracle::subject::*;
 
-type Altered = altered::fields::integration_field::IntegrationField;
+/// The model with the rule that the published Rust has, in lines and in looks.
+const TWO_WALLS_STOP_LINE: Model = Model { slip: Slip::TwoWallsStopLine };
+const TWO_WALLS_BAR: Model = Model { slip: Slip::TwoWallsBar };
 
-fn init(costs: &Costs, goal: usize) -> IntegrationField {
-    let step = altered::route::RouteStep::new(&altered::sectors::SectorID::new(0, 0), goal, None);
-    let field = Altered::init(&altered::fields::cost_field::CostField::oracle_from(*costs), &step);
-    IntegrationField::new(*field.get(), field.oracle_corners())
-}
-
-fn flow_build(field: &IntegrationField, sheet: &[u8]) -> Vec<u8> {
-    let mut flow = altered::fields::flow_field::FlowField::oracle_from(sheet.try_into().expect("a hundred bytes"));
-    flow.build(&Altered::oracle_from(field.field, Vec::new()));
-    flow.get().to_vec()
-}
-
-/// What another side makes of the same.
-fn flow_build_by(side: &dyn Subject, field: &IntegrationField, sheet: &[u8]) -> Vec<u8> {
+/// What a model makes of a sheet.
+fn flow_build_by(model: &Model, field: &IntegrationField, sheet: &[u8]) -> Vec<u8> {
     let mut sheet = sheet.to_vec();
-    side.flow_build(*field, &mut sheet);
+    assert_eq!(model.flow_build(*field, &mut sheet), 0);
     sheet
+}
+
+/// Whether a diagonal leads from a cell to one that is no wall, with one wall beside it.
+fn past_one_wall(cell: usize, wall: impl Fn(usize) -> bool) -> bool {
+    let (column, row) = (cell % 10, cell / 10);
+    let near = |x: usize| x.saturating_sub(1)..=(x + 1).min(9);
+    let ends = near(column).flat_map(|c| near(row).map(move |r| (c, r))).filter(|(c, r)| *c != column && *r != row);
+    ends.into_iter().any(|(c, r)| !wall(10 * r + c) && wall(10 * row + c) != wall(10 * r + column))
 }
 
 #[test]
 fn lines_stop_at_one_wall() {
-    let ruled = Model { slip: Slip::OneWallStopsLine };
     let (mut rng, mut differing) = (Rng::new(1), 0);
     for _ in 0..5_000 {
         let (mut costs, step): (Costs, Step) = (any(&mut rng), goal_step(0, rng.below(CELLS)));
         open(&mut rng, &mut costs, &step);
-        let field = init(&costs, usize::from(step[1]));
-        assert_eq!(field, ruled.init(&costs, &step).field);
-        differing += usize::from(field != Oracle.init(&costs, &step).field);
+        let (one, two) = (altered::started(&costs, &step), published::started(&costs, &step));
+        assert_eq!(one, Model::PLAIN.init(&costs, &step).field);
+        assert_eq!(two, TWO_WALLS_STOP_LINE.init(&costs, &step).field);
+        differing += usize::from(one != two);
+        let floor = |cell: &usize| costs[*cell] != 255;
+        assert!(one == two || (0..CELLS).filter(floor).any(|cell| past_one_wall(cell, |x| costs[x] == 255)));
     }
     println!("started fields: {differing} of 5000 differ from the published Rust's");
     assert!(differing > 100);
@@ -46,18 +46,86 @@ fn lines_stop_at_one_wall() {
 
 #[test]
 fn looks_pass_over_one_wall() {
-    let ruled = Model { slip: Slip::OneWallCuts };
     let (mut rng, mut differing) = (Rng::new(2), 0);
     for k in 0..5_000 {
         let (costs, step) = (any(&mut rng), any_step(&mut rng));
         let built = || rust_built(&costs, &step);
         let (field, sheet) = (if k % 2 == 0 { built() } else { any_field(&mut rng) }, any_sheet(&mut rng));
-        let bytes = flow_build(&field, &sheet);
-        assert_eq!(bytes, flow_build_by(&ruled, &field, &sheet));
-        differing += usize::from(bytes != flow_build_by(&Oracle, &field, &sheet));
+        let (one, two) = (altered::flow_build(&field.field, &sheet), published::flow_build(&field.field, &sheet));
+        assert_eq!(one[..], flow_build_by(&Model::PLAIN, &field, &sheet));
+        assert_eq!(two[..], flow_build_by(&TWO_WALLS_BAR, &field, &sheet));
+        let wall = |cell: usize| field.field[cell] & IMPASSABLE != 0;
+        for cell in (0..CELLS).filter(|cell| one[*cell] != two[*cell]) {
+            assert!(past_one_wall(cell, wall), "cell {cell} differs, and no diagonal from it passes one wall");
+        }
+        differing += usize::from(one != two);
     }
     println!("flow bytes: {differing} of 5000 sheets differ from the published Rust's");
     assert!(differing > 100);
+}
+
+/// Windows have no lines: a started field is the same, and so is the facing choice across the window.
+#[test]
+fn what_no_diagonal_decides_is_the_same() {
+    let mut rng = Rng::new(3);
+    for _ in 0..5_000 {
+        let (costs, step, field) = (any(&mut rng), any_step(&mut rng), any_field(&mut rng));
+        assert_eq!(altered::built(&costs, &field), published::built(&costs, &field));
+        let (lent, numbers) = any_previous(&mut rng);
+        let previous = lent.then_some(&numbers[..]);
+        let new = altered::flow_new(&step, &field.field, previous);
+        assert_eq!(new, published::flow_new(&step, &field.field, previous));
+        if step[2] == 1 {
+            assert_eq!(altered::started(&costs, &step), published::started(&costs, &step));
+        }
+    }
+    for (a, b) in (0..CELLS * CELLS).map(|k| (FieldCell::from_index(k / CELLS), FieldCell::from_index(k % CELLS))) {
+        assert_eq!(altered::line(a, b), published::line(a, b));
+        assert_eq!(altered::line_end(a, b), published::line_end(a, b));
+        assert_eq!([false, true].map(|x| altered::walk(x, a, b)), [false, true].map(|x| published::walk(x, a, b)));
+    }
+    (0..=255).for_each(|byte| assert_eq!(altered::readings(byte), published::readings(byte)));
+}
+
+/// Whole rows and columns of walls: beside a diagonal between two floor cells stands no wall.
+fn whole_rows_and_columns(rng: &mut Rng) -> Costs {
+    let drawn = |rng: &mut Rng| std::array::from_fn::<bool, 10, _>(|_| rng.one_in(4));
+    let (columns, rows) = (drawn(rng), drawn(rng));
+    std::array::from_fn(|cell| if columns[cell % 10] || rows[cell / 10] { 255 } else { rng.pick(&[0, 1, 2, 254]) })
+}
+
+#[test]
+fn floors_without_a_diagonal_past_one_wall_are_the_same() {
+    let (mut rng, mut walls) = (Rng::new(4), 0);
+    for _ in 0..3_000 {
+        let (costs, step) = (whole_rows_and_columns(&mut rng), any_step(&mut rng));
+        let floor = |cell: &usize| costs[*cell] != 255;
+        assert!(!(0..CELLS).filter(floor).any(|cell| past_one_wall(cell, |x| costs[x] == 255)));
+        if step[2] == 0 && costs[usize::from(step[1])] == 255 {
+            continue;
+        }
+        let (lent, numbers) = any_previous(&mut rng);
+        let previous = lent.then_some(&numbers[..]);
+        // A window cell of cost 255 would be opened, and be a gap in its row or column.
+        if step[2] == 0 || published::window_cells(&step).iter().all(|cell| costs[*cell] != 255) {
+            assert_eq!(altered::planned(&costs, &step, previous), published::planned(&costs, &step, previous));
+            walls += costs.iter().filter(|cost| **cost == 255).count();
+        }
+    }
+    assert!(walls > 1_000);
+}
+
+/// How many sectors of any floor and step the rule changes.
+#[test]
+fn sectors_that_differ() {
+    let (mut rng, mut differing) = (Rng::new(5), [0; 2]);
+    for _ in 0..5_000 {
+        let (costs, step) = any_open(&mut rng);
+        let other = altered::planned(&costs, &step, None) != published::planned(&costs, &step, None);
+        differing[usize::from(step[2])] += usize::from(other);
+    }
+    println!("of 5000 sectors differ from the published Rust's: goals {}, windows {}", differing[0], differing[1]);
+    assert!(differing.into_iter().all(|count| count > 500));
 }
 
 #[test]
@@ -69,11 +137,24 @@ fn the_copies_are_of_the_same_files() {
 #[test]
 fn smallest() {
     for goal in 0..CELLS {
-        assert_eq!(init(&uniform(1), goal), Oracle.init(&uniform(1), &goal_step(0, goal)).field);
+        let step = goal_step(0, goal);
+        assert_eq!(altered::planned(&uniform(1), &step, None), published::planned(&uniform(1), &step, None));
     }
-    let (costs, step) = (one_wall(55), goal_step(0, 44));
-    let field = Oracle.build(&costs, Oracle.init(&costs, &step).field).field;
-    let (ours, published) = (flow_build(&field, &[0; CELLS]), flow_build_by(&Oracle, &field, &[0; CELLS]));
-    let differing: Vec<usize> = (0..CELLS).filter(|cell| ours[*cell] != published[*cell]).collect();
-    assert_eq!(differing, [56, 65]);
+    let pairs =
+        (0..CELLS).flat_map(|wall| (0..CELLS).map(move |goal| (wall, goal))).filter(|(wall, goal)| wall != goal);
+    let differs = |(wall, goal): &(usize, usize)| {
+        let (costs, step) = (one_wall(*wall), goal_step(0, *goal));
+        altered::started(&costs, &step) != published::started(&costs, &step)
+    };
+    let started: Vec<(usize, usize)> = pairs.filter(differs).collect();
+    println!("{} started fields of one wall and a goal differ, the first {:?}", started.len(), started.first());
+    let sheets = |costs: Costs, step: Step| {
+        let field = rust_built(&costs, &step).field;
+        let new = altered::flow_new(&step, &field, None);
+        let [one, two] = [altered::flow_build(&field, &new), published::flow_build(&field, &new)];
+        (0..CELLS).filter(|cell| one[*cell] != two[*cell]).map(|cell| (cell, one[cell], two[cell])).collect::<Vec<_>>()
+    };
+    let goal = sheets(one_wall(55), goal_step(0, 44));
+    println!("wall 55, goal 44: {goal:x?}; wall 55, East window: {:x?}", sheets(one_wall(55), window_step(0, 1, 0, 9)));
+    assert_eq!(goal.iter().map(|(cell, ..)| *cell).collect::<Vec<_>>(), [56, 65]);
 }

@@ -4,9 +4,10 @@ use std::collections::BTreeMap;
 use std::panic::{AssertUnwindSafe, catch_unwind};
 
 use oracle::cases::Case;
-use oracle::floors::{Rng, Step, any, any_step, goal_step, one_wall, uniform, window_step};
+use oracle::copies::{altered, counted_build, published};
+use oracle::floors::{Rng, Step, any, any_step, goal_step, one_wall, open, uniform, walls, window_step};
 use oracle::model::{CLOSED, Model, Slip};
-use oracle::oracle::{Oracle, counted_build, route_step, rust_started};
+use oracle::oracle::Oracle;
 use oracle::refusals::ON_WALL;
 use oracle::shrink::smallest;
 use oracle::subject::*;
@@ -170,7 +171,7 @@ fn windows_that_the_rust_finds() {
 #[test]
 fn walls_that_the_rust_opens() {
     for (step, cell, opened) in [(goal_step(0, 44), 44, GOAL), (window_step(0, 1, 0, 9), 29, PORTAL)] {
-        assert_eq!(rust_started(&one_wall(cell), &step).field[cell], opened);
+        assert_eq!(published::started(&one_wall(cell), &step).field[cell], opened);
         assert_eq!(Oracle.init(&one_wall(cell), &step), refused::init(ON_WALL));
     }
 }
@@ -221,14 +222,51 @@ fn equal_spans_have_one_line() {
     }
 }
 
-/// Arrows of a goal sector need not lead to the goal.
+/// The cell of the sector that the arrow of a cell leads to, none where it has none or leaves the sector.
+fn led_to(sheet: &[u8; CELLS], cell: usize) -> Option<usize> {
+    let bit = |mask: u8| usize::from(sheet[cell] & mask != 0);
+    let (column, row) = (cell % 10 + bit(2), cell / 10 + bit(4));
+    let (column, row) = (column.checked_sub(bit(8))?, row.checked_sub(bit(1))?);
+    Some(10 * row + column).filter(|to| column < 10 && row < 10 && *to != cell)
+}
+
+/// The cells of a goal sector from which arrows, followed, lead neither to the goal nor to a cell in sight.
+fn lost(sheet: &[u8; CELLS]) -> Vec<usize> {
+    let arrives = |start: usize| {
+        let mut at = start;
+        (0..CELLS).any(|_| {
+            let there = sheet[at] & 0x60 != 0 && sheet[at] & 0x10 != 0 && sheet[at] & 0x80 == 0;
+            at = led_to(sheet, at).unwrap_or(at);
+            there
+        })
+    };
+    (0..CELLS).filter(|cell| sheet[*cell] % 16 != 0 && !arrives(*cell)).collect()
+}
+
+/// Arrows of a goal sector need not lead to the goal: in the published Rust two cells at wall 55 point at each other. By the
+/// rule of document 02, Job 7 those two do not, and more floors have such cells.
 #[test]
 fn arrows_that_turn_about() {
-    let mut sheet = [0; CELLS];
-    let none = Previous { lent: false, numbers: &[] };
-    Oracle.sector(&one_wall(55), &goal_step(0, 44), none, &mut sheet);
-    println!("56: {:#x}, 65: {:#x}", sheet[56], sheet[65]);
-    assert_eq!((sheet[56] % 16, sheet[65] % 16), (4 + 8, 1 + 2));
+    let (costs, step) = (one_wall(55), goal_step(0, 44));
+    let [before, after] = [published::planned(&costs, &step, None), altered::planned(&costs, &step, None)];
+    println!("56: {:#x} and {:#x}, 65: {:#x} and {:#x}", before.1[56], after.1[56], before.1[65], after.1[65]);
+    assert_eq!((before.1[56] % 16, before.1[65] % 16), (4 + 8, 1 + 2));
+    assert!(lost(&before.1).contains(&56) && lost(&after.1).is_empty());
+    let after = altered::planned(&one_wall(89), &goal_step(0, 98), None).1;
+    assert_eq!((after[69] % 16, after[79] % 16), (4, 1));
+    assert!(lost(&after).contains(&69));
+    let (mut rng, mut floors, mut cells) = (Rng::new(77), [0; 2], [0; 2]);
+    for _ in 0..20_000 {
+        let percent = 5 + rng.below(26);
+        let (mut costs, step) = (walls(&mut rng, percent, &[1]), goal_step(0, rng.below(CELLS)));
+        open(&mut rng, &mut costs, &step);
+        let found = [published::planned(&costs, &step, None), altered::planned(&costs, &step, None)]
+            .map(|(_, sheet)| lost(&sheet));
+        (0..2).for_each(|k| floors[k] += usize::from(!found[k].is_empty()));
+        (0..2).for_each(|k| cells[k] += found[k].len());
+    }
+    println!("of 20000 goal sectors with such cells: {floors:?}, such cells {cells:?}");
+    assert!(floors[0] < floors[1]);
 }
 
 #[test]
@@ -238,9 +276,9 @@ fn traps() {
         side.sector(&one_wall(1), &goal_step(0, 10), Previous { lent: false, numbers: &[] }, &mut [0; CELLS]).waves
     };
     assert_eq!((waves(&Oracle), waves(&Model { slip: Slip::LiveField })), (6, 2));
-    // Build lowers a listed corner and drops its flags: goal 0, wall 22.
-    let started = Oracle.init(&one_wall(22), &goal_step(0, 0)).field;
-    let built = Oracle.build(&one_wall(22), started).field;
-    assert_eq!((started.field[53], built.field[53]), (0x4040008, 7));
-    assert_eq!(route_step(&goal_step(63, 0)).get_sector().get(), (7, 7));
+    // Build lowers a listed corner and drops its flags: goal 20, wall 1.
+    let started = Oracle.init(&one_wall(1), &goal_step(0, 20)).field;
+    let built = Oracle.build(&one_wall(1), started).field;
+    assert_eq!((started.field[3], built.field[3]), (0x4040006, 5));
+    assert_eq!(published::route_step(&goal_step(63, 0)).get_sector().get(), (7, 7));
 }

@@ -11,15 +11,18 @@ fn names(name: &str) -> Vec<&'static str> {
 #[test]
 fn groups_name_their_judges() {
     assert_eq!(names("line"), ["published Rust"]);
-    assert_eq!(names("init"), ["published Rust", "table of refusals"]);
+    assert_eq!(names("init"), ["altered Rust", "table of refusals"]);
     assert_eq!(names("build started"), ["published Rust", "counted copy"]);
-    assert_eq!(names("sector"), ["published Rust", "counted copy", "table of refusals"]);
-    assert_eq!(names("leg"), ["published Rust", "table of refusals", "model"]);
-    assert_eq!(names("leg, gaps"), ["published Rust", "model"]);
-    assert_eq!(names("leg, on walls"), ["published Rust", "table of refusals", "model"]);
-    assert_eq!(names("journey"), ["published Rust", "model"]);
+    assert_eq!(names("flow new"), ["published Rust"]);
+    assert_eq!(names("flow build"), ["altered Rust"]);
+    assert_eq!(names("flow new and build"), ["published Rust", "altered Rust"]);
+    assert_eq!(names("sector"), ["altered Rust", "counted copy", "table of refusals"]);
+    assert_eq!(names("leg"), ["altered Rust", "table of refusals", "model"]);
+    assert_eq!(names("leg, gaps"), ["altered Rust", "model"]);
+    assert_eq!(names("leg, on walls"), ["altered Rust", "table of refusals", "model"]);
+    assert_eq!(names("journey"), ["altered Rust", "model"]);
     assert_eq!(names("practice"), ["model"]);
-    assert_eq!(names("leg refusals"), ["published Rust", "table of refusals", "model"]);
+    assert_eq!(names("leg refusals"), ["altered Rust", "table of refusals", "model"]);
     assert_eq!(names("build refusals"), ["published Rust", "counted copy", "table of refusals"]);
 }
 
@@ -29,9 +32,10 @@ fn the_judges_that_decide_are_those_that_are_named() {
     for group in GROUPS.iter().filter(|group| group.name.ends_with("refusals") || others.contains(&group.name)) {
         let clean = group.run(&Model::PLAIN, 5, 20_000).unwrap_or_else(|_| panic!("{} differs", group.name));
         assert_eq!(group.unmet(&clean), None);
-        // The table, the Rust or the model decides each input, and never two of them. 15 is the model's.
+        // The table, one copy of the Rust or the model decides each input, and never two of them. 15 is the model's.
         let judged = |judge: Judge| clean.judged[judge as usize];
-        assert_eq!(judged(Judge::Published) + judged(Judge::Table) + judged(Judge::Model), clean.inputs);
+        let apart = [Judge::Published, Judge::Altered, Judge::Table, Judge::Model];
+        assert_eq!(apart.map(judged).iter().sum::<usize>(), clean.inputs);
         let closed = clean.numbers[usize::from(CLOSED)];
         assert_eq!(judged(Judge::Table), clean.inputs - clean.numbers[0] - closed);
         assert!(judged(Judge::Model) >= closed);
@@ -44,7 +48,7 @@ fn another_judge_or_none_is_seen() {
     clean.numbers[0] = 3;
     let fault = |clean: &Clean| Group::named("line").unmet(clean).expect("a fault");
     assert!(fault(&clean).contains("published Rust: the group names it, and it decided nothing"));
-    clean.judged = [3, 0, 0, 1];
+    clean.judged = [3, 0, 0, 0, 1];
     assert!(fault(&clean).contains("model: the group does not name it"));
     clean.numbers[0] = 0;
     assert!(fault(&clean).contains("did not reach number 0"));

@@ -144,7 +144,7 @@ fn the_rust_decides_where_every_cell_counts() {
         let (_, judges) = judges::during(|| Oracle.leg(&case.costs, &case.steps, &mut case.sheet.clone()));
         let plan = Model::PLAIN.plan(&case.costs, &case.steps);
         let whole = !plan.closed && plan.steps.iter().all(|step| step.counting == step.window);
-        let judge = if whole { Judge::Published } else { Judge::Model };
+        let judge = if whole { Judge::Altered } else { Judge::Model };
         assert_eq!(Judge::ALL.map(|other| other == judge), judges);
         decided[usize::from(whole)] += 1;
     }

@@ -59,19 +59,25 @@ fn each(name: &str, check: impl Fn(&mut Reader)) {
 
 const MODEL: Model = Model::PLAIN;
 
+/// A file that the published Rust does not decide says so in its name.
 #[test]
-fn a_file_without_a_rust_judge_says_so_in_its_name() {
+fn a_file_with_another_judge_says_so_in_its_name() {
     let sections = sections();
-    let without: Vec<&str> = sections
-        .iter()
-        .filter(|section| !section.judges().contains(&Judge::Published))
-        .map(|section| section.name)
-        .collect();
-    let legs = ["leg.model", "leg.table"];
-    let due = [&["init.table", "sector.table"][..], &legs, &["refusals.table"]].concat();
-    let files = ["leg_file_write.model", "leg_file_read.model"];
-    assert_eq!(without, [&due[..], &files, &["practice.model", "practice_text.model"]].concat());
-    assert!(sections.iter().all(|section| section.name.contains('.') == without.contains(&section.name)));
+    let by = |judge: Judge| {
+        let named = sections.iter().filter(|section| section.judges().contains(&judge));
+        named.map(|section| section.name).collect::<Vec<&str>>()
+    };
+    assert_eq!(by(Judge::Published), ["line", "line_end", "readers", "build", "flow_new"]);
+    assert_eq!(by(Judge::Altered), ["init.altered", "flow_build.altered", "sector.altered", "leg.altered"]);
+    assert_eq!(by(Judge::Counted), ["build", "sector.altered"]);
+    assert_eq!(by(Judge::Table), ["init.table", "sector.table", "leg.table", "refusals.table"]);
+    assert_eq!(
+        by(Judge::Model),
+        ["leg.model", "leg_file_write.model", "leg_file_read.model", "practice.model", "practice_text.model"]
+    );
+    let named = |judge: Judge, end: &str| by(judge).iter().all(|name| name.ends_with(end));
+    assert!(named(Judge::Altered, ".altered") && named(Judge::Table, ".table") && named(Judge::Model, ".model"));
+    assert!(!by(Judge::Published).iter().any(|name| name.contains('.')));
 }
 
 /// The sums are made from the records here, not by the program that replays them.
@@ -104,16 +110,17 @@ fn readers() {
     });
 }
 
+/// The number of a record of `init`, and whether a model answers what it says.
+fn starts_so(model: &Model, r: &mut Reader) -> (u8, bool) {
+    let answer = model.init(r.bytes(100), r.bytes(8));
+    let (number, list, cells) = (r.byte(), r.list(), r.cells());
+    (number, answer == InitAnswer { number, field: field(cells, list) })
+}
+
 #[test]
 fn fields() {
-    for (name, due) in [("init", 0), ("init.table", ON_WALL)] {
-        each(name, |r| {
-            let answer = MODEL.init(r.bytes(100), r.bytes(8));
-            let (number, list, cells) = (r.byte(), r.list(), r.cells());
-            assert_eq!(answer, InitAnswer { number, field: field(cells, list) });
-            assert_eq!(number, due);
-        });
-    }
+    each("init.altered", |r| assert_eq!(starts_so(&MODEL, r), (0, true)));
+    each("init.table", |r| assert_eq!(starts_so(&MODEL, r), (ON_WALL, true)));
     each("build", |r| {
         let (costs, cells, list) = (r.bytes(100), r.cells(), r.list());
         let answer = MODEL.build(costs, field(cells, list));
@@ -130,58 +137,100 @@ fn flows() {
         let number = MODEL.flow_new(step, alone(cells), Previous { lent, numbers: &numbers }, &mut sheet);
         assert_eq!((number, &sheet[..]), (r.byte(), r.bytes(100)));
     });
-    each("flow_build", |r| {
-        let (cells, mut sheet) = (r.cells(), r.bytes(100).to_vec());
-        let number = MODEL.flow_build(alone(cells), &mut sheet);
-        assert_eq!((number, &sheet[..]), (r.byte(), r.bytes(100)));
-    });
+    each("flow_build.altered", |r| assert_eq!(looks_so(&MODEL, r), (0, true)));
+}
+
+/// The same of one of `build` of a flow field.
+fn looks_so(model: &Model, r: &mut Reader) -> (u8, bool) {
+    let (cells, mut sheet) = (r.cells(), r.bytes(100).to_vec());
+    let answered = model.flow_build(alone(cells), &mut sheet);
+    let (number, due) = (r.byte(), r.bytes(100));
+    (number, (answered, &sheet[..]) == (number, due))
 }
 
 #[test]
 fn sectors() {
-    for (name, due) in [("sector", 0), ("sector.table", ON_WALL)] {
-        sectors_of(name, due);
-    }
+    each("sector.altered", |r| assert_eq!(plans_so(&MODEL, r), (0, true)));
+    each("sector.table", |r| assert_eq!(plans_so(&MODEL, r), (ON_WALL, true)));
 }
 
-fn sectors_of(name: &str, due: u8) {
-    each(name, |r| {
-        let (costs, step, lent, numbers) = (r.bytes(100), r.bytes(8), r.byte() == 1, r.cells());
-        let mut sheet = [0x55; CELLS];
-        let answer = MODEL.sector(costs, step, Previous { lent, numbers: &numbers }, &mut sheet);
-        let (number, waves, list, cells) = (r.byte(), usize::from(r.byte()), r.list(), r.cells());
-        assert_eq!(answer, BuildAnswer { number, field: field(cells, list), waves });
-        assert_eq!((&sheet[..], number), (r.bytes(100), due));
-    });
+/// The same of one of the sector call.
+fn plans_so(model: &Model, r: &mut Reader) -> (u8, bool) {
+    let (costs, step, lent, numbers) = (r.bytes(100), r.bytes(8), r.byte() == 1, r.cells());
+    let mut sheet = [0x55; CELLS];
+    let answer = model.sector(costs, step, Previous { lent, numbers: &numbers }, &mut sheet);
+    let (number, waves, list, cells) = (r.byte(), usize::from(r.byte()), r.list(), r.cells());
+    let due = BuildAnswer { number, field: field(cells, list), waves };
+    (number, (answer, &sheet[..]) == (due, r.bytes(100)))
 }
 
 #[test]
 fn legs() {
-    for name in ["leg", "leg.model", "leg.table"] {
+    for name in ["leg.altered", "leg.model", "leg.table"] {
         legs_of(name);
+    }
+}
+
+/// A record of a leg.
+struct Leg<'a> {
+    floor: Vec<u8>,
+    steps: &'a [u8],
+    number: u8,
+    /// The sheet after the call.
+    sheet: Vec<u8>,
+}
+
+fn leg_of<'a>(r: &mut Reader<'a>) -> Leg<'a> {
+    let (count, steps, costs) = (usize::from(r.byte()), r.bytes(128), r.bytes(1600));
+    let (number, due) = (r.byte(), r.bytes(1600));
+    let mut leg = Leg { floor: vec![1; 6400], steps: &steps[..8 * count], number, sheet: vec![0x55; 6400] };
+    for (k, step) in leg.steps.chunks(8).enumerate() {
+        let at = usize::from(step[0]) * 100;
+        leg.floor[at..at + 100].copy_from_slice(&costs[100 * k..100 * k + 100]);
+        leg.sheet[at..at + 100].copy_from_slice(&due[100 * k..100 * k + 100]);
+    }
+    leg
+}
+
+/// The same of one of a leg.
+fn goes_so(model: &Model, r: &mut Reader) -> (u8, bool) {
+    let (leg, mut sheet) = (leg_of(r), vec![0x55; 6400]);
+    (leg.number, model.leg(&leg.floor, leg.steps, &mut sheet) == leg.number && sheet == leg.sheet)
+}
+
+/// The rule of document 02, Job 7 decides some records of each file that it moves: a model that needs both walls beside a
+/// diagonal, in lines or in looks, answers them otherwise.
+#[test]
+fn one_wall_decides_records_of_each_file() {
+    type Answers = fn(&Model, &mut Reader) -> (u8, bool);
+    let told = |slip: Slip, name: &str, answers: Answers| {
+        let section = sections().into_iter().find(|section| section.name == name).expect("a section of that name");
+        let wrong = section.records.iter().filter(|record| !answers(&Model { slip }, &mut Reader(record)).1).count();
+        println!("{name}: {wrong} of {} records tell {slip:?}", section.records.len());
+        assert!(wrong > 0);
+    };
+    told(Slip::TwoWallsStopLine, "init.altered", starts_so);
+    told(Slip::TwoWallsBar, "flow_build.altered", looks_so);
+    let planned: [(&str, Answers); 3] =
+        [("sector.altered", plans_so), ("leg.altered", goes_so), ("leg.model", goes_so)];
+    for (name, answers) in planned {
+        told(Slip::TwoWallsStopLine, name, answers);
+        told(Slip::TwoWallsBar, name, answers);
     }
 }
 
 fn legs_of(name: &str) {
     each(name, |r| {
-        let (count, steps, costs) = (usize::from(r.byte()), r.bytes(128), r.bytes(1600));
-        let (number, due) = (r.byte(), r.bytes(1600));
-        let steps = &steps[..8 * count];
-        let (mut floor, mut sheet, mut expected) = (vec![1; 6400], vec![0x55; 6400], vec![0x55; 6400]);
-        for (k, step) in steps.chunks(8).enumerate() {
-            let at = usize::from(step[0]) * 100;
-            floor[at..at + 100].copy_from_slice(&costs[100 * k..100 * k + 100]);
-            expected[at..at + 100].copy_from_slice(&due[100 * k..100 * k + 100]);
-        }
-        assert_eq!(MODEL.leg(&floor, steps, &mut sheet), number);
-        assert_eq!(sheet, expected);
+        let start = r.0;
+        let Leg { floor, steps, number, .. } = leg_of(r);
+        assert_eq!(goes_so(&MODEL, &mut Reader(start)), (number, true));
         if name == "leg.table" {
             assert!([8, ON_WALL].contains(&number));
             return;
         }
         let plan = MODEL.plan(&floor, steps);
         let whole = !plan.closed && plan.steps.iter().all(|step| step.counting == step.window);
-        assert_eq!(whole, name == "leg");
+        assert_eq!(whole, name == "leg.altered");
     });
 }
 

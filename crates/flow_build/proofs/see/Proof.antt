@@ -8,15 +8,15 @@ use lib.ListN.{getD}
 use borrow.Author.Tests.{eq-eqb, ne-eqb, lt-ltb, le-ltb}
 use Rattle.fields.specs.Cell.{indexOf}
 use Rattle.integration_field.specs.Word.{isImpassable}
-use Rattle.integration_field.specs.Diagonal.{betweenWalls}
-use Rattle.integration_field.proofs.Diagonal.{cut-at}
+use Rattle.integration_field.specs.Diagonal.{passesWall}
+use Rattle.integration_field.proofs.Diagonal.{passes-at}
 use Rattle.flow_byte.specs.Look.{seen}
 use borrow.Author.Needs.{needs}
 use Rattle.flow_build.proofs.see.Statement.{statement}
 use Rattle.flow_build.proofs.see.Tie as tie
 
 -- where the diagonal rule was asked: the start, the cell seen is no wall, and the answer is the rule's
-module _ (m : tie.After-is-between-walls) where
+module _ (m : tie.After-passes-wall) where
   abbrev unwalled : tie.Else1
   unwalled = m .before .before .before .before .before .before .before
 
@@ -26,8 +26,8 @@ module _ (m : tie.After-is-between-walls) where
   free : isImpassable (getD (now (start .args .cells)) (start .args .to .row * 10 + start .args .to .column) 0) ≡ false
   free = sym (unwalled .before .is-impassable .ensures) ∙ unwalled .if1 .left
 
-  cut : betweenWalls (now (start .args .cells)) (indexOf (start .args .from)) (indexOf (start .args .to)) ≡ m .is-between-walls .result
-  cut = cut-at (now (start .args .cells)) (start .args .from) (start .args .to) (start .pre .0) (start .pre .1) ∙ sym (m .is-between-walls .ensures)
+  barred : passesWall (now (start .args .cells)) (indexOf (start .args .from)) (indexOf (start .args .to)) ≡ m .passes-wall .result
+  barred = passes-at (now (start .args .cells)) (start .args .from) (start .args .to) (start .pre .0) (start .pre .1) ∙ sym (m .passes-wall .ensures)
 
 mul-cost : tie.Need-mul-cost
 mul-cost c = search needs
@@ -72,12 +72,12 @@ mul-in-column-2 c = search needs
 element-copy-out-in-column : tie.Need-element-copy-out-in-column
 element-copy-out-in-column c = search needs
 
-is-between-walls-requires : tie.Need-is-between-walls-requires
-is-between-walls-requires c κs = search needs
+passes-wall-requires : tie.Need-passes-wall-requires
+passes-wall-requires c κs = search needs
 
 returns-2 : tie.Need-returns-2
 unfolding seen
-returns-2 c = rw (free (c .before), cut (c .before) ∙ c .if2 .taken)
+returns-2 c = rw (free (c .before), barred (c .before) ∙ c .if2 .taken)
 
 is-goal-requires : tie.Need-is-goal-requires
 is-goal-requires c κs = search needs
@@ -85,8 +85,8 @@ is-goal-requires c κs = search needs
 returns-3 : tie.Need-returns-3
 unfolding seen
 returns-3 c =
-    let uncut = c .before .before in
-    rw (free (uncut .before), cut (uncut .before) ∙ uncut .if2 .left, sym (c .before .is-goal .ensures) ∙ c .if3 .taken)
+    let unbarred = c .before .before in
+    rw (free (unbarred .before), barred (unbarred .before) ∙ unbarred .if2 .left, sym (c .before .is-goal .ensures) ∙ c .if3 .taken)
 
 is-portal-requires : tie.Need-is-portal-requires
 is-portal-requires c κs = search needs
@@ -95,10 +95,10 @@ returns-4 : tie.Need-returns-4
 unfolding seen
 returns-4 c =
     let no-goal = c .before .before in
-    let uncut = no-goal .before .before in
+    let unbarred = no-goal .before .before in
     rw (
-      free (uncut .before),
-      cut (uncut .before) ∙ uncut .if2 .left,
+      free (unbarred .before),
+      barred (unbarred .before) ∙ unbarred .if2 .left,
       sym (no-goal .before .is-goal .ensures) ∙ no-goal .if3 .left,
       sym (c .before .is-portal .ensures) ∙ c .if4 .taken,
     )
@@ -111,10 +111,10 @@ unfolding seen
 returns-5 c =
     let no-portal = c .before .before in
     let no-goal = no-portal .before .before in
-    let uncut = no-goal .before .before in
+    let unbarred = no-goal .before .before in
     rw (
-      free (uncut .before),
-      cut (uncut .before) ∙ uncut .if2 .left,
+      free (unbarred .before),
+      barred (unbarred .before) ∙ unbarred .if2 .left,
       sym (no-goal .before .is-goal .ensures) ∙ no-goal .if3 .left,
       sym (no-portal .before .is-portal .ensures) ∙ no-portal .if4 .left,
       eq-eqb _ 65535 (sym (c .before .low-bits .ensures) ∙ c .if5 .taken),
@@ -127,15 +127,15 @@ returns-6 c =
     let low = reached .before in
     let no-portal = low .before in
     let no-goal = no-portal .before .before in
-    let uncut = no-goal .before .before in
+    let unbarred = no-goal .before .before in
     rw (
-      free (uncut .before),
-      cut (uncut .before) ∙ uncut .if2 .left,
+      free (unbarred .before),
+      barred (unbarred .before) ∙ unbarred .if2 .left,
       sym (no-goal .before .is-goal .ensures) ∙ no-goal .if3 .left,
       sym (no-portal .before .is-portal .ensures) ∙ no-portal .if4 .left,
       ← (low .low-bits .ensures),
       ne-eqb (low .low-bits .result) 65535 (reached .if5 .left),
-      lt-ltb (low .low-bits .result) (start (uncut .before) .args .value) (c .if6 .taken),
+      lt-ltb (low .low-bits .result) (start (unbarred .before) .args .value) (c .if6 .taken),
     )
 
 returns-7 : tie.Need-returns-7
@@ -145,15 +145,15 @@ returns-7 c =
     let low = reached .before in
     let no-portal = low .before in
     let no-goal = no-portal .before .before in
-    let uncut = no-goal .before .before in
+    let unbarred = no-goal .before .before in
     rw (
-      free (uncut .before),
-      cut (uncut .before) ∙ uncut .if2 .left,
+      free (unbarred .before),
+      barred (unbarred .before) ∙ unbarred .if2 .left,
       sym (no-goal .before .is-goal .ensures) ∙ no-goal .if3 .left,
       sym (no-portal .before .is-portal .ensures) ∙ no-portal .if4 .left,
       ← (low .low-bits .ensures),
       ne-eqb (low .low-bits .result) 65535 (reached .if5 .left),
-      le-ltb (low .low-bits .result) (start (uncut .before) .args .value) (c .if6 .left),
+      le-ltb (low .low-bits .result) (start (unbarred .before) .args .value) (c .if6 .left),
     )
 
 pub see-spec : {M : Type 1} → statement M
@@ -174,7 +174,7 @@ see-spec =
     add-in-column
     mul-in-column-2
     element-copy-out-in-column
-    is-between-walls-requires
+    passes-wall-requires
     returns-2
     is-goal-requires
     returns-3

@@ -6,7 +6,7 @@ use denote.Ref.{now}
 use borrow.Author.Needs.{needs}
 use Rattle.fields.specs.Cell.{Inside, indexOf}
 use Rattle.fields.proofs.Steps.{cell-inside, index-of-cell}
-use Rattle.integration_field.proofs.Diagonal.{cut-at}
+use Rattle.integration_field.proofs.Diagonal.{passes-at}
 use Rattle.integration_init.proofs.is_stopped.Statement.{statement}
 use Rattle.integration_init.proofs.is_stopped.Tie as tie
 
@@ -57,8 +57,8 @@ mul-in-column-2 c = let t = c .before .before .before .before .before in omega (
 element-copy-out-in-column : tie.Need-element-copy-out-in-column
 element-copy-out-in-column c = let t = c .before .before .before .before .before in omega (arith, to-inside t .row-in, from-inside t .column-in)
 
-is-between-walls-requires : tie.Need-is-between-walls-requires
-is-between-walls-requires c κs = search needs
+passes-wall-requires : tie.Need-passes-wall-requires
+passes-wall-requires c κs = search needs
 
 returns-2 : tie.Need-returns-2
 returns-2 c =
@@ -67,7 +67,7 @@ returns-2 c =
     let from : indexOf (t .before .from-index .result) ≡ start t .args .previous = ap indexOf (t .before .from-index .ensures) ∙ index-of-cell _ in
     let to : indexOf (t .from-index2 .result) ≡ start t .args .n = ap indexOf (t .from-index2 .ensures) ∙ index-of-cell _ in
     rw (sym (unwalled .before .is-wall-at .ensures) ∙ unwalled .if1 .left, ← from, ← to)
-    (c .is-between-walls .ensures ∙ sym (cut-at (now (start t .args .cells)) _ _ (from-inside t) (to-inside t)))
+    (c .passes-wall .ensures ∙ sym (passes-at (now (start t .args .cells)) _ _ (from-inside t) (to-inside t)))
 
 pub is-stopped-spec : {M : Type 1} → statement M
 is-stopped-spec =
@@ -85,5 +85,5 @@ is-stopped-spec =
     add-in-column
     mul-in-column-2
     element-copy-out-in-column
-    is-between-walls-requires
+    passes-wall-requires
     returns-2)

@@ -1,23 +1,24 @@
-//! Speed: our sector call against the Rust's `init`, `build`, `new`, `build` on the same inputs, from
-//! the same driver, in one run; and our leg against its sector calls, where every window cell counts, and by itself, where
-//! some do not. A few inputs are timed at once, and of many rounds the least time counts: another program that runs adds to
-//! a time and never takes from it.
+//! Speed: our sector call against the Rust's `init`, `build`, `new`, `build` on the same inputs, from the same driver, in
+//! one run; and our leg against its sector calls, where every window cell counts, and by itself, where some do not. The Rust
+//! is the copy altered as document 02, Job 7 asks, which writes the same bytes. A few inputs are timed at once, and of many
+//! rounds the least time counts: another program that runs adds to a time and never takes from it.
 
 use std::hint::black_box;
 use std::process::ExitCode;
 use std::time::Instant;
 
+use either_wall::flowfields::fields::Field;
+use either_wall::flowfields::fields::cost_field::CostField;
+use either_wall::flowfields::fields::flow_field::FlowField;
+use either_wall::flowfields::fields::integration_field::IntegrationField as RustField;
+use either_wall::flowfields::route::RouteStep;
 use oracle::command;
+use oracle::copies::altered::{cost_field, route_step};
 use oracle::floors::{self, Rng, Step};
 use oracle::library::Library;
 use oracle::model::Model;
-use oracle::oracle::{cost_field, route_step, rust_built};
+use oracle::oracle::rust_built;
 use oracle::subject::*;
-use reference::flowfields::fields::Field;
-use reference::flowfields::fields::cost_field::CostField;
-use reference::flowfields::fields::flow_field::FlowField;
-use reference::flowfields::fields::integration_field::IntegrationField as RustField;
-use reference::flowfields::route::RouteStep;
 
 /// Inputs of a group.
 const INPUTS: usize = 256;
@@ -199,7 +200,10 @@ fn measure_alone(legs: &[Leg]) -> f64 {
 
 fn sectors() {
     println!("nanoseconds a sector: {INPUTS} inputs, {AT_ONCE} timed at once, the least of {ROUNDS} rounds");
-    println!("Rust: init, build, new, build, from its own types made before; its flow field is new each time");
+    println!(
+        "Rust: init, build, new, build of the copy that decides, altered as 02's Job 7 asks, from its own types made"
+    );
+    println!("before; its flow field is new each time");
     println!("ours: the sector call, from bytes, refusals and answer by value included; `left` the sheet as the");
     println!("call before left it, `cleared` the sheet filled with 0 before each call, within the time");
     println!("{:<14} {:>9} {:>9} {:>9}  {:>9} {:>12}", "", "Rust", "left", "cleared", "left/Rust", "cleared/Rust");

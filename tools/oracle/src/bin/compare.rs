@@ -78,7 +78,7 @@ fn arguments(words: &[String]) -> Result<Arguments, String> {
 }
 
 /// How many inputs each judge decided, those left out that decided none.
-fn judged(counts: &[usize; 4]) -> String {
+fn judged(counts: &[usize]) -> String {
     let decided = Judge::ALL.into_iter().zip(counts).filter(|(_, count)| **count > 0);
     let words: Vec<String> = decided.map(|(judge, count)| format!("{} {count}", judge.name())).collect();
     words.join(", ")

@@ -118,7 +118,7 @@ pub struct Clean {
     /// comparison with it.
     pub numbers: [usize; 21],
     /// How many inputs each judge decided, by its place in `Judge::ALL`. A build has two: fields and waves.
-    pub judged: [usize; 4],
+    pub judged: [usize; Judge::ALL.len()],
     /// How many inputs met what the group has to meet besides numbers.
     pub met: BTreeMap<Met, usize>,
     /// What was followed, in the group that follows.
@@ -193,7 +193,7 @@ impl Group {
         let accepted = self.needs.iter().filter(|_| self.reaches.contains(&0)).flat_map(|call| oracle::judges(*call));
         let named: Vec<Judge> = accepted.copied().collect();
         let refused = self.reaches.iter().any(|number| ![0, CLOSED].contains(number));
-        let table = refused && named.contains(&Judge::Published);
+        let table = refused && named.iter().any(|judge| [Judge::Published, Judge::Altered].contains(judge));
         let named = |judge: &Judge| named.contains(judge) || (*judge == Judge::Table && table);
         Judge::ALL.into_iter().filter(named).collect()
     }

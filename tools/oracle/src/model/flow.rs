@@ -68,10 +68,11 @@ impl Model {
         };
         let straight = seen(Some(cell));
         let sides = [seen(beside(cell, lower)), seen(beside(cell, higher))];
-        let not_above = if self.slips(Slip::StraightOnlyBelow) {
-            straight < sides[0] && straight < sides[1]
-        } else {
-            straight <= sides[0] && straight <= sides[1]
+        let wall_across = has(self.facing_value(cell, boundary, previous, true), IMPASSABLE);
+        let not_above = match self.slip {
+            Slip::StraightOnlyBelow => straight < sides[0] && straight < sides[1],
+            Slip::FacingBarred if wall_across => true,
+            _ => straight <= sides[0] && straight <= sides[1],
         };
         let take_lower = if self.slips(Slip::HigherSideFirst) {
             !(sides[1] <= straight && sides[1] <= sides[0])
@@ -140,16 +141,17 @@ impl Model {
         has(value, GOAL) || (has(value, PORTAL) && !self.slips(Slip::PortalNotTaken))
     }
 
-    /// Walls and diagonals between two walls.
+    /// Walls, and diagonals with a wall beside them.
     fn passed_over(&self, cells: &[u32; CELLS], from: usize, to: usize) -> bool {
         let wall = |cell: usize| has(cells[cell], IMPASSABLE);
-        let beside = walls_beside_move(from, to, wall);
-        let cut = match self.slip {
-            Slip::OneWallCuts => beside > 0,
-            Slip::CutNotSeen => false,
-            _ => beside == 2,
+        let [in_row, in_column] = walls_beside_move(from, to, wall);
+        let barred = match self.slip {
+            Slip::TwoWallsBar => in_row && in_column,
+            Slip::LookSeesRow => in_row,
+            Slip::WallsNotSeen => false,
+            _ => in_row || in_column,
         };
-        wall(to) || cut
+        wall(to) || barred
     }
 
     /// Strictly least, earliest.

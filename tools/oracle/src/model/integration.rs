@@ -114,7 +114,7 @@ impl Model {
         for side in sides {
             let (Some(by_wave), Some(by_wall)) = (beside(from, side), beside(wall, side)) else { continue };
             let open = !sight.wall(by_wave) || self.slips(Slip::SideTestDropped);
-            if open && !sight.wall(by_wall) {
+            if open && !sight.wall(by_wall) && !self.slips(Slip::WallBarsCorner) {
                 self.draw(sight, by_wall, goal, cost);
             }
         }
@@ -153,11 +153,12 @@ impl Model {
     }
 
     fn line_cut(&self, sight: &Sight, from: usize, to: usize) -> bool {
-        let walls = walls_beside_move(from, to, |cell| sight.wall(cell));
+        let [in_row, in_column] = walls_beside_move(from, to, |cell| sight.wall(cell));
         match self.slip {
             Slip::DiagonalStopDropped => false,
-            Slip::OneWallStopsLine => walls > 0,
-            _ => walls == 2,
+            Slip::TwoWallsStopLine => in_row && in_column,
+            Slip::LineSeesColumn => in_column,
+            _ => in_row || in_column,
         }
     }
 

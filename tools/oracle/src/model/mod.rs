@@ -47,13 +47,13 @@ fn shifted(cell: usize, columns: i32, rows: i32) -> Option<usize> {
     inside.then_some((row * 10 + column) as usize)
 }
 
-/// A move cuts between two walls when it is diagonal and both cells beside it, one in the row of the
-/// cell it leaves and one in its column, are walls.
-fn walls_beside_move(from: usize, to: usize, wall: impl Fn(usize) -> bool) -> usize {
+/// Whether the two cells beside a diagonal move, one in the row of the cell it leaves and one in its column, are walls. The
+/// move is barred if either is (02, Job 7). A move that is not diagonal has none beside it.
+fn walls_beside_move(from: usize, to: usize, wall: impl Fn(usize) -> bool) -> [bool; 2] {
     let columns = to as i32 % 10 - from as i32 % 10;
     let rows = to as i32 / 10 - from as i32 / 10;
     if columns == 0 || rows == 0 {
-        return 0;
+        return [false; 2];
     }
-    [shifted(from, columns, 0), shifted(from, 0, rows)].into_iter().flatten().filter(|cell| wall(*cell)).count()
+    [shifted(from, columns, 0), shifted(from, 0, rows)].map(|cell| cell.is_some_and(&wall))
 }
