@@ -179,7 +179,9 @@ typedef struct {
  * faces, straight across where that is no dearer. Without, previous is not read, and each window cell points straight across the boundary, as a window of one
  * cell always does.
  * With a window, and no cost of 0, the arrows lead from every reached cell into the window in at most 99 moves, over no
- * wall and between no two walls. With a goal that is not promised: behind a wall two arrows may point at each other.
+ * wall and between no two walls. With a goal that is not promised: two arrows may point at each other, for ever, and on
+ * floors with walls often do. With a goal or a window, whatever the costs: no arrow that leads to a cell of the sector
+ * leads onto a wall, or diagonally past one (neither of the two cells beside a diagonal move is a wall).
  * Numbers 1, 2, 3, 4 to 8, 16, 12.
  */
 HanjolumBuildAnswer hanjolum_sector(
@@ -200,7 +202,9 @@ HanjolumBuildAnswer hanjolum_sector(
  * The arrows of a planned leg lead all the way: from every reached cell of every named sector but the first step's, with no
  * cost of 0 in the sectors on the way, they cross each window into a reached cell of the sector listed before, until they
  * are in the goal's sector, in at most 1,500 moves, crossings counted. A move goes by the floor's columns and rows, also
- * from one sector into the next. Nothing is said of the arrows within the goal's sector.
+ * from one sector into the next. Nothing is said of where the arrows within the goal's sector lead. Within each sector,
+ * the goal's too, no arrow passes a wall diagonally, whatever the costs; one that crosses a window may pass one of the
+ * sector that it leads into.
  * All steps are planned before the sheet is written: a refusal, 15 too, leaves every byte of it. Writes the 100 bytes of
  * each named sector to the sheet, at sector * 100; all other bytes of the sheet stay as they were.
  * Answers its number: 0, 1 to 10, 15 or 16.
