@@ -17,10 +17,9 @@ use native.Mathlib.Omega.{arith}
 use lib.Dec.{leb, eqb}
 use lib.Bits.{bitOr}
 use lib.ListN.{length, getD}
-use borrow.Author.Tests.{eqb-true, eqb-false}
+use borrow.Author.Tests.{eqb-false}
 use Rattle.utilities.specs.declared.CompassDir.{CompassDir}
 use Rattle.utilities.specs.declared.CompassDir.the-variants.{North, East, South, West, NorthEast, SouthEast, SouthWest, NorthWest, Zero}
-use Rattle.utilities.specs.Compass.{all}
 use Rattle.fields.specs.Cell.{cellAt}
 use Rattle.fields.proofs.Steps.{stepped-cell}
 use Rattle.route.specs.declared.PortalWindow.{PortalWindow}
@@ -34,7 +33,6 @@ use Rattle.integration_field.specs.Diagonal.{wallAt, passesWall}
 use Rattle.integration_field.specs.Listed.{listOf}
 use Rattle.integration_field.specs.Promise.{Walked, LeastWalks}
 use Rattle.integration_field.proofs.Flags.{small-flag}
-use Rattle.started_field.specs.StartedCell.{WindowStarted}
 use Rattle.started_field.specs.Started.{started}
 use Rattle.started_field.proofs.Started.{started-field}
 use Rattle.least_walks.specs.Walks.{Wall}
@@ -91,7 +89,7 @@ module _ (costs : List ℕ) (target : Target) (built : List ℕ) (walls : (x : �
       either (inl w) = rw (walls in-row (omega arith) .1 w)
       either (inr w) = rw (walls in-column (omega arith) .1 w) (or-true (wallAt built in-row))
 
-      bars : PassesWall costs target a b → ((not (eqb (a / 10) (b / 10)) && not (eqb (a % 10) (b % 10))) && (wallAt built in-row || wallAt built in-column)) ≡ true
+      bars : PassesWall costs target a b → passesWall built a b ≡ true
       bars p = rw (differ (a / 10) (b / 10) (p .other-row), differ (a % 10) (b % 10) (p .other-column), either (p .wall-beside))
 
 -- ---- bytes that have no look
@@ -221,19 +219,22 @@ module _ (costs : List ℕ) (target : Target) (full : length costs ≡ 100) (ins
   abbrev cells : List ℕ
   cells = started costs target .field
 
+  abbrev corners : List ℕ
+  corners = listOf (started costs target)
+
   abbrev built : List ℕ
   built = builtCells costs target
 
-  least : LeastWalks costs cells (listOf (started costs target)) built
+  least : LeastWalks costs cells corners built
   least = started-walks costs target full inside
 
-  ground : Ground costs cells (listOf (started costs target)) (Wall costs target) (GoalCell target)
+  ground : Ground costs cells corners (Wall costs target) (GoalCell target)
   ground = started-ground costs target full inside
 
   pub walls-told : (x : ℕ) → x < 100 → (wallAt built x ≡ true) ↔ Wall costs target x
   walls-told x h = (λ t. go t (least .attained x), λ w. let f = ground .wall-flag x w in ap isImpassable (least .walls-stay x f) ∙ f)
     where
-      go : wallAt built x ≡ true → (getD built x 0 ≡ getD cells x 0) ⊎ Walked costs cells (listOf (started costs target)) x (getD built x 0) → Wall costs target x
+      go : wallAt built x ≡ true → (getD built x 0 ≡ getD cells x 0) ⊎ Walked costs cells corners x (getD built x 0) → Wall costs target x
       go t (inl e) = ground .flag-wall x h (sym (ap isImpassable e) ∙ t)
       go t (inr w) = absurd (true≢false (sym t ∙ small-flag (getD built x 0) 25 (omega (arith, w .lower))))
 

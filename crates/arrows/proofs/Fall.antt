@@ -43,7 +43,8 @@ in-among x (y ∷ l) e = go (eqb y x) refl e (λ t. in-among x l t)
 
 -- ---- what building leaves
 
-pub zero-stays : {costs cells corners built : List ℕ} → LeastWalks costs cells corners built → (x : ℕ) → low (getD cells x 0) ≡ 0 → getD built x 0 ≡ getD cells x 0
+pub zero-stays : {costs cells corners built : List ℕ} → LeastWalks costs cells corners built → (x : ℕ) → low (getD cells x 0) ≡ 0
+    → getD built x 0 ≡ getD cells x 0
 zero-stays {costs} {cells} {corners} {built} l x z = go (l .attained x)
   where
     go : (getD built x 0 ≡ getD cells x 0) ⊎ Walked costs cells corners x (getD built x 0) → getD built x 0 ≡ getD cells x 0

@@ -1,6 +1,5 @@
 -- `integration_bits::passes_wall` meets its contract: each test in the order of the rule.
 -- Assumes nothing.
-use mathlib.Core.Path.{sym, _∙_}
 use borrow.Author.Needs.{needs}
 use borrow.Author.Tests.{eq-eqb, ne-eqb}
 use Rattle.integration_bits.proofs.passes_wall.Statement.{statement}
