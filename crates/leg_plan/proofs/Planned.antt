@@ -1,6 +1,6 @@
 -- What is promised of a leg, of whatever equals the definitions.
 --     fits             its steps and its sheet fit each other
---     leg-planned      each part of the sheet, and demand 3 for every sector that is written
+--     leg-planned      each part of the sheet, and demand 3 and arrows clear of walls for every sector that is written
 --     refuses, plans   all that is promised of a number and a sheet
 -- Assumes nothing.
 use mathlib.Core.Path.{_≡_, sym, ap, subst, _∙_}

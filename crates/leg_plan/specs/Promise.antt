@@ -1,4 +1,4 @@
--- What is promised of a planned leg: of each sector's part of the sheet, and demand 3 for every sector that it writes.
+-- What is promised of a planned leg: of each sector's part of the sheet, and, for every sector that it writes, demand 3 and arrows clear of walls.
 -- Assumes nothing.
 use mathlib.Core.Path.{_≡_}
 use mathlib.Core.Bool.{Bool, true, false}
@@ -60,6 +60,6 @@ module _ (floor : List ℕ) (steps : List (List ℕ)) where
     -- every other byte is as it was
     pub kept : (sector : ℕ) → names sector steps ≡ false → part after sector ≡ part before sector
     pub same-length : length after ≡ length before
-    -- demand 3, for every sector that is written
+    -- demand 3, and arrows clear of walls (02, Job 7), for every sector that is written
     pub demand3 : (k : ℕ) → k < length steps
         → Planned (costsAt k) (targetAt k) (builtAt k) (waveCount (costsAt k) (started (costsAt k) (targetAt k))) (part after (sectorAt steps k))
