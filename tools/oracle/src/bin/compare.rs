@@ -6,7 +6,7 @@ use std::process::ExitCode;
 use std::time::Instant;
 
 use oracle::command;
-use oracle::groups::{Clean, Difference, GROUPS, Group, JOURNEY, Met};
+use oracle::groups::{Clean, Difference, FOLLOWED, GROUPS, Group, JOURNEY, Met};
 use oracle::judges::Judge;
 use oracle::library::Library;
 use oracle::model::{CLOSED, Model, Slip};
@@ -99,6 +99,9 @@ fn report_clean(group: &Group, clean: &Clean, start: Instant) {
     if clean.followed.legs > 0 {
         println!("{:<20} followed: {}", "", clean.followed);
     }
+    if clean.cleared.sectors > 0 {
+        println!("{:<20} looked at: {}", "", clean.cleared);
+    }
 }
 
 /// How many inputs have a goal or a window cell of cost 255.
@@ -159,6 +162,9 @@ fn compare(side: &dyn Subject, chosen: &Arguments) -> Result<(), String> {
     }
     println!("{} inputs, no difference (seed {}); decided by: {}", all.inputs, chosen.seed, judged(&all.judged));
     left_out(&all).into_iter().for_each(|words| println!("{words}"));
+    if all.cleared.sectors > 0 {
+        println!("looked at: {}", all.cleared);
+    }
     Ok(())
 }
 
@@ -184,7 +190,7 @@ fn found(slip: Slip, groups: &[&Group], chosen: &Arguments) -> bool {
     true
 }
 
-/// Tries every slip, on likely groups first; those that lead a cart astray once more, on the group that follows it.
+/// Tries every slip, on likely groups first; those that lead a cart astray once more, by following it alone.
 fn try_slips(chosen: &Arguments) -> Result<(), String> {
     let mut missed = 0;
     for (slip, text) in Slip::ALL {
@@ -192,10 +198,13 @@ fn try_slips(chosen: &Arguments) -> Result<(), String> {
         let (first, then): (Vec<&Group>, Vec<&Group>) = GROUPS.iter().partition(|group| likely(group, text));
         let astray = Slip::ASTRAY.contains(slip);
         let missing = !found(*slip, &[first, then].concat(), chosen);
-        missed += usize::from(missing || (astray && !found(*slip, &[Group::named(JOURNEY)], chosen)));
+        missed += usize::from(missing || (astray && !found(*slip, &[&FOLLOWED], chosen)));
     }
     let (slips, astray) = (Slip::ALL.len(), Slip::ASTRAY.len());
-    println!("{slips} slips, {astray} of them tried on `{JOURNEY}` too, {missed} not found (seed {})", chosen.seed);
+    println!(
+        "{slips} slips, {astray} of them tried by `{JOURNEY}` alone too, {missed} not found (seed {})",
+        chosen.seed
+    );
     if missed == 0 { Ok(()) } else { Err(format!("{missed} slips were not found")) }
 }
 

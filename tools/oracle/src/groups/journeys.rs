@@ -3,6 +3,7 @@
 use super::good::{drawn, leg_sheet};
 use super::{Cases, Compared};
 use crate::cases::{Case, Outcome};
+use crate::clear::Cleared;
 use crate::floors::{self, Rng, drawn_window};
 use crate::journey::{Followed, PlannedLeg};
 use crate::judges;
@@ -89,5 +90,5 @@ pub(super) fn compared(case: &Case, side: &dyn Subject) -> Compared {
             Err(fault) => found.push(fault),
         }
     }
-    Compared { due, judges, found, followed }
+    Compared { due, outcome, judges, found, followed, cleared: Cleared::default() }
 }

@@ -16,7 +16,8 @@ pub use legs::{
 };
 pub use practice::NAMED;
 
-use crate::cases::{Case, Outcome};
+use crate::cases::{Ask, Case, Outcome};
+use crate::clear::{self, Cleared};
 use crate::floors::Rng;
 use crate::journey::Followed;
 use crate::judges::{self, Judge, Judges};
@@ -107,6 +108,12 @@ const ON_WALLS: &str = "leg, on walls";
 /// Legs whose arrows are followed to the goal's sector.
 pub const JOURNEY: &str = "journey";
 
+const FOLLOWED_ALONE: &str = "journey, followed alone";
+
+/// The same where nothing but following finds a fault.
+pub const FOLLOWED: Group =
+    Group { name: FOLLOWED_ALONE, needs: &[Call::Leg], cases: journeys::journeys, reaches: &[0] };
+
 /// Practice floors.
 const PRACTICE: &str = "practice";
 
@@ -123,6 +130,8 @@ pub struct Clean {
     pub met: BTreeMap<Met, usize>,
     /// What was followed, in the group that follows.
     pub followed: Followed,
+    /// The arrows that were looked at, of accepted sector calls and legs.
+    pub cleared: Cleared,
 }
 
 impl Clean {
@@ -133,6 +142,7 @@ impl Clean {
         sum(&mut self.judged, &other.judged);
         other.met.iter().for_each(|(met, count)| *self.met.entry(*met).or_default() += count);
         self.followed.add(&other.followed);
+        self.cleared.add(&other.cleared);
     }
 }
 
@@ -144,12 +154,33 @@ pub struct Difference {
     pub found: Vec<String>,
 }
 
-/// What the oracle says of one input, by which judges, and where a side differs from it; what was followed, if anything.
+/// What the oracle says of one input, by which judges, and where a side differs from it; what was followed, if anything, and
+/// which arrows were looked at.
 struct Compared {
     due: Outcome,
+    outcome: Outcome,
     judges: Judges,
     found: Vec<String>,
     followed: Followed,
+    cleared: Cleared,
+}
+
+impl Compared {
+    /// Looks at the arrows of a sector call or a leg that both take: none passes a wall diagonally (02, Job 7).
+    fn cleared(mut self, case: &Case) -> Self {
+        let sheet = &self.outcome.sheet;
+        let looked = match case.ask {
+            _ if self.due.number != 0 || self.outcome.number != 0 => Ok(Cleared::default()),
+            Ask::One(Call::Sector) => clear::of_sector(&case.costs, sheet),
+            Ask::One(Call::Leg) => clear::of_leg(&case.costs, &case.steps, sheet),
+            _ => Ok(Cleared::default()),
+        };
+        match looked {
+            Ok(cleared) => self.cleared = cleared,
+            Err(fault) => self.found.push(fault),
+        }
+        self
+    }
 }
 
 fn compared(case: &Case, side: &dyn Subject) -> Compared {
@@ -157,7 +188,7 @@ fn compared(case: &Case, side: &dyn Subject) -> Compared {
     assert!(judges.contains(&true), "no judge decided {:?}", case.ask);
     let outcome = case.run(side);
     let found = if due == outcome { Vec::new() } else { due.differences(&outcome) };
-    Compared { due, judges, found, followed: Followed::default() }
+    Compared { due, outcome, judges, found, followed: Followed::default(), cleared: Cleared::default() }
 }
 
 impl Group {
@@ -199,7 +230,11 @@ impl Group {
     }
 
     fn compared(&self, case: &Case, side: &dyn Subject) -> Compared {
-        if self.name == JOURNEY { journeys::compared(case, side) } else { compared(case, side) }
+        match self.name {
+            JOURNEY => journeys::compared(case, side).cleared(case),
+            FOLLOWED_ALONE => journeys::compared(case, side),
+            _ => compared(case, side).cleared(case),
+        }
     }
 
     pub fn run(&self, side: &dyn Subject, seed: u64, inputs: usize) -> Result<Clean, Box<Difference>> {
@@ -207,12 +242,13 @@ impl Group {
         for case in (self.cases)(Rng::new(seed), inputs) {
             clean.inputs += 1;
             self.met(&case).into_iter().for_each(|met| *clean.met.entry(met).or_default() += 1);
-            let Compared { due, judges, found, followed } = self.compared(&case, side);
+            let Compared { due, judges, found, followed, cleared, .. } = self.compared(&case, side);
             clean.numbers[usize::from(due.number)] += 1;
             for (count, decided) in clean.judged.iter_mut().zip(judges) {
                 *count += usize::from(decided);
             }
             clean.followed.add(&followed);
+            clean.cleared.add(&cleared);
             if !found.is_empty() {
                 let smallest = shrink::smallest(&case, &|simpler| !self.compared(simpler, side).found.is_empty());
                 let found = self.compared(&smallest, side).found;
@@ -236,6 +272,10 @@ impl Group {
         }
         if let Some(lacking) = clean.followed.lacks().filter(|_| self.name == JOURNEY) {
             return Some(format!("`{name}` did not meet {lacking} in {inputs} inputs: ask for more by --inputs"));
+        }
+        let has_arrows = self.needs.iter().any(|call| [Call::Sector, Call::Leg].contains(call));
+        if let Some(lacking) = clean.cleared.lacks().filter(|_| has_arrows) {
+            return Some(format!("`{name}` did not look at {lacking} in {inputs} inputs: ask for more by --inputs"));
         }
         let named = self.judges();
         let decided = |judge: Judge| clean.judged[judge as usize] > 0;
