@@ -2,12 +2,13 @@
  * Random calls through the C interface, with every lent buffer fenced by pages that no access is allowed to.
  * Lengths go from 0 past every limit, bytes are any or nearly good. A refused call must leave its sheet as it was and
  * answer zeros, and a leg must leave the sectors that it does not name. No step is accepted with a wall under its goal or a
- * window cell. The arrows of a planned leg, followed from every reached cell of a later sector, come into the goal's sector
- * in at most 1,500 moves, as far as there is no cost 0 on the way. A practice floor has costs of 1, 10 and 255, its goal
- * inside and on cost 1, is the same when it is made again, and is planned for its goal. A fault, and a run in which no call
- * was accepted or none refused, no leg of several steps planned, none refused with 15, no arrow followed, init, the sector
- * call or a leg never refused with 16, or no practice floor with all three costs, is one line on standard error and exit
- * status 1.
+ * window cell. No arrow of an accepted sector call or leg that leads to a cell of the sector passes a wall diagonally. The
+ * arrows of a planned leg, followed from every reached cell of a later sector, come into the goal's sector in at most 1,500
+ * moves, as far as there is no cost 0 on the way. A practice floor has costs of 1, 10 and 255, its goal inside and on cost
+ * 1, is the same when it is made again, and is planned for its goal. A fault, and a run in which no call was accepted or
+ * none refused, no leg of several steps planned, none refused with 15, no arrow followed, no diagonal one looked at, init,
+ * the sector call or a leg never refused with 16, or no practice floor with all three costs, is one line on standard error
+ * and exit status 1.
  */
 #define _DEFAULT_SOURCE
 #include <stdio.h>
@@ -151,9 +152,9 @@ static int zeros(const void *part, size_t length)
 }
 
 /* How many calls answered 0, and how many a number; how many legs of several steps were planned, and how many had a window
-   in which no cell counts; from how many cells arrows were followed; how many of init, sector calls and legs had a step on
-   a wall; how many practice floors had all three costs. */
-static unsigned long accepted, turned_away, planned, closed, followed, on_wall[3], practised;
+   in which no cell counts; from how many cells arrows were followed; how many diagonal arrows were looked at; how many of
+   init, sector calls and legs had a step on a wall; how many practice floors had all three costs. */
+static unsigned long accepted, turned_away, planned, closed, followed, diagonal, on_wall[3], practised;
 
 static void counted(uint8_t number)
 {
@@ -278,6 +279,20 @@ static void journeys(const Fenced *costs, const Fenced *route, const Fenced *she
     }
 }
 
+/* Looks at the arrows of a sector that lead diagonally to a cell of it: neither cell beside the move is a wall. */
+static void clear(const uint8_t *costs, const uint8_t *sheet)
+{
+    for (int cell = 0; cell < 100; cell++) {
+        int column = cell % 10 + (sheet[cell] >> 1 & 1) - (sheet[cell] >> 3 & 1);
+        int row = cell / 10 + (sheet[cell] >> 2 & 1) - (sheet[cell] & 1);
+        if (column == cell % 10 || row == cell / 10 || column < 0 || column > 9 || row < 0 || row > 9)
+            continue;
+        diagonal++;
+        if (costs[cell / 10 * 10 + column] == HANJOLUM_WALL || costs[10 * row + cell % 10] == HANJOLUM_WALL)
+            fail("an arrow passes a wall diagonally");
+    }
+}
+
 /* A leg, which leaves the sectors that it does not name. */
 static void a_leg(const Fenced *costs, const Fenced *route, Fenced *sheet)
 {
@@ -287,8 +302,10 @@ static void a_leg(const Fenced *costs, const Fenced *route, Fenced *sheet)
     walls(2, number, costs, route);
     closed += number == 15;
     planned += number == 0 && route->length > 8;
-    for (size_t i = 0; number == 0 && i < route->length; i += 8)
+    for (size_t i = 0; number == 0 && i < route->length; i += 8) {
         named |= (uint64_t)1 << route->at[i];
+        clear(costs->at + 100 * route->at[i], sheet->at + 100 * route->at[i]);
+    }
     for (size_t i = 0; number == 0 && i < sheet->length; i++)
         if ((named >> i / 100 & 1) == 0 && before[i] != sheet->at[i])
             fail("a leg wrote a sector that it does not name");
@@ -348,6 +365,8 @@ static void round_of_calls(Fenced *costs, Fenced *route, Fenced *previous, Fence
     kept(a.number, sheet);
     walls(1, a.number, costs, route);
     refused(a.number, a.field, a.waves);
+    if (a.number == 0)
+        clear(costs->at, sheet->at);
     HanjolumInitAnswer i = hanjolum_init(costs->at, costs->length, route->at, route->length);
     counted(i.number);
     walls(0, i.number, costs, route);
@@ -395,14 +414,17 @@ static void report(unsigned long rounds)
         fail("no leg of several steps was planned, or none was refused with 15");
     if (followed == 0)
         fail("no arrow of a leg was followed");
+    if (diagonal == 0)
+        fail("no diagonal arrow was looked at");
     if (on_wall[0] == 0 || on_wall[1] == 0 || on_wall[2] == 0)
         fail("init, the sector call or a leg was never refused with 16");
     if (practised == 0)
         fail("no practice floor had all three costs");
     printf("%lu rounds of calls, %lu accepted and %lu refused, %lu legs of several steps planned and %lu refused with 15, "
-           "arrows followed from %lu cells to the goal's sector, "
+           "arrows followed from %lu cells to the goal's sector, %lu diagonal arrows looked at, "
            "%lu init, %lu sector calls and %lu legs refused with 16, %lu practice floors, nothing found\n",
-           rounds, accepted, turned_away, planned, closed, followed, on_wall[0], on_wall[1], on_wall[2], practised);
+           rounds, accepted, turned_away, planned, closed, followed, diagonal, on_wall[0], on_wall[1], on_wall[2],
+           practised);
     written();
 }
 
