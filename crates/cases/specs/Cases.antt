@@ -12,7 +12,7 @@ use Rattle.nearest_line.specs.Table.{table}
 use Rattle.nearest_line.specs.Line.{toward, nearest, shallow, steep, line}
 use Rattle.line_end.specs.LineEnd.{gradient, intercept, floor, rowAt, firstEnding, slantedEnd, endBy, lineEnd}
 use Rattle.route.specs.Window.{onEdge, edge, cellsBetween}
-use Rattle.route.specs.Step.{portalOf, stepNumberOn}
+use Rattle.route.specs.Step.{stepNumberOn}
 use Rattle.route.specs.Target.{targetOf}
 use Rattle.integration_field.specs.Diagonal.{passesWall}
 use Rattle.integration_field.specs.Listed.{listOf}
@@ -26,7 +26,7 @@ use Rattle.flow_bits.specs.Byte.{isGoal, isPortalGoal, hasLineOfSight, isWall}
 use Rattle.flow_byte.specs.New.{startOf, facingBits, facingChoice, windowBits, newByte, newBytes}
 use Rattle.flow_byte.specs.Look as look
 use Rattle.flow_byte.specs.Look.{lookAround, pointed, builtByte, flowBuild}
-use Rattle.sector.specs.Sector.{sectorBytes}
+use Rattle.sector.specs.Sector.{sectorNumber, sectorBytes, sectorSheet}
 
 -- a case: what the definitions give, and what document 01 expects, both as numbers
 pub record Case : Type 0 where
@@ -54,7 +54,8 @@ goal g = 0 ∷ g ∷ 0 ∷ 0 ∷ 0 ∷ 0 ∷ 0 ∷ 0 ∷ []
 abbrev window : ℕ → ℕ → ℕ → List ℕ
 window first last boundary = 0 ∷ 0 ∷ 1 ∷ first ∷ last ∷ boundary ∷ 0 ∷ 0 ∷ []
 
--- cells' words in the started field; cells' words in the built one; the waves; cells' flow bytes, with no previous field
+-- cells' words in the started field; cells' words in the built one; the waves; and cells' flow bytes, as the sector call leaves them on a sheet
+-- of zeros, with a previous field or none
 abbrev words : List ℕ → List ℕ → List ℕ
 words cells is = map (λ (i : ℕ). getD cells i 0) is
 
@@ -70,15 +71,15 @@ built costs step is =
 abbrev waves : List ℕ → List ℕ → List ℕ
 waves costs step = let f = started costs (targetOf step) in build costs (f .field) (listOf f) .waves ∷ []
 
-abbrev flow : List ℕ → List ℕ → List ℕ → List ℕ
-flow costs step is = words (sectorBytes costs (targetOf step) (portalOf step) false []) is
+abbrev zeros : List ℕ
+zeros = replicate 100 0
+
+abbrev flow : List ℕ → List ℕ → Bool → List ℕ → List ℕ → List ℕ
+flow costs step has previous is = words (sectorSheet costs step has previous zeros) is
 
 -- the flow bytes of a North window 3 to 5, where the facing cells hold these
 abbrev facing : ℕ → ℕ → ℕ → List ℕ
-facing a b c =
-    let step = window 3 5 0 in
-    let bytes = sectorBytes ones (targetOf step) (portalOf step) true (set (set (set (replicate 100 0) 93 a) 94 b) 95 c) in
-    getD bytes 3 0 ∷ getD bytes 4 0 ∷ getD bytes 5 0 ∷ []
+facing a b c = flow ones (window 3 5 0) true (set (set (set zeros 93 a) 94 b) 95 c) (3 ∷ 4 ∷ 5 ∷ [])
 
 -- what a byte reads as: goal, portal goal, in sight, wall
 abbrev number : Bool → ℕ
@@ -93,14 +94,15 @@ cases =
     case (built ones (goal 44) (45 ∷ 0 ∷ []) ++ waves ones (goal 44)) (0x10001 ∷ 0x10008 ∷ 0 ∷ [])
     -- Cell 55 wall, else 1, goal 44: cell 45 is 0x4040003, built and unbuilt; its flow 0x18.
     ∷ case (
-    unbuilt (wallAnd 55 ones) (goal 44) (45 ∷ []) ++ built (wallAnd 55 ones) (goal 44) (45 ∷ []) ++ flow (wallAnd 55 ones) (goal 44) (45 ∷ [])
+    unbuilt (wallAnd 55 ones) (goal 44) (45 ∷ []) ++ built (wallAnd 55 ones) (goal 44) (45 ∷ []) ++ flow (wallAnd 55 ones) (goal 44) false [] (45 ∷ [])
     ) (0x4040003 ∷ 0x4040003 ∷ 0x18 ∷ [])
     -- Goal on cost 255: refused with 16 since 02, "Job 3".
     ∷ case (initNumber (wallAnd 44 ones) (goal 44) ∷ []) (16 ∷ [])
     -- Walls 1 and 10, goal 44, else 1: cell 0 ends 65535, flow 0xE0.
-    ∷ case (built (wallAnd 1 (wallAnd 10 ones)) (goal 44) (0 ∷ []) ++ flow (wallAnd 1 (wallAnd 10 ones)) (goal 44) (0 ∷ [])) (65535 ∷ 0xE0 ∷ [])
-    -- All 1, East window 9 to 99: cell 0 holds 9; waves 9; flow 0x12; cell 9, no previous field, 0x92.
-    ∷ case (built ones (window 9 99 1) (0 ∷ []) ++ waves ones (window 9 99 1) ++ flow ones (window 9 99 1) (0 ∷ 9 ∷ [])) (9 ∷ 9 ∷ 0x12 ∷ 0x92 ∷ [])
+    ∷ case (built (wallAnd 1 (wallAnd 10 ones)) (goal 44) (0 ∷ []) ++ flow (wallAnd 1 (wallAnd 10 ones)) (goal 44) false [] (0 ∷ [])) (65535 ∷ 0xE0 ∷ [])
+    -- All 1, East window 9 to 99: cell 0 holds 9; waves 9; flow 0x12; cell 9, with a previous field of zeros since 02, "Job 8", 0x92.
+    ∷ case (built ones (window 9 99 1) (0 ∷ []) ++ waves ones (window 9 99 1) ++ flow ones (window 9 99 1) true zeros (0 ∷ 9 ∷ []))
+    (9 ∷ 9 ∷ 0x12 ∷ 0x92 ∷ [])
     -- North window 3 to 5, facing 9, 5, 9: 0x93, 0x91, 0x99; facing 7, 7, 7: 0x91 each.
     ∷ case (facing 9 5 9 ++ facing 7 7 7) (0x93 ∷ 0x91 ∷ 0x99 ∷ 0x91 ∷ 0x91 ∷ 0x91 ∷ [])
     -- (0,0) to (2,1): middle (1,0); from (2,1) back: also (1,0).
@@ -116,5 +118,5 @@ cases =
     ∷ []
 
 pub as-expected : map (λ (c : Case). c .given) cases ≡ map (λ (c : Case). c .expected) cases
-unfolding onEdge stepped table toward nearest shallow steep line gradient intercept floor rowAt firstEnding slantedEnd endBy lineEnd add sub mul div neg ofInt edge cellsBetween targetOf passesWall relaxed offeredAround offeredBy changedFrom next total isEmpty settle build walls withPortals withGoal marked lineMarked seen extended sideTried wallMet neighbourLooked lookedAround waveLooked sightAfter cornerLine sightFrom startedFrom startedAt started initNumber stepNumberOn startOf facingBits facingChoice windowBits newByte newBytes look.seen lookAround pointed builtByte flowBuild sectorBytes
+unfolding onEdge stepped table toward nearest shallow steep line gradient intercept floor rowAt firstEnding slantedEnd endBy lineEnd add sub mul div neg ofInt edge cellsBetween targetOf passesWall relaxed offeredAround offeredBy changedFrom next total isEmpty settle build walls withPortals withGoal marked lineMarked seen extended sideTried wallMet neighbourLooked lookedAround waveLooked sightAfter cornerLine sightFrom startedFrom startedAt started initNumber stepNumberOn sectorNumber startOf facingBits facingChoice windowBits newByte newBytes look.seen lookAround pointed builtByte flowBuild sectorBytes
 as-expected = refl

@@ -19,7 +19,8 @@ noText number = 110 ∷ 111 ∷ 32 ∷ decimal number ++ (10 ∷ [])
 unfoldable pub rendered : ℕ → List ℕ → List ℕ
 rendered number sheet = cond (eqb number 0) (rowsText sheet 10) (noText number)
 
--- what is printed for an input: the sector call on the first 100 bytes as costs and the rest as step, with no previous field
+-- what is printed for an input: the sector call on the first 100 bytes as costs and the rest as step, with no previous field, so that a step with
+-- a window is refused (02, "Job 8")
 unfoldable pub printed : List ℕ → List ℕ
 printed input =
     let costs = take 100 input in

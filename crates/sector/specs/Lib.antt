@@ -1,3 +1,4 @@
 pub mod Sector
+pub mod Previous
 pub mod Inner
 pub mod Promise

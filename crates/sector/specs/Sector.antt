@@ -8,7 +8,7 @@ use lib.Dec.{eqb}
 use lib.ListN.{length}
 use Rattle.route.specs.Table.{row, firstNumber}
 use Rattle.route.specs.declared.PortalWindow.{PortalWindow}
-use Rattle.route.specs.Step.{portalOf, stepNumberOn}
+use Rattle.route.specs.Step.{isWindow, portalOf, stepNumberOn}
 use Rattle.route.specs.Target.{Target, windowOf, targetOf}
 use Rattle.integration_field.specs.declared.IntegrationField.{IntegrationField}
 use Rattle.integration_field.specs.declared.BuildAnswer.{BuildAnswer}
@@ -18,13 +18,18 @@ use Rattle.started_field.specs.Started.{started}
 use Rattle.flow_byte.specs.New.{newBytes}
 use Rattle.flow_byte.specs.Look.{flowBuild}
 
--- its number: the table's lines 1 and 2, the step's 3 to 8 and 16 (02, "Job 3"), and 12
+-- 17 (02, "Job 8"): a window, of one cell too, without a previous field
+abbrev pub lacksPrevious : List ℕ → Bool → Bool
+lacksPrevious step has = isWindow step && not has
+
+-- its number: the table's lines 1 and 2, the step's 3 to 8 and 16 (02, "Job 3"), 17 (02, "Job 8": after 16), and 12
 unfoldable pub sectorNumber : List ℕ → List ℕ → Bool → List ℕ → List ℕ → ℕ
 sectorNumber costs step has previous sheet =
     firstNumber (
     row 1 (not (eqb (length costs) 100))
     ∷ row 2 (not (eqb (length sheet) 100))
     ∷ row (stepNumberOn costs step) (not (eqb (stepNumberOn costs step) 0))
+    ∷ row 17 (lacksPrevious step has)
     ∷ row 12 (has && not (eqb (length previous) 100))
     ∷ []
     )

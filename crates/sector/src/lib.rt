@@ -11,9 +11,19 @@ ghost use Rattle.route.specs.Target.{targetOf};
 ghost use Rattle.route.specs.Inner.{heldTarget};
 ghost use Rattle.integration_field.specs.Answer.{answerOf};
 ghost use Rattle.started_field.specs.Started.{started};
-ghost use Rattle.sector.specs.Sector.{sectorNumber, sectorBytes, sectorAnswer, sectorSheet};
+ghost use Rattle.sector.specs.Sector.{lacksPrevious, sectorNumber, sectorBytes, sectorAnswer, sectorSheet};
 ghost use Rattle.sector.specs.Inner.{RunReady};
 ghost use Rattle.sector.specs.Promise.{Planned};
+
+// Number 17's condition: a window without a previous field.
+fn lacks_previous(step: &[u8], has_previous: bool) -> bool
+    ensures { λ r. ⌜ r ≡ lacksPrevious (now (step .entry)) «has_previous» ⌝ }
+{
+    if has_previous {
+        return false;
+    }
+    route::byte_at(step, 2) == 1
+}
 
 // The number of the table for a call with a sheet of so many bytes.
 fn sector_number(
@@ -34,6 +44,9 @@ fn sector_number(
     let number = step_numbers::step_number_on(costs, step);
     if number != 0 {
         return number;
+    }
+    if lacks_previous(step, has_previous) {
+        return 17;
     }
     if has_previous {
         if previous.len() != 100 {

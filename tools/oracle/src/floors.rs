@@ -359,18 +359,27 @@ pub fn any_sheet(rng: &mut Rng) -> Vec<u8> {
     }
 }
 
-/// A previous field, or none: constant, of few values, any, or one that the Rust built.
+/// A previous field, or none.
 pub fn any_previous(rng: &mut Rng) -> (bool, Vec<u32>) {
-    let drawn: [u32; CELLS] = match rng.below(6) {
-        0 => return (false, Vec::new()),
-        1 => [rng.pick(&[0, 7, 65535]); CELLS],
-        2 => std::array::from_fn(|_| rng.below(3) as u32),
-        3 => std::array::from_fn(|_| rng.below(3) as u32 | rng.pick(&[0, LOS, CORNER, 0xFFFF_0000])),
-        4 => std::array::from_fn(|_| rng.draw() as u32),
+    if rng.one_in(6) { (false, Vec::new()) } else { (true, lent_previous(rng)) }
+}
+
+/// What the sector call wants beside a step: a previous field with a window, perhaps none with a goal.
+pub fn previous_for(rng: &mut Rng, step: &[u8]) -> (bool, Vec<u32>) {
+    if step[2] == 1 { (true, lent_previous(rng)) } else { any_previous(rng) }
+}
+
+/// A previous field: constant, of few values, any, or one that the Rust built.
+fn lent_previous(rng: &mut Rng) -> Vec<u32> {
+    let drawn: [u32; CELLS] = match rng.below(5) {
+        0 => [rng.pick(&[0, 7, 65535]); CELLS],
+        1 => std::array::from_fn(|_| rng.below(3) as u32),
+        2 => std::array::from_fn(|_| rng.below(3) as u32 | rng.pick(&[0, LOS, CORNER, 0xFFFF_0000])),
+        3 => std::array::from_fn(|_| rng.draw() as u32),
         _ => {
             let (costs, step) = (any(rng), any_step(rng));
             rust_built(&costs, &step).field
         }
     };
-    (true, drawn.to_vec())
+    drawn.to_vec()
 }

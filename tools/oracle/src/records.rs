@@ -30,11 +30,11 @@
 //! the number is not 0.
 //!
 //! init.table, sector.table: the floors and steps of init.altered and sector.altered as they were drawn, with a wall under
-//! the goal or a window cell (number 16); there these walls are floor. leg.table: legs with such a step (16, or 8 before
-//! it).
+//! the goal or a window cell (number 16); there these walls are floor. In sector.table also windows without a previous
+//! field (number 17), which sector.altered has none of. leg.table: legs with such a step (16, or 8 before it).
 //!
-//! leg.altered, leg.model, leg.table: the k-th 100 costs and sheet bytes are those of the sector that step k names. Cost bytes of
-//! sectors not named are 1; every byte of the sheet is 0x55 before the call, and those of sectors not
+//! leg.altered, leg.model, leg.table: the k-th 100 costs and sheet bytes are those of the sector that step k names.
+//! Cost bytes of sectors not named are 1; every byte of the sheet is 0x55 before the call, and those of sectors not
 //! named still are after it, as all are where the number is not 0. What stands beyond the last step is 0.
 //! In leg.altered every window cell counts; in leg.model some window has a cell that does not.
 //!
@@ -109,8 +109,8 @@ pub fn sections() -> Vec<Section> {
         Section { name: "build", length: 1104, records: builds(rng()) },
         Section { name: "flow_new", length: 910, records: flows_new(rng()) },
         Section { name: "flow_build.altered", length: 601, records: flows_build(rng()) },
-        Section { name: "sector.altered", length: 1112, records: sectors(rng(), some_open) },
-        Section { name: "sector.table", length: 1112, records: sectors(rng(), some_on_walls) },
+        Section { name: "sector.altered", length: 1112, records: sectors(rng()) },
+        Section { name: "sector.table", length: 1112, records: refused_sectors(rng()) },
         Section { name: "leg.altered", length: 3330, records: legs(rng(), Judge::Altered) },
         Section { name: "leg.model", length: 3330, records: legs(rng(), Judge::Model) },
         Section { name: "leg.table", length: 3330, records: legs(rng(), Judge::Table) },
@@ -289,9 +289,12 @@ fn builds(mut rng: Rng) -> Vec<Vec<u8>> {
 }
 
 /// The previous field of a record: what is not lent stands as zeros.
-fn previous(rng: &mut Rng) -> (bool, Vec<u32>) {
-    let (lent, numbers) = floors::any_previous(rng);
+fn recorded((lent, numbers): (bool, Vec<u32>)) -> (bool, Vec<u32>) {
     if lent { (true, numbers) } else { (false, vec![0; CELLS]) }
+}
+
+fn previous(rng: &mut Rng) -> (bool, Vec<u32>) {
+    recorded(floors::any_previous(rng))
 }
 
 fn flow_new(step: Step, field: IntegrationField, (lent, numbers): (bool, Vec<u32>)) -> Vec<u8> {
@@ -378,8 +381,27 @@ fn some_on_walls(rng: &mut Rng) -> Vec<(Costs, Step)> {
     edges.into_iter().chain(inputs_on_walls(rng).into_iter().step_by(2)).collect()
 }
 
-fn sectors(mut rng: Rng, inputs: fn(&mut Rng) -> Vec<(Costs, Step)>) -> Vec<Vec<u8>> {
-    inputs(&mut rng).into_iter().map(|(costs, step)| sector(costs, step, previous(&mut rng))).collect()
+/// Windows come with a previous field.
+fn sectors(mut rng: Rng) -> Vec<Vec<u8>> {
+    let inputs = some_open(&mut rng).into_iter();
+    inputs.map(|(costs, step)| sector(costs, step, recorded(floors::previous_for(&mut rng, &step)))).collect()
+}
+
+/// Sector calls with a wall under the goal or a window cell, with a previous field or without; then windows without one.
+fn refused_sectors(mut rng: Rng) -> Vec<Vec<u8>> {
+    let on_walls = some_on_walls(&mut rng);
+    let mut records: Vec<Vec<u8>> =
+        on_walls.into_iter().map(|(costs, step)| sector(costs, step, previous(&mut rng))).collect();
+    records.extend(fieldless().map(|(costs, step)| sector(costs, step, (false, vec![0; CELLS]))));
+    records
+}
+
+/// Windows of every kind on each side: the whole edge, some cells, one cell; on open floor and past a wall.
+fn fieldless() -> impl Iterator<Item = (Costs, Step)> {
+    (0..4).flat_map(|boundary| {
+        let windows = [(0, 9), (2, 5), (4, 4)].map(|(first, last)| floors::window_step(0, boundary, first, last));
+        [floors::uniform(1), floors::one_wall(55), floors::uniform(254)].into_iter().zip(windows)
+    })
 }
 
 /// A leg, and who decides it. Cost bytes of sectors not named are made 1.
@@ -567,12 +589,13 @@ fn refusals() -> Vec<Vec<u8>> {
     }
     let calls = [Call::Sector, Call::Init, Call::Sector, Call::FlowNew, Call::Sector, Call::Leg];
     let steps = goals_at_limits().into_iter().chain(windows_at_limits()).enumerate();
-    cases.extend(steps.map(|(k, step)| Case { steps: step.to_vec(), ..sound(calls[k % 6]) }));
+    cases.extend(steps.map(|(k, step)| with_step(calls[k % 6], step)));
     cases.extend(legs_at_limits().into_iter().map(|steps| Case { steps, ..sound(Call::Leg) }));
     cases.extend([Call::Init, Call::Sector, Call::Leg].into_iter().flat_map(walls_at_limits));
     cases.extend(legs_on_walls());
     cases.extend(lists_at_limits());
     cases.extend(previous_at_limits());
+    cases.extend(without_field());
     for call in [Call::Line, Call::LineEnd] {
         let outside = [[10, 0, 0, 0], [0, 10, 0, 0], [0, 0, 10, 0], [0, 0, 0, 10], [255, 255, 255, 255], [9, 9, 9, 9]];
         cases.extend(outside.map(|[a, b, c, d]| Case {
@@ -583,9 +606,42 @@ fn refusals() -> Vec<Vec<u8>> {
     cases.iter().map(refusal).collect()
 }
 
+/// A call with nothing wrong with it but perhaps this step: a sector call with a window comes with a previous field.
+fn with_step(call: Call, step: Step) -> Case {
+    let case = Case { steps: step.to_vec(), ..sound(call) };
+    if call == Call::Sector && step[2] == 1 { lend(case) } else { case }
+}
+
+/// The same with a previous field of zeros.
+fn lend(case: Case) -> Case {
+    Case { previous_lent: true, previous: vec![0; CELLS], ..case }
+}
+
+/// Windows without a previous field, of several cells and of one; the same with numbers that are not lent, with a previous
+/// field, with a goal, in the calls that have no 17, and where 8 or 16 comes before it.
+fn without_field() -> Vec<Case> {
+    let (east, cell, goal) =
+        (floors::window_step(0, 1, 2, 5), floors::window_step(0, 1, 4, 4), floors::goal_step(0, 44));
+    let bare = |call: Call, step: Step| Case { steps: step.to_vec(), ..sound(call) };
+    let mut cases: Vec<Case> = [east, cell, goal].map(|step| bare(Call::Sector, step)).to_vec();
+    cases.extend([east, cell].map(|step| Case { previous: vec![0; CELLS], ..bare(Call::Sector, step) }));
+    cases.extend([east, cell, goal].map(|step| lend(bare(Call::Sector, step))));
+    cases.extend(
+        [Call::Init, Call::FlowNew, Call::Leg].into_iter().flat_map(|call| [bare(call, east), bare(call, cell)]),
+    );
+    let turned = changed(east, &[(3, 59), (4, 29)]);
+    cases.push(bare(Call::Sector, turned));
+    for (step, wall) in [(east, 29), (east, 59), (cell, 49), (east, 44)] {
+        let mut case = bare(Call::Sector, step);
+        case.costs[wall] = 255;
+        cases.push(case);
+    }
+    cases
+}
+
 /// A call with nothing wrong with it but perhaps this step, and this one wall.
 fn on_wall(call: Call, step: Step, wall: usize) -> Case {
-    let mut case = Case { steps: step.to_vec(), ..sound(call) };
+    let mut case = with_step(call, step);
     case.costs[wall] = 255;
     case
 }

@@ -1,5 +1,6 @@
-//! The table of document 01 ("A leg, the added entry") with 16 of document 02, Job 3, read from those pages alone: each row
-//! a number and a condition, in the pages' order. 15 (02, Job 2) comes after 10 and is found by planning: the model has it.
+//! The table of document 01 ("A leg, the added entry") with 16 and 17 of document 02, Jobs 3 and 8, read from those pages
+//! alone: each row a number and a condition, in the pages' order. 15 (02, Job 2) comes after 10 and is found by planning:
+//! the model has it.
 
 use std::ops::Index;
 
@@ -7,6 +8,9 @@ use crate::subject::{IntegrationField, Previous};
 
 /// The number of a step whose goal, or some window cell, is of cost 255.
 pub const ON_WALL: u8 = 16;
+
+/// The number of a window step in the sector call that comes without a previous field.
+pub const FIELDLESS: u8 = 17;
 
 /// What a call was lent or given. What a call does not have stands as `None` or empty, and no row
 /// that speaks of it can hold.
@@ -22,6 +26,23 @@ pub struct Given<'a> {
     pub by_hand: Option<&'a IntegrationField>,
     pub previous: Option<Previous<'a>>,
     pub coordinates: &'a [usize],
+}
+
+impl Given<'_> {
+    /// Whether the call is the sector call, the one that has both costs and a place for a previous field.
+    pub fn is_sector_call(&self) -> bool {
+        self.costs.is_some() && self.previous.is_some()
+    }
+
+    /// Whether a previous field could be lent, and none is.
+    pub fn is_fieldless(&self) -> bool {
+        self.previous.is_some_and(|previous| !previous.lent)
+    }
+
+    /// Whether the first of the steps, if there is one, has a window.
+    pub fn has_window(&self) -> bool {
+        self.steps.and_then(|steps| steps.get(2)) == Some(&1)
+    }
 }
 
 /// A step as it is judged: its 8 bytes, and the cost bytes of the sector that it names, none where the call has none
@@ -65,6 +86,8 @@ pub struct Table<'a> {
     pub lent: [Row<Given<'a>>; 3],
     /// "each step"
     pub each_step: [Row<Judged<'a>>; 6],
+    /// "in the sector call alone, after 16" (02, Job 8)
+    pub sector_call: [Row<Given<'a>>; 1],
     /// "whole leg"
     pub whole_leg: [Row<[u8]>; 2],
     /// "building by hand", "flow by hand, sector call" and "line calls"
@@ -88,6 +111,10 @@ impl<'a> Table<'a> {
                 Row { number: 8, holds: |s| s[2] == 1 && s[3] > s[4] },
                 Row { number: ON_WALL, holds: |s| s.on_wall() },
             ],
+            sector_call: [Row {
+                number: FIELDLESS,
+                holds: |g| g.is_sector_call() && g.has_window() && g.is_fieldless(),
+            }],
             whole_leg: [
                 Row { number: 9, holds: |steps| !goal_then_windows(steps) || named_twice(steps) },
                 Row { number: 10, holds: |steps| !each_faces_the_one_before(steps) },
@@ -101,11 +128,12 @@ impl<'a> Table<'a> {
     }
 
     /// The number that a call gets: of the first row that holds, down the table, 4 to 8 and 16 for one step
-    /// before the next step; 0 where none holds.
+    /// before the next step, then 17; 0 where none holds.
     pub fn number(&self, given: &Given<'a>) -> u8 {
         let steps = given.steps.unwrap_or(&[]);
         first(&self.lent, given)
             .or_else(|| each(given).find_map(|step| first(&self.each_step, &step)))
+            .or_else(|| first(&self.sector_call, given))
             .or_else(|| if given.leg { first(&self.whole_leg, steps) } else { None })
             .or_else(|| first(&self.others, given))
             .unwrap_or(0)

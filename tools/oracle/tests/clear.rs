@@ -3,7 +3,7 @@
 
 use oracle::clear::{Cleared, of_leg, of_sector};
 use oracle::copies::{altered, published};
-use oracle::floors::{Rng, any_open, any_previous, goal_step, leg_with_a_gap, one_wall, uniform, window_step};
+use oracle::floors::{Rng, any_open, goal_step, leg_with_a_gap, one_wall, previous_for, uniform, window_step};
 use oracle::groups::{Clean, Group};
 use oracle::model::{Model, Slip};
 use oracle::oracle::Oracle;
@@ -90,7 +90,7 @@ fn faults(planned: impl Fn(&[u8], &[u8], Option<&[u32]>) -> [u8; CELLS]) -> [usi
     let (mut rng, mut found) = (Rng::new(71), [0; 2]);
     for _ in 0..4_000 {
         let (costs, step) = any_open(&mut rng);
-        let (lent, numbers) = any_previous(&mut rng);
+        let (lent, numbers) = previous_for(&mut rng, &step);
         let sheet = planned(&costs, &step, lent.then_some(&numbers[..]));
         found[usize::from(step[2])] += usize::from(of_sector(&costs, &sheet).is_err());
     }

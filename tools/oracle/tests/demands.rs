@@ -1,6 +1,7 @@
 //! What is to be proved, tried on the Rust: least walks, arrows, waves (demand 3), by reading document
 //! 01 once more and searching walks without waves. Legs in which some window cell does not count are tried on the model.
 
+use oracle::copies::altered;
 use oracle::floors::{Costs, Rng, Step, any, any_field, any_open, any_previous, any_step, open, walls};
 use oracle::groups::Group;
 use oracle::model::Model;
@@ -149,12 +150,11 @@ fn arrows_end_in_the_window() {
         }
         open(&mut rng, &mut costs, &step);
         let (lent, numbers) = any_previous(&mut rng);
-        let mut sheet = [0; CELLS];
-        let built = Oracle.sector(&costs, &step, Previous { lent, numbers: &numbers }, &mut sheet).field.field;
+        let (built, sheet) = altered::planned(&costs, &step, lent.then_some(&numbers[..]));
         let window = targets(&step);
         let wall = |cell: usize| costs[cell] == 255 && !window.contains(&cell);
-        for cell in (0..CELLS).filter(|cell| low(built[*cell]) < 65535) {
-            follow(cell, &sheet, &built, &window, wall);
+        for cell in (0..CELLS).filter(|cell| low(built.field[*cell]) < 65535) {
+            follow(cell, &sheet, &built.field, &window, wall);
             followed += 1;
         }
     }

@@ -5,10 +5,11 @@ use oracle::groups::GROUPS;
 use oracle::model::{CLOSED, Model};
 use oracle::oracle::Oracle;
 use oracle::records::sections;
-use oracle::refusals::ON_WALL;
+use oracle::refusals::{FIELDLESS, ON_WALL};
 use oracle::subject::*;
 
 const NONE: Previous = Previous { lent: false, numbers: &[] };
+const ZEROS: Previous = Previous { lent: true, numbers: &[0; CELLS] };
 
 fn sides() -> [&'static dyn Subject; 2] {
     [&Oracle, &Model::PLAIN]
@@ -65,11 +66,21 @@ fn a_walled_cell() {
     }
 }
 
+/// The case with 0x92 has a previous field of zeros and the same byte since document 02, Job 8; without one it is a refusal.
+/// Flow `new` by hand keeps its fallback.
 #[test]
 fn east_window() {
     for side in sides() {
-        let (answer, sheet) = sector(side, uniform(1), window_step(0, 1, 0, 9), NONE);
+        let step = window_step(0, 1, 0, 9);
+        let (answer, sheet) = sector(side, uniform(1), step, ZEROS);
         assert_eq!((answer.field.field[0], answer.waves, sheet[0], sheet[9]), (9, 9, 0x12, 0x92));
+        let (mut sheet, mut refused_sheet) = ([0x55; CELLS], [0x55; CELLS]);
+        assert_eq!(side.flow_new(&step, answer.field, NONE, &mut sheet), 0);
+        assert_eq!((sheet[9], side.flow_build(answer.field, &mut sheet), sheet[0]), (0x92, 0, 0x12));
+        for step in [step, window_step(0, 1, 4, 4)] {
+            assert_eq!(side.sector(&uniform(1), &step, NONE, &mut refused_sheet), refused::build(FIELDLESS));
+        }
+        assert_eq!(refused_sheet, [0x55; CELLS]);
     }
 }
 

@@ -4,7 +4,7 @@
 use oracle::judges::Judge;
 use oracle::model::{Model, Slip};
 use oracle::records::sections;
-use oracle::refusals::ON_WALL;
+use oracle::refusals::{FIELDLESS, ON_WALL};
 use oracle::subject::*;
 
 /// Reads a record from its start.
@@ -47,7 +47,7 @@ fn alone(cells: [u32; CELLS]) -> IntegrationField {
     IntegrationField::new(cells, &[])
 }
 
-fn each(name: &str, check: impl Fn(&mut Reader)) {
+fn each(name: &str, mut check: impl FnMut(&mut Reader)) {
     let section = sections().into_iter().find(|section| section.name == name).expect("a section of that name");
     assert!(!section.records.is_empty());
     for record in &section.records {
@@ -151,7 +151,33 @@ fn looks_so(model: &Model, r: &mut Reader) -> (u8, bool) {
 #[test]
 fn sectors() {
     each("sector.altered", |r| assert_eq!(plans_so(&MODEL, r), (0, true)));
-    each("sector.table", |r| assert_eq!(plans_so(&MODEL, r), (ON_WALL, true)));
+    let mut numbers = Vec::new();
+    each("sector.table", |r| {
+        let (number, agrees) = plans_so(&MODEL, r);
+        assert!(agrees);
+        numbers.push(number);
+    });
+    let count = |due: u8| numbers.iter().filter(|number| **number == due).count();
+    assert_eq!((count(ON_WALL) + count(FIELDLESS), count(FIELDLESS)), (numbers.len(), 12));
+}
+
+/// No accepted window of the sector call is without a previous field, and some refused ones have a wall besides. Flow `new`
+/// takes windows without.
+#[test]
+fn windows_of_the_sector_call_have_a_previous_field() {
+    let fieldless = |r: &mut Reader| {
+        let (step, lent) = (&r.bytes(108)[100..], r.byte() == 1);
+        r.0 = &[];
+        step[2] == 1 && !lent
+    };
+    each("sector.altered", |r| assert!(!fieldless(r)));
+    let sections = sections();
+    let table = sections.iter().find(|section| section.name == "sector.table").expect("a section of that name");
+    let both = |record: &&Vec<u8>| fieldless(&mut Reader(record)) && record[509] == ON_WALL;
+    assert!(table.records.iter().filter(both).count() > 0);
+    let new = sections.iter().find(|section| section.name == "flow_new").expect("a section of that name");
+    let taken = |record: &&Vec<u8>| record[2] == 1 && record[408] == 0 && record[809] == 0;
+    assert!(new.records.iter().filter(taken).count() > 0);
 }
 
 /// The same of one of the sector call.

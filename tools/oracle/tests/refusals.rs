@@ -1,12 +1,13 @@
-//! The table of refusals sees what a call was lent, cost bytes among it: 16 (02, Job 3).
+//! The table of refusals sees what a call was lent, cost bytes and a previous field among it: 16 and 17 (02, Jobs 3 and 8).
 
 use oracle::floors::{Step, all_windows, goal_step, one_wall, uniform, window_step};
-use oracle::refusals::{Given, ON_WALL, number};
+use oracle::refusals::{FIELDLESS, Given, ON_WALL, number};
 use oracle::subject::Previous;
 
-/// The number of a sector call with no previous field.
+/// The number of a sector call with a previous field.
 fn sector(costs: &[u8], step: &Step) -> u8 {
-    number(&Given { costs: Some(costs), sheet: Some(100), steps: Some(step), ..Given::default() })
+    let previous = Some(Previous { lent: true, numbers: &[0; 100] });
+    number(&Given { costs: Some(costs), sheet: Some(100), steps: Some(step), previous, ..Given::default() })
 }
 
 /// The number of a leg over a floor of costs 1 with walls at these places.
@@ -84,4 +85,42 @@ fn its_place_among_the_numbers() {
 #[test]
 fn a_call_without_costs_has_none_to_look_at() {
     assert_eq!(number(&Given { sheet: Some(100), steps: Some(&goal_step(0, 44)), ..Given::default() }), 0);
+}
+
+/// The number of a sector call on costs of 1 but for a wall, where there is one.
+fn sector_with(wall: Option<usize>, step: &Step, lent: bool, numbers: &[u32]) -> u8 {
+    let costs = wall.map_or([1; 100], one_wall);
+    let previous = Some(Previous { lent, numbers });
+    number(&Given { costs: Some(&costs), sheet: Some(100), steps: Some(step), previous, ..Given::default() })
+}
+
+/// Of all 220 windows, those of one cell too; with a previous field they are taken, and goals are without.
+#[test]
+fn every_window_wants_a_previous_field() {
+    for step in all_windows() {
+        let with = |lent: bool, length: usize| sector_with(None, &step, lent, &[0; 101][..length]);
+        assert_eq!([with(false, 0), with(false, 100), with(false, 99)], [FIELDLESS; 3]);
+        assert_eq!([with(true, 100), with(true, 99), with(true, 0), with(true, 101)], [0, 12, 12, 12]);
+    }
+    assert_eq!(sector_with(None, &goal_step(0, 44), false, &[]), 0);
+}
+
+/// After 16, which comes after 8.
+#[test]
+fn where_seventeen_stands() {
+    let east = window_step(0, 1, 2, 5);
+    let turned = changed(changed(east, 3, 59), 4, 29);
+    let bare = |wall: Option<usize>, step: &Step| sector_with(wall, step, false, &[]);
+    assert_eq!((bare(Some(29), &east), bare(Some(29), &turned), bare(Some(19), &east)), (ON_WALL, 8, FIELDLESS));
+    assert_eq!((bare(None, &changed(east, 0, 64)), bare(None, &changed(east, 5, 4))), (4, 6));
+}
+
+/// In the sector call alone: a leg that begins with a window keeps 9.
+#[test]
+fn other_calls_have_no_seventeen() {
+    let (east, none) = (window_step(0, 1, 2, 5), Some(Previous { lent: false, numbers: &[] }));
+    let init = Given { costs: Some(&[1; 100]), steps: Some(&east), ..Given::default() };
+    let flow_new = Given { sheet: Some(100), steps: Some(&east), previous: none, ..Given::default() };
+    assert_eq!((number(&init), number(&flow_new)), (0, 0));
+    assert_eq!((leg(&[], &[east]), leg(&[], &[goal_step(1, 44), east])), (9, 0));
 }

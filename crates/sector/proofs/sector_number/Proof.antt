@@ -1,13 +1,18 @@
 -- `sector::sector_number` meets its contract: a line of the table at each return.
 -- Assumes nothing.
-use mathlib.Core.Path.{_≡_, sym, _∙_}
+use mathlib.Core.Path.{_≡_, refl, sym, _∙_}
+use mathlib.Core.Bool.{Bool, true, false, cond, not, _&&_}
+use mathlib.Core.List.{List}
+use Prim.Native.Nat.{ℕ}
 use native.Mathlib.Omega.{arith}
 use denote.Ref.{now}
+use lib.Dec.{eqb}
 use lib.ListN.{length}
-use borrow.Author.Tests.{ne-eqb}
+use borrow.Author.Tests.{eq-eqb, ne-eqb}
 use borrow.Author.Needs.{needs}
 use Rattle.route.proofs.Rows.{tests}
 use Rattle.sector.specs.Sector.{sectorNumber}
+use Rattle.sector.proofs.Numbers.{last-two}
 use Rattle.sector.proofs.sector_number.Statement.{statement}
 use Rattle.sector.proofs.sector_number.Tie as tie
 
@@ -31,32 +36,51 @@ returns-3 c sheet e =
     let lent : length sheet ≡ 100 = omega arith in
     rw n (search (tests, lent, ne-eqb _ 0 (λ z. c .if3 .taken (n ∙ z))))
 
+lacks-previous-requires : tie.Need-lacks-previous-requires
+lacks-previous-requires c κs = search needs
+
+-- from where 17's condition is known: the step's number, which is 0, and the call; and so what 17 and 12 decide
+abbrev stepped : tie.After-lacks-previous → tie.After-step-number-on
+stepped c = c .before .before
+
+abbrev start : tie.After-lacks-previous → tie.Start
+start c = stepped c .before .before .before .before .before .before
+
+last : (c : tie.After-lacks-previous) (sheet : List ℕ) → length sheet ≡ start c .args .sheet-length → let a = start c .args in
+    (l h f : Bool) → c .lacks-previous .result ≡ l → a .has-previous ≡ h → eqb (length (now (a .previous))) 100 ≡ f
+    → cond l 17 (cond (h && not f) 12 0) ≡ sectorNumber (now (a .costs)) (now (a .step)) (a .has-previous) (now (a .previous)) sheet
+last c sheet e l h f p q r =
+    let a = start c .args in
+    let taken = sym (stepped c .step-number-on .ensures) ∙ c .before .if3 .left in
+    let lacks = sym (c .lacks-previous .ensures) ∙ p in
+    sym (last-two (now (a .costs)) (now (a .step)) (a .has-previous) (now (a .previous)) sheet (omega arith) (omega arith) taken l h f lacks q r)
+
 returns-4 : tie.Need-returns-4
-unfolding sectorNumber
-returns-4 c sheet e =
-    let stepped = c .before .before .before in
-    let previous = now (stepped .before .before .before .before .before .before .args .previous) in
-    let lent : length sheet ≡ 100 = omega arith in
-    let other : length previous ≡ 100 → ⊥ = λ h. omega (arith, c .if5 .taken) in
-    search (tests, lent, sym (stepped .step-number-on .ensures) ∙ c .before .before .if3 .left, c .before .if4 .taken, other)
+returns-4 c sheet e = last (c .before) sheet e true _ _ (c .if4 .taken) refl refl
 
 returns-5 : tie.Need-returns-5
-unfolding sectorNumber
 returns-5 c sheet e =
-    let stepped = c .before .before .before in
-    let previous = now (stepped .before .before .before .before .before .before .args .previous) in
-    let lent : length sheet ≡ 100 = omega arith in
-    let fits : length previous ≡ 100 = omega arith in
-    search (tests, lent, sym (stepped .step-number-on .ensures) ∙ c .before .before .if3 .left, c .before .if4 .taken, fits)
+    let lent = c .before in
+    last (lent .before .before) sheet e false true false (lent .before .if4 .left) (lent .if5 .taken) (ne-eqb _ 100 (c .if6 .taken))
 
 returns-6 : tie.Need-returns-6
-unfolding sectorNumber
 returns-6 c sheet e =
-    let stepped = c .before .before in
-    let lent : length sheet ≡ 100 = omega arith in
-    search (tests, lent, sym (stepped .step-number-on .ensures) ∙ c .before .if3 .left, c .if4 .left)
+    let lent = c .before in
+    last (lent .before .before) sheet e false true true (lent .before .if4 .left) (lent .if5 .taken) (eq-eqb _ 100 (c .if6 .left))
+
+returns-7 : tie.Need-returns-7
+returns-7 c sheet e = last (c .before .before) sheet e false false _ (c .before .if4 .left) (c .if5 .left) refl
 
 pub sector-number-spec : {M : Type 1} → statement M
 sector-number-spec =
     tie.close
-    (tie.spec returns returns-2 step-number-on-requires returns-3 returns-4 returns-5 returns-6)
+    (tie.spec
+    returns
+    returns-2
+    step-number-on-requires
+    returns-3
+    lacks-previous-requires
+    returns-4
+    returns-5
+    returns-6
+    returns-7)

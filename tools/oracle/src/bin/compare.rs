@@ -10,7 +10,7 @@ use oracle::groups::{Clean, Difference, FOLLOWED, GROUPS, Group, JOURNEY, Met};
 use oracle::judges::Judge;
 use oracle::library::Library;
 use oracle::model::{CLOSED, Model, Slip};
-use oracle::refusals::ON_WALL;
+use oracle::refusals::{FIELDLESS, ON_WALL};
 use oracle::subject::Subject;
 
 /// What is held to the oracle.
@@ -104,10 +104,15 @@ fn report_clean(group: &Group, clean: &Clean, start: Instant) {
     }
 }
 
-/// How many inputs have a goal or a window cell of cost 255.
+/// How many inputs have a goal or a window cell of cost 255, or a window without a previous field.
 fn left_out(clean: &Clean) -> Option<String> {
-    let count = clean.numbers[usize::from(ON_WALL)];
-    (count > 0).then(|| format!("left out of the comparison with the Rust, being 16: {count}"))
+    let counts = [ON_WALL, FIELDLESS].map(|number| (number, clean.numbers[usize::from(number)]));
+    let words: Vec<String> = counts
+        .iter()
+        .filter(|(_, count)| *count > 0)
+        .map(|(number, count)| format!("being {number}: {count}"))
+        .collect();
+    (!words.is_empty()).then(|| format!("left out of the comparison with the Rust, {}", words.join(", ")))
 }
 
 /// How many inputs met what, the places at which 15 was found together, and those of 16.

@@ -1,4 +1,4 @@
-//! Inputs that the table takes, but for goals and window cells of cost 255.
+//! Inputs that the table takes, but for goals and window cells of cost 255, and for windows without a previous field.
 
 use std::iter;
 
@@ -141,8 +141,13 @@ pub fn flows_both(rng: Rng, inputs: usize) -> Cases {
     Box::new(drawn(rng, inputs, |rng| Case { ask: Ask::FlowBoth, ..any_flow_case(rng) }))
 }
 
+/// A sector call. Of windows one in sixteen comes without a previous field, which is 17, half of those with numbers that are
+/// not lent.
 fn sector_case(rng: &mut Rng, costs: Costs, step: Step) -> Case {
-    let (previous_lent, previous) = floors::any_previous(rng);
+    let (previous_lent, previous) = match step[2] {
+        1 if rng.one_in(16) => (false, if rng.one_in(2) { vec![0; CELLS] } else { Vec::new() }),
+        _ => floors::previous_for(rng, &step),
+    };
     Case {
         costs: costs.to_vec(),
         steps: step.to_vec(),

@@ -23,7 +23,7 @@ use crate::journey::Followed;
 use crate::judges::{self, Judge, Judges};
 use crate::model::CLOSED;
 use crate::oracle::{self, Oracle};
-use crate::refusals::ON_WALL;
+use crate::refusals::{FIELDLESS, ON_WALL};
 use crate::shrink;
 use crate::subject::{Call, Subject};
 
@@ -58,7 +58,7 @@ pub const GROUPS: &[Group] = &[
         cases: good::flows_both,
         reaches: &[0],
     },
-    Group { name: "sector", needs: &[Call::Sector], cases: good::sectors, reaches: &[0, ON_WALL] },
+    Group { name: "sector", needs: &[Call::Sector], cases: good::sectors, reaches: &[0, ON_WALL, FIELDLESS] },
     Group { name: "sector, two walls", needs: &[Call::Sector], cases: good::two_walls, reaches: &[0, ON_WALL] },
     Group { name: "leg", needs: &[Call::Leg], cases: good::legs, reaches: &[0, CLOSED, ON_WALL] },
     Group { name: GAPS, needs: &[Call::Leg], cases: legs::gaps, reaches: &[0, CLOSED] },
@@ -89,7 +89,7 @@ pub const GROUPS: &[Group] = &[
         name: "sector refusals",
         needs: &[Call::Sector],
         cases: bad::sectors,
-        reaches: &[0, 1, 2, 3, 4, 5, 6, 7, 8, 12, ON_WALL],
+        reaches: &[0, 1, 2, 3, 4, 5, 6, 7, 8, 12, ON_WALL, FIELDLESS],
     },
     Group {
         name: "leg refusals",
@@ -121,8 +121,8 @@ const PRACTICE: &str = "practice";
 #[derive(Clone, Default)]
 pub struct Clean {
     pub inputs: usize,
-    /// How often each number was due. 16 is due where the Rust would open a wall: so many inputs are left out of the
-    /// comparison with it.
+    /// How often each number was due. 16 is due where the Rust would open a wall, 17 where it would fall back on the
+    /// boundary's bits: so many inputs are left out of the comparison with it.
     pub numbers: [usize; 21],
     /// How many inputs each judge decided, by its place in `Judge::ALL`. A build has two: fields and waves.
     pub judged: [usize; Judge::ALL.len()],

@@ -2,7 +2,7 @@
 
 use super::leg::taken_but_for_walls;
 use super::{Model, Slip};
-use crate::refusals::{self, Given, Judged, ON_WALL, Table, first, named_cells};
+use crate::refusals::{self, FIELDLESS, Given, Judged, ON_WALL, Table, first, named_cells};
 
 /// What comes of a call.
 pub(super) enum Verdict {
@@ -25,6 +25,7 @@ impl Model {
         let mut table = Table::documents();
         self.slip_in_step(&mut table);
         self.slip_on_walls(&mut table, given);
+        self.slip_without_field(&mut table);
         self.slip_elsewhere(&mut table);
         let due = self.early(&table, given).or_else(|| self.late(given));
         match due.unwrap_or_else(|| table.number(given)) {
@@ -73,6 +74,23 @@ impl Model {
         }
     }
 
+    /// Slips in the row of 17.
+    fn slip_without_field(&self, table: &mut Table) {
+        let row = &mut table.sector_call[0];
+        match self.slip {
+            Slip::FieldlessTaken => row.holds = |_| false,
+            Slip::FieldlessOneCell => row.holds = |g| fieldless_window(g) && g.steps.is_some_and(|s| s[3] != s[4]),
+            Slip::FieldlessGoal => row.holds = |g| g.is_sector_call() && g.is_fieldless(),
+            Slip::FieldlessFlowNew => row.holds = |g| g.has_window() && g.is_fieldless(),
+            Slip::FieldlessInit => row.holds = |g| fieldless_window(g) || (is_init(g) && g.has_window()),
+            Slip::FieldlessLeg => row.holds = |g| fieldless_window(g) || (g.leg && g.has_window()),
+            Slip::FieldlessByLength => {
+                row.holds = |g| fieldless_window(g) && g.previous.is_some_and(|p| p.numbers.is_empty())
+            }
+            _ => {}
+        }
+    }
+
     fn slip_elsewhere(&self, table: &mut Table) {
         let others = &mut table.others;
         match self.slip {
@@ -114,6 +132,14 @@ impl Model {
 
     /// A number that a slip finds before its turn.
     fn early<'a>(&self, table: &Table<'a>, given: &Given<'a>) -> Option<u8> {
+        let before = match self.slip {
+            Slip::FieldlessBeforeOrder => 8,
+            Slip::FieldlessBeforeWalls => ON_WALL,
+            _ => 0,
+        };
+        if before != 0 && fieldless_window(given) && table.number(given) == before {
+            return Some(FIELDLESS);
+        }
         let steps = given.steps.filter(|_| given.leg && first(&table.lent, given).is_none())?;
         match self.slip {
             Slip::NineBeforeSteps => first(&table.whole_leg[..1], steps),
@@ -139,6 +165,15 @@ impl Model {
         others.each_step[5].holds = |_| false;
         Some(others.number(given)).filter(|number| before.contains(number))
     }
+}
+
+/// Whether the call is the sector call, of a window without a previous field.
+fn fieldless_window(g: &Given) -> bool {
+    g.is_sector_call() && g.has_window() && g.is_fieldless()
+}
+
+fn is_init(g: &Given) -> bool {
+    g.costs.is_some() && g.steps.is_some() && g.sheet.is_none()
 }
 
 /// Whether the cell that a byte of the step names is a wall, read or not.
