@@ -2,7 +2,8 @@
  * Plans a sector that is drawn as text, and shows its arrows beside its flow bytes; or the practice floor of a seed, and
  * shows the floor beside them.
  * The drawing is turned into costs and a step here; every practice floor comes from hanjolum_practice_floor, every arrow
- * from hanjolum_sector.
+ * from hanjolum_sector. A window wants the field of the sector across it, which is not drawn: it gets one of zeros, so that
+ * each of its cells points straight across.
  * What is wrong with the words, the drawing or the output is one line on standard error and exit status 1.
  */
 #include <errno.h>
@@ -277,13 +278,14 @@ static struct drawing file_drawing(const char *name)
 
 int main(int count, char **words)
 {
+    static const uint32_t zeros[HANJOLUM_CELLS];
     struct asked asked = asked_for(count, words);
     struct drawing drawing = asked.seed != NULL ? practice_drawing(asked.seed) : file_drawing(asked.file);
     uint8_t step[HANJOLUM_STEP];
     uint8_t sheet[HANJOLUM_CELLS] = {0};
     make_step(&drawing, step);
-    HanjolumBuildAnswer answer =
-        hanjolum_sector(drawing.costs, HANJOLUM_CELLS, step, HANJOLUM_STEP, false, NULL, 0, sheet, HANJOLUM_CELLS);
+    HanjolumBuildAnswer answer = hanjolum_sector(drawing.costs, HANJOLUM_CELLS, step, HANJOLUM_STEP, drawing.mark != 'G', zeros,
+                                                 HANJOLUM_CELLS, sheet, HANJOLUM_CELLS);
     if (answer.number != 0)
         fail("%s: refused with number %d", drawing.name, answer.number);
     show(&drawing, sheet, asked.seed != NULL, asked.ascii);

@@ -2,13 +2,14 @@
  * Random calls through the C interface, with every lent buffer fenced by pages that no access is allowed to.
  * Lengths go from 0 past every limit, bytes are any or nearly good. A refused call must leave its sheet as it was and
  * answer zeros, and a leg must leave the sectors that it does not name. No step is accepted with a wall under its goal or a
- * window cell. No arrow of an accepted sector call or leg that leads to a cell of the sector passes a wall diagonally. The
- * arrows of a planned leg, followed from every reached cell of a later sector, come into the goal's sector in at most 1,500
- * moves, as far as there is no cost 0 on the way. A practice floor has costs of 1, 10 and 255, its goal inside and on cost
- * 1, is the same when it is made again, and is planned for its goal. A fault, and a run in which no call was accepted or
- * none refused, no leg of several steps planned, none refused with 15, no arrow followed, no diagonal one looked at, init,
- * the sector call or a leg never refused with 16, or no practice floor with all three costs, is one line on standard error
- * and exit status 1.
+ * window cell. No sector call is accepted with a window and without a previous field, and no other call answers 17. No arrow
+ * of an accepted sector call or leg that leads to a cell of the sector passes a wall diagonally. The arrows of a planned
+ * leg, followed from every reached cell of a later sector, come into the goal's sector in at most 1,500 moves, as far as
+ * there is no cost 0 on the way. A practice floor has costs of 1, 10 and 255, its goal inside and on cost 1, is the same
+ * when it is made again, and is planned for its goal. A fault, and a run in which no call was accepted or none refused, no
+ * leg of several steps planned, none refused with 15, no arrow followed, no diagonal one looked at, init, the sector call or
+ * a leg never refused with 16, the sector call never with 17, or no practice floor with all three costs, is one line on
+ * standard error and exit status 1.
  */
 #define _DEFAULT_SOURCE
 #include <stdio.h>
@@ -153,12 +154,21 @@ static int zeros(const void *part, size_t length)
 
 /* How many calls answered 0, and how many a number; how many legs of several steps were planned, and how many had a window
    in which no cell counts; from how many cells arrows were followed; how many diagonal arrows were looked at; how many of
-   init, sector calls and legs had a step on a wall; how many practice floors had all three costs. */
-static unsigned long accepted, turned_away, planned, closed, followed, diagonal, on_wall[3], practised;
+   init, sector calls and legs had a step on a wall; how many sector calls had a window without a previous field; how many
+   practice floors had all three costs. */
+static unsigned long accepted, turned_away, planned, closed, followed, diagonal, on_wall[3], fieldless, practised;
 
-static void counted(uint8_t number)
+static void tallied(uint8_t number)
 {
     *(number == 0 ? &accepted : &turned_away) += 1;
+}
+
+/* The number of a call but the sector call. */
+static void counted(uint8_t number)
+{
+    tallied(number);
+    if (number == 17)
+        fail("another call than the sector call answers 17");
 }
 
 static void refused(uint8_t number, HanjolumIntegrationField f, size_t waves)
@@ -205,13 +215,28 @@ static void walls(int call, uint8_t number, const Fenced *costs, const Fenced *r
             fail("a step on a wall is accepted");
 }
 
+/* Looks at 17, which a sector call has: a window comes with a previous field, and a goal needs none. */
+static void fields(uint8_t number, bool has, const Fenced *route)
+{
+    fieldless += number == 17;
+    if (number == 0 && !has && route->at[2] == 1)
+        fail("a window without previous field is accepted");
+    if (number == 17 && (has || route->at[2] != 1))
+        fail("17 is answered to a goal, or where a previous field is lent");
+}
+
 static uint8_t before[SPACE];
+
+static void unwritten(uint8_t number, const Fenced *sheet)
+{
+    if (number != 0 && memcmp(before, sheet->at, sheet->length) != 0)
+        fail("a refusal wrote");
+}
 
 static void kept(uint8_t number, const Fenced *sheet)
 {
     counted(number);
-    if (number != 0 && memcmp(before, sheet->at, sheet->length) != 0)
-        fail("a refusal wrote");
+    unwritten(number, sheet);
 }
 
 /* A leg's file: steps written to a buffer of any length and read back, then the file with a byte spoiled read again. */
@@ -362,7 +387,9 @@ static void round_of_calls(Fenced *costs, Fenced *route, Fenced *previous, Fence
     }
     bool has = below(2);
     HanjolumBuildAnswer a = hanjolum_sector(costs->at, costs->length, route->at, route->length, has, numbers, count, sheet->at, sheet->length);
-    kept(a.number, sheet);
+    tallied(a.number);
+    unwritten(a.number, sheet);
+    fields(a.number, has, route);
     walls(1, a.number, costs, route);
     refused(a.number, a.field, a.waves);
     if (a.number == 0)
@@ -418,13 +445,15 @@ static void report(unsigned long rounds)
         fail("no diagonal arrow was looked at");
     if (on_wall[0] == 0 || on_wall[1] == 0 || on_wall[2] == 0)
         fail("init, the sector call or a leg was never refused with 16");
+    if (fieldless == 0)
+        fail("the sector call was never refused with 17");
     if (practised == 0)
         fail("no practice floor had all three costs");
     printf("%lu rounds of calls, %lu accepted and %lu refused, %lu legs of several steps planned and %lu refused with 15, "
            "arrows followed from %lu cells to the goal's sector, %lu diagonal arrows looked at, "
-           "%lu init, %lu sector calls and %lu legs refused with 16, %lu practice floors, nothing found\n",
+           "%lu init, %lu sector calls and %lu legs refused with 16, %lu sector calls with 17, %lu practice floors, nothing found\n",
            rounds, accepted, turned_away, planned, closed, followed, diagonal, on_wall[0], on_wall[1], on_wall[2],
-           practised);
+           fieldless, practised);
     written();
 }
 

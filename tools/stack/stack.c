@@ -61,12 +61,14 @@ static int counts(const uint32_t *field, const uint8_t *next)
 }
 
 /* The waves of a sector, or -1 where it is refused, having a wall under its goal or its window, or where the next step, if
-   there is one, could not be planned behind it. */
+   there is one, could not be planned behind it. A window comes with a previous field of zeros, which plays no part in the
+   waves. */
 static long waves_of(const uint8_t *costs, const uint8_t *step, const uint8_t *next)
 {
+    static const uint32_t zeros[HANJOLUM_CELLS];
     uint8_t scratch[HANJOLUM_CELLS];
-    HanjolumBuildAnswer built =
-        hanjolum_sector(costs, HANJOLUM_CELLS, step, HANJOLUM_STEP, false, NULL, 0, scratch, sizeof scratch);
+    HanjolumBuildAnswer built = hanjolum_sector(costs, HANJOLUM_CELLS, step, HANJOLUM_STEP, step[2] == 1, zeros, HANJOLUM_CELLS,
+                                                scratch, sizeof scratch);
     return built.number == 0 && (next == NULL || counts(built.field.field, next)) ? (long)built.waves : -1;
 }
 
