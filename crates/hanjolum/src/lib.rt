@@ -34,7 +34,7 @@ ghost use Rattle.leg_file.specs.Promise.{ReadBack, WrittenSame};
 ghost use Rattle.practice.specs.Floor.{practiceFloor};
 ghost use Rattle.practice.specs.Promise.{PracticeTold};
 
-// The sector call: the field that a step starts, built, and its flow bytes, or number 1, 2, 3, 4 to 8, 16, or 12.
+// The sector call: the field that a step starts, built, and its flow bytes, or number 1, 2, 3, 4 to 8, 16, 17, or 12.
 #[no_mangle]
 pub extern "C" fn hanjolum_sector(
     costs: &[u8],

@@ -61,12 +61,16 @@ returns-4 c sheet e = last (c .before) sheet e true _ _ (c .if4 .taken) refl ref
 returns-5 : tie.Need-returns-5
 returns-5 c sheet e =
     let lent = c .before in
-    last (lent .before .before) sheet e false true false (lent .before .if4 .left) (lent .if5 .taken) (ne-eqb _ 100 (c .if6 .taken))
+    let judged = lent .before .before in
+    let other : length (now (start judged .args .previous)) ≡ 100 → ⊥ = λ h. omega (arith, c .if6 .taken) in
+    last judged sheet e false true false (lent .before .if4 .left) (lent .if5 .taken) (ne-eqb _ 100 other)
 
 returns-6 : tie.Need-returns-6
 returns-6 c sheet e =
     let lent = c .before in
-    last (lent .before .before) sheet e false true true (lent .before .if4 .left) (lent .if5 .taken) (eq-eqb _ 100 (c .if6 .left))
+    let judged = lent .before .before in
+    let fits : length (now (start judged .args .previous)) ≡ 100 = omega arith in
+    last judged sheet e false true true (lent .before .if4 .left) (lent .if5 .taken) (eq-eqb _ 100 fits)
 
 returns-7 : tie.Need-returns-7
 returns-7 c sheet e = last (c .before .before) sheet e false false _ (c .before .if4 .left) (c .if5 .left) refl
