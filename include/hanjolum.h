@@ -50,6 +50,7 @@
  *     7   mark 1: a window cell off the named edge (North row 0, East column 9, South row 9, West column 0)
  *     8   mark 1: first cell after last
  *     16  mark 0: goal of cost 255; mark 1: a cell of the window of cost 255
+ *     17  sector: mark 1, and no previous field
  *     9   leg: first step with a window, later one without, or a sector named twice
  *     10  leg: the sector across the boundary is not that of the step before, or is off the floor
  *     11  building by hand: corner count over 100, or a listed corner over 99
@@ -176,13 +177,15 @@ typedef struct {
  * whatever they were before. Answers the built field and its wave count.
  * With has_previous, previous is the 100 cells of the built field of the sector across the window, of which only the low
  * 16 bits count; each cell of a window of two or more then points at the cheapest of the two or three cells that it
- * faces, straight across where that is no dearer. Without, previous is not read, and each window cell points straight across the boundary, as a window of one
- * cell always does.
+ * faces, straight across where that is no dearer. A window of one cell always points straight across. A step with a
+ * window, of one cell too, must come with a previous field (17). Who has none lends 100 zeros: then each window cell
+ * points straight across. A step with a goal needs none. Without has_previous, previous is not read, and what it holds is
+ * no previous field.
  * With a window, and no cost of 0, the arrows lead from every reached cell into the window in at most 99 moves, over no
  * wall and between no two walls. With a goal that is not promised: two arrows may point at each other, for ever, and on
  * floors with walls often do. With a goal or a window, whatever the costs: no arrow that leads to a cell of the sector
  * leads onto a wall, or diagonally past one (neither of the two cells beside a diagonal move is a wall).
- * Numbers 1, 2, 3, 4 to 8, 16, 12.
+ * Numbers 1, 2, 3, 4 to 8, 16, 17, 12.
  */
 HanjolumBuildAnswer hanjolum_sector(
     const uint8_t *costs, size_t costs_length,
@@ -258,7 +261,8 @@ HanjolumBuildAnswer hanjolum_build(
 
 /*
  * Writes the first flow bytes of a built field to a sheet of 100, whatever it held: each cell's flags, and the
- * directions of the step's window cells. previous is as in hanjolum_sector. The field's corner list is not read.
+ * directions of the step's window cells. previous is as in hanjolum_sector, but here a window too may come without it:
+ * then each window cell points straight across. The field's corner list is not read.
  * Answers its number: 0, or 2, 3, 4 to 8, 12.
  */
 uint8_t hanjolum_flow_new(
