@@ -41,6 +41,13 @@ in-among x (y ∷ l) e = go (eqb y x) refl e (λ t. in-among x l t)
     go true q t f = (0, omega arith, eqb-true y x q)
     go false q t f = let r = f t in (suc (r .0), omega (arith, r .1), r .2)
 
+pub not-in : (x : ℕ) (l : List ℕ) → (Among x l → ⊥) → isIn x l ≡ false
+not-in x l a = go (isIn x l) refl
+  where
+    go : (b : Bool) → isIn x l ≡ b → b ≡ false
+    go true e = absurd (a (in-among x l e))
+    go false e = refl
+
 -- ---- what building leaves
 
 pub zero-stays : {costs cells corners built : List ℕ} → LeastWalks costs cells corners built → (x : ℕ) → low (getD cells x 0) ≡ 0

@@ -28,33 +28,23 @@ use Rattle.integration_field.specs.Word as word
 use Rattle.integration_field.specs.Diagonal.{wallAt, passesWall}
 use Rattle.integration_field.specs.Listed.{listOf}
 use Rattle.integration_field.proofs.Flags.{small-flag}
-use Rattle.integration_field.proofs.Least.{least-walks}
-use Rattle.started_field.specs.StartedCell.{Among, WindowStarted}
 use Rattle.started_field.specs.Started.{started}
-use Rattle.started_field.proofs.Started.{started-field}
 use Rattle.least_walks.specs.Walks.{Wall}
 use Rattle.least_walks.proofs.Ground.{among-mem, mem-among}
 use Rattle.flow_byte.specs.declared.Look.{Look}
 use Rattle.flow_byte.specs.declared.Look.the-variants.{Looking, Taken, Ended}
 use Rattle.flow_bits.specs.Byte.{bitsOf, dirOf, isImpassable}
-use Rattle.flow_byte.specs.New.{isIn, startOf, windowBits, newByte, newBytes}
-use Rattle.flow_byte.specs.Look.{lookedByte, lookAround, pointed, builtByte, flowBuild}
+use Rattle.flow_byte.specs.New.{windowBits, newBytes}
+use Rattle.flow_byte.specs.Look.{lookedByte, lookAround, pointed, flowBuild}
 use Rattle.arrows.specs.Arrows.{Reached, arrow, Away, Cuts, Move, Leads, ends, moves, ArrowsLead}
 use Rattle.arrows.specs.Promise.{WindowSector, builtCells, BuildArrows}
-use Rattle.arrows.proofs.Fall.{is-in, in-among, Sector, value, Plain, window-word, wall-word, by-kind, Lower, falls, rank, rank-less, rank-few}
+use Rattle.arrows.proofs.Fall.{Sector, value, Plain, window-word, wall-word, by-kind, Lower, falls, rank, rank-less, rank-few}
 use Rattle.arrows.proofs.Around.{Sees, differ, near-in, reached-there, reached-back, sees-beside}
 use Rattle.arrows.proofs.Clear.{arrows-clear, target-on}
 use Rattle.arrows.proofs.Look.{Found, found, Nothing, nothing}
 use Rattle.arrows.proofs.Moves.{away, reads-so, away-once}
-use Rattle.arrows.proofs.Bytes.{new-length, Pointed, pointed-is, Kept, portal-kept, window-bits, made-byte, portal-byte}
-
--- a word without flags starts with 0
-small-start : (w : ℕ) → w < 2 ^ 16 → startOf w ≡ 0
-unfolding startOf
-small-start w h = rw (small-flag w 17 (omega arith), small-flag w 19 (omega arith), small-flag w 16 h, small-flag w 25 (omega arith))
-
-small-untaken : (w : ℕ) → w < 2 ^ 16 → (isGoal w || isPortal w) ≡ false
-small-untaken w h = rw (small-flag w 17 (omega arith), small-flag w 19 (omega arith))
+use Rattle.arrows.proofs.Bytes.{new-length, Pointed, pointed-is}
+use Rattle.arrows.proofs.CellBytes.{small-untaken, window-sector, window-byte, window-kept, wall-byte, plain-byte}
 
 module _ (costs window cells corners built : List ℕ) (s : Sector costs window cells corners built) (cost-from : (x : ℕ) → x < 100 → 1 ≤ getD costs x 0)
     (portal : PortalWindow) (has : Bool) (previous : List ℕ) where
@@ -63,40 +53,6 @@ module _ (costs window cells corners built : List ℕ) (s : Sector costs window 
 
   abbrev bytes : List ℕ
   bytes = flowBuild built (newBytes portal window built has previous)
-
-  -- ---- the byte of each kind of cell
-
-  -- what building begins from
-  abbrev newAt : ℕ → ℕ
-  newAt x = newByte portal window (getD built x 0) has previous x
-
-  made : (x : ℕ) → x < 100 → getD bytes x 0 ≡ builtByte built x (newAt x)
-  made = made-byte portal window built has previous
-
-  no-bits : (x : ℕ) → (Among x window → ⊥) → isIn x window ≡ false
-  no-bits x a = go (isIn x window) refl
-    where
-      go : (b : Bool) → isIn x window ≡ b → b ≡ false
-      go true e = absurd (a (in-among x window e))
-      go false e = refl
-
-  window-byte : (x : ℕ) → x < 100 → Among x window → getD built x 0 ≡ 0x80000 → getD bytes x 0 ≡ bitOr 0x90 (windowBits portal has previous x)
-  window-byte x h a e = portal-byte portal window built has previous x h (is-in x window a) e
-
-  window-kept : (x : ℕ) → x < 100 → Among x window → getD built x 0 ≡ 0x80000 → Kept (getD bytes x 0)
-  window-kept x h a e = rw (window-byte x h a e) (portal-kept (windowBits portal has previous x) (window-bits portal has previous x))
-
-  wall-byte : (x : ℕ) → x < 100 → (Among x window → ⊥) → getD built x 0 ≡ 0x200FFFF → getD bytes x 0 ≡ 0xE0
-  unfolding newByte startOf builtByte
-  wall-byte x h a e =
-      let n : newAt x ≡ 0xE0 = rw (e, no-bits x a) in
-      made x h ∙ ap (builtByte built x) n
-
-  plain-byte : (x : ℕ) → Plain s x → getD built x 0 < 2 ^ 16 → getD bytes x 0 ≡ lookedByte 0 (lookAround built x)
-  unfolding newByte builtByte
-  plain-byte x p l =
-      let n : newAt x ≡ 0 = rw (small-start (getD built x 0) l, no-bits x (p .no-window)) in
-      made x (p .inside) ∙ ap (builtByte built x) n
 
   -- ---- a move
 
@@ -141,7 +97,7 @@ module _ (costs window cells corners built : List ℕ) (s : Sector costs window 
       (λ p l. absurd (true≢false (sym t ∙ small-untaken (getD built n 0) l)))
 
   next-of : (x : ℕ) → Plain s x → getD built x 0 < 2 ^ 16 → value s x < 65535 → Next x
-  next-of x p l r = go (lookAround built x) (plain-byte x p l) (found built x (p .inside) reached (value s x) (f .cell) (d .0) (d .1) (d .2) (f .lower))
+  next-of x p l r = go (lookAround built x) (plain-byte s portal has previous x p l) (found built x (p .inside) reached (value s x) (f .cell) (d .0) (d .1) (d .2) (f .lower))
     where
       f : Lower s x
       f = falls s cost-from x p r
@@ -189,7 +145,7 @@ module _ (costs window cells corners built : List ℕ) (s : Sector costs window 
   -- nothing seen from an unreached cell is reached
   plain-unreached : (x : ℕ) → Plain s x → getD built x 0 < 2 ^ 16 → (value s x < 65535 → ⊥) → isImpassable (getD bytes x 0) ≡ true
   unfolding pointed
-  plain-unreached x p l u = rw (plain-byte x p l) (go (lookAround built x) (nothing built x (p .inside) unreached))
+  plain-unreached x p l u = rw (plain-byte s portal has previous x p l) (go (lookAround built x) (nothing built x (p .inside) unreached))
     where
       unreached : (d : CompassDir) (n : ℕ) → Sees built x d n → (low (getD built n 0) ≡ 65535) × ((isGoal (getD built n 0) || isPortal (getD built n 0)) ≡ false)
       unreached d n e =
@@ -207,15 +163,15 @@ module _ (costs window cells corners built : List ℕ) (s : Sector costs window 
 
   marked-cell : (x : ℕ) → x < 100 → isImpassable (getD bytes x 0) ≡ true → Wall costs target x ⊎ (Reached built x → ⊥)
   marked-cell x h m =
-      by-kind s x h (λ a e. absurd (true≢false (sym m ∙ window-kept x h a e .unmarked)))
+      by-kind s x h (λ a e. absurd (true≢false (sym m ∙ window-kept s portal has previous x h a e .unmarked)))
       (λ c a e. inl (record { impassable = c; not-goal = λ g. g; not-window = λ w. a (mem-among x window w) }))
       (λ p l. inr (λ r. (let n = next-of x p l (omega arith) in true≢false (sym m ∙ ap isImpassable (n .byte) ∙ next-pointed n .unmarked))))
 
   cell-marked : (x : ℕ) → x < 100 → Wall costs target x ⊎ (Reached built x → ⊥) → isImpassable (getD bytes x 0) ≡ true
   cell-marked x h (inl w) =
-      by-kind s x h (λ a e. absurd (w .not-window (among-mem x window a))) (λ c a e. ap isImpassable (wall-byte x h a e)) (λ p l. absurd (p .no-wall (w .impassable)))
+      by-kind s x h (λ a e. absurd (w .not-window (among-mem x window a))) (λ c a e. ap isImpassable (wall-byte s portal has previous x h a e)) (λ p l. absurd (p .no-wall (w .impassable)))
   cell-marked x h (inr u) =
-      by-kind s x h (λ a e. absurd (u (omega (arith, ap low e)))) (λ c a e. ap isImpassable (wall-byte x h a e)) (λ p l. plain-unreached x p l (λ v. u (omega arith)))
+      by-kind s x h (λ a e. absurd (u (omega (arith, ap low e)))) (λ c a e. ap isImpassable (wall-byte s portal has previous x h a e)) (λ p l. plain-unreached x p l (λ v. u (omega arith)))
 
   sector-arrows : ArrowsLead costs target built bytes
   sector-arrows = record {
@@ -228,28 +184,23 @@ module _ (costs window cells corners built : List ℕ) (s : Sector costs window 
 
 -- ---- a sector left by a window
 
-module _ (costs window : List ℕ) (w : WindowSector costs (to-window window)) where
-  abbrev cells : List ℕ
-  cells = started costs (to-window window) .field
+-- its cells and corners, and what is known of it
+abbrev cells : List ℕ → List ℕ → List ℕ
+cells costs window = started costs (to-window window) .field
 
-  abbrev corners : List ℕ
-  corners = listOf (started costs (to-window window))
+abbrev corners : List ℕ → List ℕ → List ℕ
+corners costs window = listOf (started costs (to-window window))
 
-  told : WindowStarted costs window cells corners
-  told = started-field costs (w .full) (to-window window) (w .target-in) .cells-are
-
-  inside : (x : ℕ) → List·Memᴰ x corners → x < 100
-  inside x m = let a = mem-among x corners m in omega (arith, told .corner-in (a .0) (a .1), a .2)
-
-  sector : Sector costs window cells corners (builtCells costs (to-window window))
-  sector = record { started = told; least = least-walks costs cells corners (told .full) inside; cost-to = w .byte }
+sector : (costs window : List ℕ) → WindowSector costs (to-window window)
+    → Sector costs window (cells costs window) (corners costs window) (builtCells costs (to-window window))
+sector costs window w = window-sector costs window (w .full) (w .target-in) (w .byte)
 
 pub arrows-lead : (costs : List ℕ) (target : Target) → WindowSector costs target → (portal : PortalWindow) (has : Bool) (previous : List ℕ)
     → ArrowsLead costs target (builtCells costs target)
     (flowBuild (builtCells costs target) (newBytes portal (windowOf target) (builtCells costs target) has previous))
 arrows-lead costs (to-goal goal) w portal has previous = absurd (true≢false (sym (w .by-window)))
 arrows-lead costs (to-window window) w portal has previous =
-    sector-arrows costs window (cells costs window w) (corners costs window w) (builtCells costs (to-window window)) (sector costs window w)
+    sector-arrows costs window (cells costs window) (corners costs window) (builtCells costs (to-window window)) (sector costs window w)
     (λ x h. w .no-zero x h) portal has previous
 
 -- a window cell's byte there: its flags, and the bits of its window
@@ -260,8 +211,7 @@ pub window-flow : (costs window : List ℕ) → WindowSector costs (to-window wi
 window-flow costs window w portal has previous x h m =
     let a = mem-among x window m in
     let s = sector costs window w in
-    window-byte costs window (cells costs window w) (corners costs window w) (builtCells costs (to-window window)) s (λ y l. w .no-zero y l) portal has previous x h a
-    (window-word s x a)
+    window-byte s portal has previous x h a (window-word s x a)
 
 -- for a call that writes what building makes of a sheet of 100 bytes
 pub build-arrows : (cells entry exit : List ℕ) → (length entry ≡ 100 → exit ≡ flowBuild cells entry) → BuildArrows cells entry exit

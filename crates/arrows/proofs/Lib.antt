@@ -4,4 +4,5 @@ pub mod Look
 pub mod Bytes
 pub mod Moves
 pub mod Clear
+pub mod CellBytes
 pub mod Lead

@@ -4,13 +4,17 @@
 --     aims          whatever the cells are: it comes to no direction, or to that of a cell that it sees
 --     found         where all that a look sees is reached, and one cell of it is lower: it comes to a lower cell, or takes one
 --     nothing       where nothing that it sees is reached: it comes to no direction
+--     takes-first   where all that it sees is reached, and some of it is a goal or a portal: it takes the first
+--     ends-least    where all that it sees is reached, none of it a goal or a portal, and one cell strictly the least: it comes to that cell
+--     passes, sees-on   it passes over a direction, whatever it has found so far, exactly where it sees nothing there
 -- Assumes nothing.
 use mathlib.Core.Path.{_≡_, refl, sym, ap, _∙_}
 use mathlib.Core.Bool.{Bool, true, false, true≢false, cond, _||_}
 use mathlib.Core.Logic.{_⊎_, inl, inr}
 use mathlib.Core.List.{List, [], _∷_, List·Memᴰ, List·Memᴰ·cases-cons, List·Memᴰ·not-nil}
-use Prim.Native.Nat.{ℕ, _≤_, _<_}
+use Prim.Native.Nat.{ℕ, _^_, _≤_, _<_}
 use native.Mathlib.Omega.{arith}
+use native.Mathlib.Decide.{ℕ-discrete}
 use lib.Dec.{ltb, eqb}
 use lib.ListN.{getD}
 use borrow.Author.Tests.{ltb-true, ltb-false, eqb-true}
@@ -28,6 +32,38 @@ use Rattle.flow_byte.specs.declared.Look.{Look}
 use Rattle.flow_byte.specs.declared.Look.the-variants.{Looking, Taken, Ended}
 use Rattle.flow_byte.specs.Look.{seen, seenAt, lookAt, lookAlong, lookAround}
 use Rattle.arrows.proofs.Around.{Sees, sees}
+
+-- the first of a list of directions of which something holds
+pub data First (T : CompassDir → Type 0) : List CompassDir → CompassDir → Type 0 where
+  here : {d : CompassDir} {ds : List CompassDir} → T d → First T (d ∷ ds) d
+  later : {d e : CompassDir} {ds : List CompassDir} → (T e → ⊥) → First T ds d → First T (e ∷ ds) d
+
+-- where it holds of one of them, there is a first, of which it holds
+pub first : (T : CompassDir → Type 0) → ((d : CompassDir) → Dec (T d)) → (d : CompassDir) → T d → (ds : List CompassDir) → List·Memᴰ d ds
+    → (e : CompassDir) × First T ds e
+first T decide d t [] m = absurd (List·Memᴰ·not-nil m)
+first T decide d t (c ∷ ds) m = go (decide c) (List·Memᴰ·cases-cons m) (λ k. first T decide d t ds k)
+  where
+    go : Dec (T c) → (d ≡ c) ⊎ List·Memᴰ d ds → (List·Memᴰ d ds → (e : CompassDir) × First T ds e) → (e : CompassDir) × First T (c ∷ ds) e
+    go (yes u) k f = (c, here u)
+    go (no u) (inl q) f = absurd (u (rw (← q) t))
+    go (no u) (inr k) f = let r = f k in (r .0, later u (r .1))
+
+pub first-holds : {T : CompassDir → Type 0} {ds : List CompassDir} {d : CompassDir} → First T ds d → T d
+first-holds (here t) = t
+first-holds (later u f) = first-holds f
+
+-- what holds of the same directions holds first of the same one
+pub first-same : {T S : CompassDir → Type 0} → ((d : CompassDir) → T d → S d) → ((d : CompassDir) → S d → T d)
+    → {ds : List CompassDir} {d : CompassDir} → First T ds d → First S ds d
+first-same to from (here {d = d} t) = here (to d t)
+first-same to from (later {e = e} u f) = later (λ t. u (from e t)) (first-same to from f)
+
+-- a look has come to cell n, or takes it
+abbrev pub LooksAt : List ℕ → ℕ → ℕ → Look → Type 0
+LooksAt cells i n (Looking best value) = Sees cells i best n
+LooksAt cells i n (Taken d) = Sees cells i d n
+LooksAt cells i n (Ended best) = ⊥
 
 module _ (cells : List ℕ) (i : ℕ) (h : i < 100) where
   abbrev at : ℕ → ℕ
@@ -129,6 +165,52 @@ module _ (cells : List ℕ) (i : ℕ) (h : i < 100) where
       kept d best value l s (is-better n p v e) = rw e (inr (n, p))
       kept d best value l s (not-better n p v e) = rw e s
 
+  -- a goal or a portal that is seen is taken
+  takes-at : (d best : CompassDir) (value n : ℕ) → Sees cells i d n → isTaken n ≡ true → lookAt cells i (Looking best value) d ≡ Taken d
+  unfolding seen
+  takes-at d best value n s t = rw (s .steps, index-of-cell n, s .no-wall, s .open-way, t)
+
+  -- in direction d a goal or a portal is seen
+  abbrev pub Takes : CompassDir → Type 0
+  Takes d = (n : ℕ) × Sees cells i d n × (isTaken n ≡ true)
+
+  pub is-taking : (d : CompassDir) → Dec (Takes d)
+  is-taking d = go (came d Zero 65535) refl
+    where
+      left : {l : Look} → lookAt cells i (Looking Zero 65535) d ≡ l → (l ≡ Taken d → ⊥) → Dec (Takes d)
+      left q other = no (λ t. other (sym q ∙ takes-at d Zero 65535 (t .0) (t .1) (t .2)))
+
+      go : {l : Look} → Came d Zero 65535 l → lookAt cells i (Looking Zero 65535) d ≡ l → Dec (Takes d)
+      go (passed p e) q = no (λ t. p (t .0) (t .1))
+      go (is-taken n p t e) q = yes (n, p, t)
+      go (is-ended n p t v e) q = left q (λ f. let z : _≡_ {A = ℕ} 0 1 = cc (e, f) in omega arith)
+      go (is-better n p v e) q = left q (λ f. let z : _≡_ {A = ℕ} 0 1 = cc (e, f) in omega arith)
+      go (not-better n p v e) q = left q (λ f. let z : _≡_ {A = ℕ} 0 1 = cc (e, f) in omega arith)
+
+  -- ---- what is passed over
+
+  -- where nothing is seen, the look goes on as it was
+  pub passes : (d best : CompassDir) (value : ℕ) → ((n : ℕ) → Sees cells i d n → ⊥) → lookAt cells i (Looking best value) d ≡ Looking best value
+  passes d best value none = go (came d best value)
+    where
+      go : {l : Look} → Came d best value l → l ≡ Looking best value
+      go (passed p e) = e
+      go (is-taken n p t e) = absurd (none n p)
+      go (is-ended n p t v e) = absurd (none n p)
+      go (is-better n p v e) = absurd (none n p)
+      go (not-better n p v e) = e
+
+  -- what is seen changes some look: the first, of a value above every cost
+  pub sees-on : (d : CompassDir) (n : ℕ) → Sees cells i d n → lookAt cells i (Looking Zero (2 ^ 16)) d ≡ Looking Zero (2 ^ 16) → ⊥
+  sees-on d n s q = go q (came d Zero (2 ^ 16))
+    where
+      go : {l : Look} → l ≡ Looking Zero (2 ^ 16) → Came d Zero (2 ^ 16) l → ⊥
+      go q (passed p e) = p n s
+      go q (is-taken m p t e) = let z : _≡_ {A = ℕ} 0 1 = cc (q, e) in omega arith
+      go q (is-ended m p t v e) = let z : _≡_ {A = ℕ} 0 1 = cc (q, e) in omega arith
+      go q (is-better m p v e) = let z : low (at m) ≡ 2 ^ 16 = cc (q, e) in omega arith
+      go q (not-better m p v e) = omega arith
+
   -- ---- all that is seen is reached
 
   module _ (reached : (d : CompassDir) (n : ℕ) → Sees cells i d n → low (at n) < 65535) where
@@ -202,6 +284,52 @@ module _ (cells : List ℕ) (i : ℕ) (h : i < 100) where
         go (Looking best value) (inr p) a = (p .0, p .1, omega (arith, p .2))
         go (Taken e) p a = p
         go (Ended e) p a = p
+
+    -- ---- what is taken, and what is strictly least
+
+    -- any other direction leaves it looking
+    goes-on : (d best : CompassDir) (value : ℕ) → (Takes d → ⊥)
+        → (next : CompassDir) × (at-next : ℕ) × (lookAt cells i (Looking best value) d ≡ Looking next at-next)
+    goes-on d best value none = go (came d best value)
+      where
+        go : {l : Look} → Came d best value l → (next : CompassDir) × (at-next : ℕ) × (l ≡ Looking next at-next)
+        go (passed p e) = (best, value, e)
+        go (is-taken n p t e) = absurd (none (n, p, t))
+        go (is-ended n p t v e) = absurd (omega (arith, reached d n p))
+        go (is-better n p v e) = (d, low (at n), e)
+        go (not-better n p v e) = (best, value, e)
+
+    stays-taken : (d : CompassDir) (ds : List CompassDir) → lookAlong cells i ds (Taken d) ≡ Taken d
+    stays-taken d [] = refl
+    stays-taken d (e ∷ ds) = stays-taken d ds
+
+    pub takes-along : {ds : List CompassDir} {d : CompassDir} → First Takes ds d → (best : CompassDir) (value : ℕ)
+        → lookAlong cells i ds (Looking best value) ≡ Taken d
+    takes-along {ds = ds} (here {d = d} {ds = es} t) best value =
+        ap (lookAlong cells i es) (takes-at d best value (t .0) (t .1) (t .2)) ∙ stays-taken d es
+    takes-along {ds = ds} (later {e = e} {ds = es} none f) best value =
+        let g = goes-on e best value none in
+        ap (lookAlong cells i es) (g .2) ∙ takes-along f (g .0) (g .1)
+
+    pub takes-first : {d : CompassDir} → First Takes all d → lookAround cells i ≡ Taken d
+    unfolding lookAround
+    takes-first f = takes-along f Zero 65535
+
+    module _ (n : ℕ) (least : (d : CompassDir) (m : ℕ) → Sees cells i d m → (m ≡ n → ⊥) → low (at n) < low (at m)) where
+      pub ends-least : (d : CompassDir) → List·Memᴰ d all → Sees cells i d n → ((d : CompassDir) → Takes d → ⊥) → LooksAt cells i n (lookAround cells i)
+      unfolding lookAround
+      ends-least d k s none =
+          let l = Looking Zero 65535 in
+          go (lookAlong cells i all l) (sound all l (inl (refl, refl))) (noted n d s all k l)
+        where
+          go : (l : Look) → Sound l → AtMost (low (at n)) l → LooksAt cells i n l
+          go (Looking best value) (inl z) a = absurd (omega (arith, z .1, reached d n s))
+          go (Looking best value) (inr p) a = elim (ℕ-discrete (p .0) n) [
+            | yes q ↦ rw (← q) (p .1)
+            | no q ↦ absurd (omega (arith, least best (p .0) (p .1) q, p .2))
+          ]
+          go (Taken e) p a = absurd (none e p)
+          go (Ended e) p a = absurd p
 
   -- ---- nothing that is seen is reached
 
