@@ -15,7 +15,7 @@ use lib.Dec.{eqb}
 use borrow.Author.Tests.{eq-eqb, ne-eqb}
 use Rattle.utilities.specs.declared.CompassDir.{CompassDir}
 use Rattle.utilities.specs.declared.CompassDir.the-variants.{North, East, South, West, NorthEast, SouthEast, SouthWest, NorthWest, Zero}
-use Rattle.utilities.specs.Compass.{orthogonal, all}
+use Rattle.utilities.specs.Compass.{points, orthogonal, all}
 use Rattle.fields.specs.declared.FieldCell.{FieldCell}
 use Rattle.fields.specs.declared.Stepped.the-variants.{Cell}
 use Rattle.fields.specs.Cell.{indexOf, cellAt, stepped}
@@ -121,6 +121,18 @@ module _ {costs window cells corners built : List ℕ} (s : Sector costs window 
       go (around m a b w) = spreads s m i (beside-flip (cellAt i) (cellAt m) a) (spreads s n m (beside-flip (cellAt m) (cellAt n) b) v w) o
 
 -- ---- what is seen
+
+-- a direction that points somewhere is one of the eight
+pub pointing-in : (d : CompassDir) → points d ≡ true → List·Memᴰ d all
+pointing-in North e = List·Memᴰ·head refl
+pointing-in East e = List·Memᴰ·tail (List·Memᴰ·head refl)
+pointing-in South e = List·Memᴰ·tail (List·Memᴰ·tail (List·Memᴰ·head refl))
+pointing-in West e = List·Memᴰ·tail (List·Memᴰ·tail (List·Memᴰ·tail (List·Memᴰ·head refl)))
+pointing-in NorthEast e = List·Memᴰ·tail (List·Memᴰ·tail (List·Memᴰ·tail (List·Memᴰ·tail (List·Memᴰ·head refl))))
+pointing-in SouthEast e = List·Memᴰ·tail (List·Memᴰ·tail (List·Memᴰ·tail (List·Memᴰ·tail (List·Memᴰ·tail (List·Memᴰ·head refl)))))
+pointing-in SouthWest e = List·Memᴰ·tail (List·Memᴰ·tail (List·Memᴰ·tail (List·Memᴰ·tail (List·Memᴰ·tail (List·Memᴰ·tail (List·Memᴰ·head refl))))))
+pointing-in NorthWest e = List·Memᴰ·tail (List·Memᴰ·tail (List·Memᴰ·tail (List·Memᴰ·tail (List·Memᴰ·tail (List·Memᴰ·tail (List·Memᴰ·tail (List·Memᴰ·head refl)))))))
+pointing-in Zero e = absurd (true≢false (sym e))
 
 module _ (cells : List ℕ) (i : ℕ) (h : i < 100) where
   pub sees : (d : CompassDir) (c : FieldCell) → stepped (cellAt i) d ≡ Cell c → wallAt cells (indexOf c) ≡ false → passesWall cells i (indexOf c) ≡ false

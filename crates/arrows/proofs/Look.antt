@@ -10,7 +10,7 @@
 -- Assumes nothing.
 use mathlib.Core.Path.{_≡_, refl, sym, ap, _∙_}
 use mathlib.Core.Bool.{Bool, true, false, true≢false, cond, _||_}
-use mathlib.Core.Logic.{_⊎_, inl, inr}
+use mathlib.Core.Logic.{_⊎_, inl, inr, ⊎-elim}
 use mathlib.Core.List.{List, [], _∷_, List·Memᴰ, List·Memᴰ·cases-cons, List·Memᴰ·not-nil}
 use Prim.Native.Nat.{ℕ, _^_, _≤_, _<_}
 use native.Mathlib.Omega.{arith}
@@ -38,16 +38,17 @@ pub data First (T : CompassDir → Type 0) : List CompassDir → CompassDir → 
   here : {d : CompassDir} {ds : List CompassDir} → T d → First T (d ∷ ds) d
   later : {d e : CompassDir} {ds : List CompassDir} → (T e → ⊥) → First T ds d → First T (e ∷ ds) d
 
--- where it holds of one of them, there is a first, of which it holds
-pub first : (T : CompassDir → Type 0) → ((d : CompassDir) → Dec (T d)) → (d : CompassDir) → T d → (ds : List CompassDir) → List·Memᴰ d ds
-    → (e : CompassDir) × First T ds e
-first T decide d t [] m = absurd (List·Memᴰ·not-nil m)
-first T decide d t (c ∷ ds) m = go (decide c) (List·Memᴰ·cases-cons m) (λ k. first T decide d t ds k)
+-- it holds of a first of them, or of none
+pub first-or-none : (T : CompassDir → Type 0) → ((d : CompassDir) → Dec (T d)) → (ds : List CompassDir)
+    → ((d : CompassDir) × First T ds d) ⊎ ((d : CompassDir) → List·Memᴰ d ds → T d → ⊥)
+first-or-none T decide [] = inr (λ d m t. absurd (List·Memᴰ·not-nil m))
+first-or-none T decide (c ∷ ds) = go (decide c) (first-or-none T decide ds)
   where
-    go : Dec (T c) → (d ≡ c) ⊎ List·Memᴰ d ds → (List·Memᴰ d ds → (e : CompassDir) × First T ds e) → (e : CompassDir) × First T (c ∷ ds) e
-    go (yes u) k f = (c, here u)
-    go (no u) (inl q) f = absurd (u (rw (← q) t))
-    go (no u) (inr k) f = let r = f k in (r .0, later u (r .1))
+    go : Dec (T c) → ((d : CompassDir) × First T ds d) ⊎ ((d : CompassDir) → List·Memᴰ d ds → T d → ⊥)
+        → ((d : CompassDir) × First T (c ∷ ds) d) ⊎ ((d : CompassDir) → List·Memᴰ d (c ∷ ds) → T d → ⊥)
+    go (yes t) r = inl (c, here t)
+    go (no u) (inl f) = inl (f .0, later u (f .1))
+    go (no u) (inr f) = inr (λ d m t. ⊎-elim (λ (q : d ≡ c). u (rw (← q) t)) (λ (k : List·Memᴰ d ds). f d k t) (List·Memᴰ·cases-cons m))
 
 pub first-holds : {T : CompassDir → Type 0} {ds : List CompassDir} {d : CompassDir} → First T ds d → T d
 first-holds (here t) = t

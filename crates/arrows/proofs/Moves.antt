@@ -2,10 +2,11 @@
 --     away         where a step in a direction arrives, by that direction's bits
 --     reads-so     the direction that a byte reads as goes where its bits point
 --     away-once    an arrow points at one cell
+--     away-bits    one arrow points at a cell
 -- Assumes nothing.
 use mathlib.Core.Path.{_≡_, refl, sym, subst, _∙_}
 use mathlib.Core.Bool.{Bool, true, false, not, _&&_, _||_}
-use Prim.Native.Nat.{ℕ, _+_, _/_, _%_, _<_}
+use Prim.Native.Nat.{ℕ, _+_, _*_, _/_, _%_, _<_, _≤_}
 use native.Mathlib.Omega.{arith}
 use lib.Dec.{ltb, leb, eqb}
 use borrow.Author.Tests.{ltb-true, lt-ltb, le-leb, eqb-true}
@@ -18,7 +19,7 @@ use Rattle.fields.specs.declared.Stepped.the-variants.{Cell}
 use Rattle.fields.specs.Cell.{cellAt, stepped}
 use Rattle.fields.specs.Steps.{Arrives}
 use Rattle.fields.proofs.Steps.{steps-to, cell-inside}
-use Rattle.route.proofs.Below.{holds-at}
+use Rattle.route.proofs.Below.{holds-at, same-at}
 use Rattle.flow_bits.specs.Byte.{bitsOf, dirWith, dirOf}
 use Rattle.arrows.specs.Arrows.{northward, eastward, southward, westward, Away}
 
@@ -90,3 +91,25 @@ reads-so byte x y h w =
 
 pub away-once : (a x y z : ℕ) → Away a x y → Away a x z → y ≡ z
 away-once a x y z v w = omega (arith, v .rows, v .columns, w .rows, w .columns)
+
+-- of two opposite sides, at most one is meant: so where they lead decides which
+one-side : (p q n m s t : ℕ) → p + n ≡ q + s → p + m ≡ q + t → n + s ≤ 1 → m + t ≤ 1 → (n ≡ m) × (s ≡ t)
+one-side p q n m s t e f g h = (omega arith, omega arith)
+
+-- four bits are their sum
+bitsSum : ℕ → ℕ
+bitsSum a = northward a + eastward a * 2 + southward a * 4 + westward a * 8
+
+bits-sum : (a : ℕ) → a < 16 → a ≡ bitsSum a
+unfolding bitsSum
+bits-sum = same-at 16 (λ a. a) bitsSum refl
+
+pub away-bits : (a e x y : ℕ) → a < 16 → e < 16 → Away a x y → Away e x y → a ≡ e
+unfolding bitsSum
+away-bits a e x y l m v w =
+    let r = one-side (y / 10) (x / 10) (northward a) (northward e) (southward a) (southward e)
+    (v .rows) (w .rows) (v .not-north-south) (w .not-north-south) in
+    let c = one-side (y % 10) (x % 10) (westward a) (westward e) (eastward a) (eastward e)
+    (v .columns) (w .columns) (omega (arith, v .not-east-west)) (omega (arith, w .not-east-west)) in
+    let same : bitsSum a ≡ bitsSum e = rw (r .0, r .1, c .0, c .1) in
+    bits-sum a l ∙ same ∙ sym (bits-sum e m)

@@ -1,1 +1,6 @@
 pub mod Floors
+pub mod Permitted
+pub mod Marks
+pub mod Sure
+pub mod Promise
+pub mod Numbers
