@@ -4,3 +4,4 @@ pub mod Marks
 pub mod Sure
 pub mod Promise
 pub mod Numbers
+pub mod Examples

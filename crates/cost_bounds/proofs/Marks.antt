@@ -29,11 +29,15 @@ use Rattle.cost_bounds.proofs.Permitted.{listed-told, same-permitted}
 -- ---- the tests of a list
 
 module _ (p : ℕ → Bool) where
-  pub some-told : (l : List ℕ) → someOf p l ≡ true → (x : ℕ) × List·Memᴰ x l × (p x ≡ true)
+  -- an entry of a list that passes
+  abbrev pub Passing : List ℕ → Type 0
+  Passing l = (x : ℕ) × List·Memᴰ x l × (p x ≡ true)
+
+  pub some-told : (l : List ℕ) → someOf p l ≡ true → Passing l
   some-told [] e = absurd (true≢false (sym e))
   some-told (y ∷ l) e = go (p y) refl e (some-told l)
     where
-      go : (b : Bool) → p y ≡ b → (b || someOf p l) ≡ true → (someOf p l ≡ true → (x : ℕ) × List·Memᴰ x l × (p x ≡ true)) → (x : ℕ) × List·Memᴰ x (y ∷ l) × (p x ≡ true)
+      go : (b : Bool) → p y ≡ b → (b || someOf p l) ≡ true → (someOf p l ≡ true → Passing l) → Passing (y ∷ l)
       go true q t f = (y, List·Memᴰ·head refl, q)
       go false q t f = let r = f t in (r .0, List·Memᴰ·tail (r .1), r .2)
 
@@ -149,8 +153,8 @@ module _ {costs window cells corners built : List ℕ} (s : Sector costs window 
 
 -- ---- floors with the same walls
 
-module _ {a b window cells corners on-a on-b : List ℕ} (s : Sector a window cells corners on-a) (t : Sector b window cells corners on-b) (least greatest : List ℕ)
-    (x : ℕ) (h : x < 100) where
+module _ {a b window cells corners on-a on-b : List ℕ} (s : Sector a window cells corners on-a) (t : Sector b window cells corners on-b)
+    (least greatest : List ℕ) (x : ℕ) (h : x < 100) where
   same-flag : (n : ℕ) → n < 100 → wallAt on-a n ≡ wallAt on-b n
   same-flag n l = wall-known s n l ∙ sym (wall-known t n l)
 

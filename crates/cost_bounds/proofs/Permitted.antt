@@ -73,7 +73,8 @@ module _ (cells : List ℕ) (i : ℕ) (h : i < 100) where
       later r = (r .0, List·Memᴰ·tail (r .1), r .2)
 
       tested : (c : FieldCell) → stepped (cellAt i) d ≡ Cell c → (b : Bool) → isPassedOver cells i (indexOf c) ≡ b
-          → List·Memᴰ n (consIf (not b) (indexOf c) (permittedAlong cells i ds)) → (List·Memᴰ n (permittedAlong cells i ds) → SeenAlong (d ∷ ds) n) → SeenAlong (d ∷ ds) n
+          → List·Memᴰ n (consIf (not b) (indexOf c) (permittedAlong cells i ds))
+          → (List·Memᴰ n (permittedAlong cells i ds) → SeenAlong (d ∷ ds) n) → SeenAlong (d ∷ ds) n
       tested c e true q k f = f k
       tested c e false q k f = found (List·Memᴰ·cases-cons k)
         where

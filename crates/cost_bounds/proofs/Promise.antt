@@ -129,7 +129,9 @@ module _ (low high window : List ℕ) (r : Ranged low high) (window-in : WindowI
         by-kind s x h
         (λ a e. absurd (c .no-window (among-mem x window a)))
         (λ w a e. absurd (c .no-wall (record { impassable = wall-low costs b x h w; not-goal = λ g. g; not-window = λ m. a (mem-among x window m) })))
-        (λ p l. points-at s x h portal has previous p l (k .neighbour) (k .looks s (within costs b) (small-flag (getD (builtCells costs target) x 0) 25 (omega arith))))
+        (λ p l.
+        let no-wall = small-flag (getD (builtCells costs target) x 0) 25 (omega arith) in
+        points-at s x h portal has previous p l (k .neighbour) (k .looks s (within costs b) no-wall))
 
     sure-arrow : (x : ℕ) → x < 100 → SureLow x → SureArrow low high target bytesOn least greatest x
     sure-arrow x h c =
@@ -144,7 +146,8 @@ module _ (low high window : List ℕ) (r : Ranged low high) (window-in : WindowI
           way = bitsOf d;
           away = away d x (k .neighbour) a;
           same = λ costs b has previous.
-              away-bits (arrow (bytesOn costs has previous) x) (bitsOf d) x (k .neighbour) (omega arith) few (points x h c k costs b has previous) (away d x (k .neighbour) a);
+              away-bits (arrow (bytesOn costs has previous) x) (bitsOf d) x (k .neighbour) (omega arith) few (points x h c k costs b has previous)
+              (away d x (k .neighbour) a);
         }
 
     marks : SureMarks low high target bytesOn least greatest (sureOn low high target)

@@ -37,8 +37,8 @@ use Rattle.cost_bounds.proofs.Permitted.{permitted-sees, sees-permitted
 -- ---- on one floor
 
 module _ {costs window cells corners built : List ℕ} (s : Sector costs window cells corners built) (x : ℕ) (h : x < 100) where
-  pub points-at : (portal : PortalWindow) (has : Bool) (previous : List ℕ) → Plain s x → getD built x 0 < 2 ^ 16 → (n : ℕ) → LooksAt built x n (lookAround built x)
-      → Away (arrow (flowBuild built (newBytes portal window built has previous)) x) x n
+  pub points-at : (portal : PortalWindow) (has : Bool) (previous : List ℕ) → Plain s x → getD built x 0 < 2 ^ 16
+      → (n : ℕ) → LooksAt built x n (lookAround built x) → Away (arrow (flowBuild built (newBytes portal window built has previous)) x) x n
   points-at portal has previous p l n looks = go (lookAround built x) (plain-byte s portal has previous x p l) looks
     where
       bytes : List ℕ
