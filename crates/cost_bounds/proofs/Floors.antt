@@ -2,7 +2,7 @@
 --     started-same        the started field of a window is the same on floors with the same walls
 --     not-dearer          where no cell costs more, none has a greater built cost
 --     reached-too         what is reached on one such floor is reached on the other: the sum of a walk over at most 100 cells stays below 65535
---     wall-known, taken-known   the flags of a built cell: a wall's, and a window cell's, whatever the costs
+--     wall-known, taken-known, portal-known   the flags of a built cell: a wall's, and a window cell's, whatever the costs
 -- Assumes nothing.
 use mathlib.Core.Path.{_≡_, refl, sym, ap, _∙_}
 use mathlib.Core.Bool.{Bool, true, false, cond, _||_}
@@ -94,6 +94,13 @@ module _ {costs window cells corners built : List ℕ} (s : Sector costs window 
       (λ a e. ap (λ (w : ℕ). isGoal w || isPortal w) e ∙ sym (is-in x window a))
       (λ c a e. ap (λ (w : ℕ). isGoal w || isPortal w) e ∙ sym (not-in x window a))
       (λ p l. small-untaken (getD built x 0) l ∙ sym (not-in x window (p .no-window)))
+
+  pub portal-known : isPortal (getD built x 0) ≡ isIn x window
+  portal-known =
+      by-kind s x h
+      (λ a e. ap isPortal e ∙ sym (is-in x window a))
+      (λ c a e. ap isPortal e ∙ sym (not-in x window a))
+      (λ p l. small-flag (getD built x 0) 19 (omega arith) ∙ sym (not-in x window (p .no-window)))
 
 -- ---- reached on one floor, reached on the other
 

@@ -1,5 +1,6 @@
 -- What is promised of bounds and of sure cells, of the definitions.
 --     cost-bounds, sure-marks      all that is promised, for two floors with a from-to in each cell and a target that is a window
+--     portals                      the window cells of a built field are those flagged as portals
 -- Assumes nothing.
 use mathlib.Core.Path.{_≡_, sym, subst, _∙_}
 use mathlib.Core.Bool.{Bool, true, false, true≢false}
@@ -13,12 +14,13 @@ use Rattle.fields.proofs.Steps.{stepped-cell}
 use Rattle.route.specs.declared.PortalWindow.{PortalWindow}
 use Rattle.route.specs.Target.{Target, to-goal, to-window, windowOf, byWindow, TargetIn, WindowIn}
 use Rattle.integration_field.specs.declared.IntegrationField.{IntegrationField}
+use Rattle.integration_field.specs.Word.{isPortal}
 use Rattle.integration_field.specs.Listed.{listOf}
 use Rattle.integration_field.proofs.Flags.{small-flag}
 use Rattle.started_field.specs.Started.{started}
 use Rattle.least_walks.proofs.Ground.{among-mem, mem-among}
 use Rattle.flow_bits.specs.Byte.{bitsOf}
-use Rattle.flow_byte.specs.New.{newBytes}
+use Rattle.flow_byte.specs.New.{isIn, newBytes}
 use Rattle.flow_byte.specs.Look.{flowBuild}
 use Rattle.arrows.specs.Arrows.{builtCost, arrow, Away}
 use Rattle.arrows.specs.Promise.{builtCells}
@@ -29,7 +31,7 @@ use Rattle.arrows.proofs.Moves.{away, away-bits}
 use Rattle.arrows.proofs.CellBytes.{window-sector}
 use Rattle.cost_bounds.specs.Bounds.{costsOn, isSure, sureOn}
 use Rattle.cost_bounds.specs.Promise.{FloorBetween, CostBounds, SureCell, SureArrow, SureMarks}
-use Rattle.cost_bounds.proofs.Floors.{started-same, not-dearer, reached-too}
+use Rattle.cost_bounds.proofs.Floors.{started-same, not-dearer, reached-too, portal-known}
 use Rattle.cost_bounds.proofs.Marks.{sure-told, same-sure}
 use Rattle.cost_bounds.proofs.Sure.{points-at, Within, Chosen, chosen}
 
@@ -169,3 +171,9 @@ pub sure-marks : (low high : List ℕ) (target : Target) → Ranged low high →
     (costsOn low target) (costsOn high target) (sureOn low high target)
 sure-marks low high (to-goal goal) r i w portal = absurd (true≢false (sym w))
 sure-marks low high (to-window window) r i w portal = marks low high window r i portal
+
+-- the window cells are those flagged as portals
+pub portals : (costs : List ℕ) (target : Target) → length costs ≡ 100 → TargetIn target → byWindow target ≡ true
+    → ((x : ℕ) → x < 100 → getD costs x 0 ≤ 255) → (n : ℕ) → n < 100 → isPortal (getD (builtCells costs target) n 0) ≡ isIn n (windowOf target)
+portals costs (to-goal goal) full i w byte n h = absurd (true≢false (sym w))
+portals costs (to-window window) full i w byte n h = portal-known (window-sector costs window full i byte) n h

@@ -1,0 +1,127 @@
+// The call for bounds: its number, and for two floors and a window step each cell's least and greatest built cost over all floors between them, and
+// which cells are sure.
+use cost_bounds::Bounds;
+use route::RouteStep;
+use route::Target;
+ghost use mathlib.Core.Path.{_≡_};
+ghost use mathlib.Core.Bool.{not, _&&_, _||_};
+ghost use lib.Dec.{ltb, eqb};
+ghost use lib.ListN.{length};
+ghost use Rattle.route.specs.Window.{below};
+ghost use Rattle.route.specs.Target.{targetOf};
+ghost use Rattle.route.specs.Inner.{heldTarget, TargetHeld};
+ghost use Rattle.arrows.specs.Promise.{builtCells};
+ghost use Rattle.cost_bounds.specs.Bounds.{someOf, noRange, boundsNumber, refusedBounds, acceptedBounds, boundsAnswer};
+ghost use Rattle.cost_bounds.specs.Promise.{CostBounds, SureMarks};
+ghost use Rattle.bounds.specs.Inner.{FloorsReady};
+ghost use Rattle.bounds.specs.Promise.{floorBytes};
+
+// Whether two costs are no from-to: the first above the second, or 255 in only one of the two.
+fn is_no_range(from: u8, to: u8) -> bool
+    ensures { λ r. ⌜ r ≡ (ltb to from || ((eqb from 255 && not (eqb to 255)) || (eqb to 255 && not (eqb from 255)))) ⌝ }
+{
+    if to < from {
+        return true;
+    }
+    if from == 255 {
+        return to != 255;
+    }
+    to == 255
+}
+
+// Whether the costs of some cell are no from-to.
+fn has_no_range(low: &[u8], high: &[u8]) -> bool
+    requires { ⌜ (length (now low) ≡ 100) × (length (now high) ≡ 100) ⌝ }
+    ensures { λ r. ⌜ r ≡ someOf (noRange (now (low .entry)) (now (high .entry))) (below 100) ⌝ }
+{
+    let mut i = 0;
+    while i < 100 {
+        if is_no_range(low[i], high[i]) {
+            return true;
+        }
+        i += 1;
+    }
+    false
+}
+
+// The number of the table: 1 for either floor, 3 to 8, 16 on either floor, then 18.
+fn bounds_number(low: &[u8], high: &[u8], step: &[u8]) -> u8
+    ensures { λ r. ⌜ r ≡ boundsNumber (now (low .entry)) (now (high .entry)) (now (step .entry)) ⌝ }
+{
+    if low.len() != 100 {
+        return 1;
+    }
+    if high.len() != 100 {
+        return 1;
+    }
+    let on_low = step_numbers::step_number_on(low, step);
+    if on_low != 0 {
+        return on_low;
+    }
+    let on_high = step_numbers::step_number_on(high, step);
+    if on_high != 0 {
+        return on_high;
+    }
+    if route::byte_at(step, 2) != 1 {
+        return 18;
+    }
+    if has_no_range(low, high) {
+        return 18;
+    }
+    0
+}
+
+// A floor's field, started from a target and built: its cells.
+fn built_on(costs: &[u8], target: Target) -> [u32; 100]
+    requires { ⌜ (length (now costs) ≡ 100) × (TargetHeld target) ⌝ }
+    ensures { λ r. ⌜ r ≡ builtCells (now (costs .entry)) (heldTarget target) ⌝ }
+{
+    let field = integration_init::start(costs, target);
+    let answer = integration_build::build(costs, field);
+    let built = answer.field;
+    built.field
+}
+
+// A refused answer: its number, and every other part zero.
+fn refused(number: u8) -> Bounds
+    ensures { λ r. ⌜ r ≡ refusedBounds number ⌝ }
+{
+    Bounds {
+        number,
+        least: [0; 100],
+        greatest: [0; 100],
+        sure: [false; 100],
+    }
+}
+
+// The run over two floors and a window: the costs on each, and the cells that are sure by them.
+fn run(low: &[u8], high: &[u8], target: Target) -> Bounds
+    requires { ⌜ FloorsReady (now low) (now high) target ⌝ }
+    ensures { λ r. ⌜ r ≡ acceptedBounds (now (low .entry)) (now (high .entry)) (heldTarget target) ⌝ }
+{
+    let cells = built_on(low, target);
+    let least = sure_cells::costs_of(&cells);
+    let other = built_on(high, target);
+    let greatest = sure_cells::costs_of(&other);
+    let sure = sure_cells::sure_cells(&cells, &least, &greatest);
+    Bounds {
+        number: 0,
+        least,
+        greatest,
+        sure,
+    }
+}
+
+// The call for bounds: nothing that is lent is written.
+pub fn bounds(low: &[u8], high: &[u8], step: &[u8]) -> Bounds
+    ensures answer { λ r. ⌜ r ≡ boundsAnswer (now (low .entry)) (now (high .entry)) (now (step .entry)) ⌝ }
+    ensures bounded { λ r. ⌜ (r .number ≡ 0 → CostBounds (now (low .entry)) (now (high .entry)) (targetOf (now (step .entry))) (r .least) (r .greatest)) ⌝ }
+    ensures sure { λ r. ⌜ (r .number ≡ 0 → SureMarks (now (low .entry)) (now (high .entry)) (targetOf (now (step .entry))) (floorBytes (now (step .entry))) (r .least) (r .greatest) (r .sure)) ⌝ }
+{
+    let number = bounds_number(low, high, step);
+    if number != 0 {
+        return refused(number);
+    }
+    let target = RouteStep::new(step).as_target();
+    run(low, high, target)
+}
