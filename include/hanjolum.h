@@ -58,13 +58,14 @@
  *     13  a column or row outside 0 to 9
  *     14  leg file: mark, version, count or length wrong
  *     15  leg: a window with no counting cell, found when its step is planned, after 10
+ *     18  bounds: a step without window, low above high somewhere, or 255 in only one of the two; after 16
  * In a leg 4 to 8 and 16 are judged for one step before the next, 16 on the costs of the step's own sector, and for every
  * cell of a window, also for one that would not count. The writer of a leg file judges 3 as a leg does, and then 2 for a
- * buffer that is not exactly as long as the file.
+ * buffer that is not exactly as long as the file. The call for bounds judges 1 for either floor, and 16 on both.
  *
  * Time and stack.  Every call ends, on all input. Each wave is one call on the stack, of 1,280 bytes in the compiled
  * archive, and there are at most 101 at a time: no call needs as much as 150,000 bytes (read off the archive, not proved).
- * Give a thread that calls sector, leg, init or build 256 KB.
+ * Give a thread that calls sector, leg, bounds, init or build 256 KB.
  */
 #ifndef HANJOLUM_H
 #define HANJOLUM_H
@@ -172,6 +173,14 @@ typedef struct {
     uint8_t goal;
 } HanjolumPracticeFloor;
 
+/* Bounds of the built costs of each cell, by index, and whether the cell is sure. */
+typedef struct {
+    uint8_t number;
+    uint32_t least[100];
+    uint32_t greatest[100];
+    bool sure[100];
+} HanjolumBounds;
+
 /*
  * Plans one sector: starts the field of a step on 100 cost bytes, builds it, and writes its 100 flow bytes to the sheet,
  * whatever they were before. Answers the built field and its wave count.
@@ -193,6 +202,25 @@ HanjolumBuildAnswer hanjolum_sector(
     bool has_previous,
     const uint32_t *previous, size_t previous_length,
     uint8_t *sheet, size_t sheet_length);
+
+/*
+ * Bounds where costs are known only as from-to: two cost fields of 100 bytes, low and high, and a step with a window. A
+ * floor between them costs, in each cell, at least what low and at most what high says; a cell is a wall (255) on both or
+ * on neither. Costs of 0 are taken.
+ * Answers for each cell the least and the greatest built cost over all floors between: no floor between has a lower or a
+ * higher one, and low itself has the least, high itself the greatest. 65535 is a wall, or a cell that nothing reaches; a
+ * cell that is reached on one floor between is reached on all. A window cell has 0.
+ * A neighbour of a cell is permitted if the look for arrows does not pass it over: it lies in the sector, is no wall, and
+ * no walls bar the diagonal move to it. A cell is sure exactly if a permitted neighbour is a window cell, or if the greatest
+ * cost of one reached, permitted neighbour is strictly below the least cost of all other permitted ones; walls and window
+ * cells are not marked. On every floor between, and with any previous field or none, the arrow of a sure cell is the same.
+ * A cell that is not marked may have one arrow on all floors as well.
+ * Writes nothing. Numbers 1, 3, 4 to 8, 16, 18.
+ */
+HanjolumBounds hanjolum_bounds(
+    const uint8_t *low, size_t low_length,
+    const uint8_t *high, size_t high_length,
+    const uint8_t *step, size_t step_length);
 
 /*
  * Plans a leg of 1 to 16 steps over a floor, from the goal back: the first step has the goal, each later one a window

@@ -1,4 +1,5 @@
 // The library that others link. Each export hands on to the call of its name, and promises the same.
+use cost_bounds::Bounds;
 use fields::FieldCell;
 use integration_field::BuildAnswer;
 use integration_field::IntegrationField;
@@ -26,6 +27,9 @@ ghost use Rattle.flow_new.specs.Flow.{newNumber, newSheet};
 ghost use Rattle.flow_build.specs.Flow.{buildNumber, buildSheet};
 ghost use Rattle.sector.specs.Sector.{sectorAnswer, sectorSheet};
 ghost use Rattle.sector.specs.Promise.{Planned};
+ghost use Rattle.cost_bounds.specs.Bounds.{boundsAnswer};
+ghost use Rattle.cost_bounds.specs.Promise.{CostBounds, SureMarks};
+ghost use Rattle.bounds.specs.Promise.{floorBytes};
 ghost use Rattle.leg_plan.specs.Leg.{stepsOf, legNumber, legSheet};
 ghost use Rattle.leg_plan.specs.Promise.{LegPlanned};
 ghost use Rattle.journey.specs.Journey.{LegArrives};
@@ -48,6 +52,16 @@ pub extern "C" fn hanjolum_sector(
     ensures planned { λ r. ⌜ (r .number ≡ 0 → Planned (now (costs .entry)) (targetOf (now (step .entry))) (r .field .field) (r .waves) (now (sheet .exit))) ⌝ }
 {
     sector::plan_sector(costs, step, has_previous, previous, sheet)
+}
+
+// The least and greatest built costs over all floors between two, and the cells that are sure, or number 1, 3, 4 to 8, 16, or 18.
+#[no_mangle]
+pub extern "C" fn hanjolum_bounds(low: &[u8], high: &[u8], step: &[u8]) -> Bounds
+    ensures answer { λ r. ⌜ r ≡ boundsAnswer (now (low .entry)) (now (high .entry)) (now (step .entry)) ⌝ }
+    ensures bounded { λ r. ⌜ (r .number ≡ 0 → CostBounds (now (low .entry)) (now (high .entry)) (targetOf (now (step .entry))) (r .least) (r .greatest)) ⌝ }
+    ensures sure { λ r. ⌜ (r .number ≡ 0 → SureMarks (now (low .entry)) (now (high .entry)) (targetOf (now (step .entry))) (floorBytes (now (step .entry))) (r .least) (r .greatest) (r .sure)) ⌝ }
+{
+    bounds::bounds(low, high, step)
 }
 
 // A leg of one to sixteen steps, planned onto the sheet of a floor: 0, or number 1 to 10, 15, or 16.
