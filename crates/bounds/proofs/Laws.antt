@@ -66,7 +66,9 @@ module _ (low high step : List ℕ) where
       × ((r .number ≡ 0 → CostBounds low high (targetOf step) (r .least) (r .greatest))
       × (r .number ≡ 0 → SureMarks low high (targetOf step) (floorBytes step) (r .least) (r .greatest) (r .sure)))
 
-  pub refuses : (n : ℕ) → n ≡ boundsNumber low high step → (n ≡ 0 → ⊥) → (r : Bounds) → r ≡ refusedBounds n → Promised r
+  -- of a refused call nothing is promised but its answer, whatever is promised of an accepted one
+  pub refuses : {Bounded Sure : Type 0} → (n : ℕ) → n ≡ boundsNumber low high step → (n ≡ 0 → ⊥) → (r : Bounds) → r ≡ refusedBounds n
+      → (r ≡ boundsAnswer low high step) × ((r .number ≡ 0 → Bounded) × (r .number ≡ 0 → Sure))
   refuses n e h r q =
       let z : r .number ≡ n = ap (λ (b : Bounds). b .number) q in
       (q ∙ rw (← e, ne-eqb n 0 h), (λ f. absurd (h (sym z ∙ f)), λ f. absurd (h (sym z ∙ f))))

@@ -1,7 +1,7 @@
+pub mod Examples
 pub mod Floors
 pub mod Permitted
 pub mod Marks
 pub mod Sure
 pub mod Promise
 pub mod Numbers
-pub mod Examples

@@ -54,10 +54,10 @@ module _ (low high window : List ℕ) (r : Ranged low high) (window-in : WindowI
   greatest = costsOn high target
 
   low-between : FloorBetween low high low
-  low-between = record { full = r .low-full; not-below = λ x h. omega arith; not-above = λ x h. r .ordered x h }
+  low-between = record { full = r .low-full; not-below = λ x h. omega arith; not-above = λ x h. omega (arith, r .ordered x h, r .byte x h) }
 
   high-between : FloorBetween low high high
-  high-between = record { full = r .high-full; not-below = λ x h. r .ordered x h; not-above = λ x h. omega arith }
+  high-between = record { full = r .high-full; not-below = λ x h. omega (arith, r .ordered x h); not-above = λ x h. omega (arith, r .byte x h) }
 
   -- ---- a floor between
 
