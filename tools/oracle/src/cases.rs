@@ -13,7 +13,7 @@ pub enum Ask {
 }
 
 /// An input. A call reads the parts that it has, the others stay as `Case::of` leaves them. A leg's file is lent as
-/// `steps` to be read, and as `sheet` to be written.
+/// `steps` to be read, and as `sheet` to be written; the low one of two floors is lent as `costs`.
 #[derive(Clone, PartialEq, Debug)]
 pub struct Case {
     pub ask: Ask,
@@ -24,6 +24,8 @@ pub struct Case {
     /// The seed of a practice floor.
     pub seed: u32,
     pub costs: Vec<u8>,
+    /// The high one of two floors.
+    pub high: Vec<u8>,
     pub steps: Vec<u8>,
     pub field: IntegrationField,
     pub previous_lent: bool,
@@ -42,6 +44,7 @@ pub struct Outcome {
     /// Start and length of the steps in a leg's file.
     pub part: [usize; 2],
     pub practice: Option<PracticeFloor>,
+    pub bounds: Option<Bounds>,
     pub sheet: Vec<u8>,
     /// What is lent to be read is unchanged, and no guard beside lent memory is.
     pub memory_kept: bool,
@@ -55,6 +58,7 @@ impl Case {
             byte: 0,
             seed: 0,
             costs: Vec::new(),
+            high: Vec::new(),
             steps: Vec::new(),
             field: IntegrationField::ZERO,
             previous_lent: false,
@@ -74,23 +78,33 @@ impl Case {
     /// The call on a side, its memory lent from between guards.
     pub fn run(&self, side: &dyn Subject) -> Outcome {
         let (costs, steps) = (Fenced::new(&self.costs), Fenced::new(&self.steps));
-        let previous = Fenced::new(&self.previous);
+        let (high, previous) = (Fenced::new(&self.high), Fenced::new(&self.previous));
         let mut sheet = Fenced::new(&self.sheet);
         let lent = Previous { lent: self.previous_lent, numbers: previous.lent() };
-        let mut outcome = self.called(side, costs.lent(), steps.lent(), lent, sheet.lent_mut());
+        let mut outcome = self.called(side, [costs.lent(), high.lent()], steps.lent(), lent, sheet.lent_mut());
         outcome.sheet = sheet.lent().to_vec();
         outcome.memory_kept = costs.lent() == self.costs
+            && high.lent() == self.high
             && steps.lent() == self.steps
             && previous.lent() == self.previous
             && costs.stands()
+            && high.stands()
             && steps.stands()
             && previous.stands()
             && sheet.stands();
         outcome
     }
 
-    fn called(&self, side: &dyn Subject, costs: &[u8], steps: &[u8], previous: Previous, sheet: &mut [u8]) -> Outcome {
-        let [first, second] = self.cells;
+    /// `floors` are the costs, and the high one of two floors.
+    fn called(
+        &self,
+        side: &dyn Subject,
+        floors: [&[u8]; 2],
+        steps: &[u8],
+        previous: Previous,
+        sheet: &mut [u8],
+    ) -> Outcome {
+        let ([first, second], [costs, high]) = (self.cells, floors);
         match self.ask {
             Ask::One(Call::Line) => Outcome::of_line(side.line(first, second)),
             Ask::One(Call::WalkShallow) => Outcome::of_line(side.walk(false, first, second)),
@@ -119,6 +133,10 @@ impl Case {
             Ask::One(Call::PracticeFloor) => {
                 Outcome { practice: Some(side.practice_floor(self.seed)), ..Outcome::of_number(0) }
             }
+            Ask::One(Call::Bounds) => {
+                let bounds = side.bounds(costs, high, steps);
+                Outcome { bounds: Some(bounds), ..Outcome::of_number(bounds.number) }
+            }
             Ask::FlowBoth => {
                 let number = side.flow_new(steps, self.field, previous, sheet);
                 let second = if number == 0 { side.flow_build(self.field, sheet) } else { 0 };
@@ -140,6 +158,7 @@ impl Case {
             let _ = writeln!(text, "let seed = {};", self.seed);
         }
         paste(&mut text, "costs", &self.costs, |x| format!("{x}"));
+        paste(&mut text, "high", &self.high, |x| format!("{x}"));
         let _ = if self.steps.is_empty() { Ok(()) } else { writeln!(text, "let steps = {:?};", self.steps) };
         if self.field != IntegrationField::ZERO {
             paste(&mut text, "field", &self.field.field, |x| format!("{x:#x}"));
@@ -176,6 +195,7 @@ impl Outcome {
             waves: 0,
             part: [0; 2],
             practice: None,
+            bounds: None,
             sheet: Vec::new(),
             memory_kept: true,
         }
@@ -205,6 +225,10 @@ impl Outcome {
         let costs = |floor: Option<&PracticeFloor>| floor.map_or(Vec::new(), |floor| floor.costs.to_vec());
         differ(&mut found, "cost", &costs(ours), &costs(theirs));
         differ(&mut found, "goal", &[ours.map(|floor| floor.goal)], &[theirs.map(|floor| floor.goal)]);
+        let [ours, theirs] = [self, other].map(|outcome| outcome.bounds.unwrap_or(refused::bounds(0)));
+        differ(&mut found, "least", &ours.least, &theirs.least);
+        differ(&mut found, "greatest", &ours.greatest, &theirs.greatest);
+        differ(&mut found, "sure", &ours.sure, &theirs.sure);
         let bytes = |sheet: &[u8]| sheet.iter().map(|byte| Hex(u32::from(*byte))).collect::<Vec<_>>();
         differ(&mut found, "sheet", &bytes(&self.sheet), &bytes(&other.sheet));
         differ(&mut found, "memory kept", &[self.memory_kept], &[other.memory_kept]);

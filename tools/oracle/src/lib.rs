@@ -1,5 +1,6 @@
 //! The Rust reference beside the proved library: what both are asked, and how they are compared.
 
+pub mod between;
 pub mod cases;
 pub mod clear;
 pub mod command;

@@ -105,6 +105,14 @@ unsafe extern "C" {
     fn hanjolum_leg_file_write(steps: *const u8, steps_length: usize, file: *mut u8, file_length: usize) -> u8;
     fn hanjolum_leg_file_read(file: *const u8, file_length: usize) -> LegFile;
     fn hanjolum_practice_floor(seed: u32) -> PracticeFloor;
+    fn hanjolum_bounds(
+        low: *const u8,
+        low_length: usize,
+        high: *const u8,
+        high_length: usize,
+        step: *const u8,
+        step_length: usize,
+    ) -> Bounds;
 }
 
 #[allow(unused_variables)]
@@ -132,6 +140,7 @@ impl Subject for Library {
             Call::LegFileWrite => cfg!(export = "hanjolum_leg_file_write"),
             Call::LegFileRead => cfg!(export = "hanjolum_leg_file_read"),
             Call::PracticeFloor => cfg!(export = "hanjolum_practice_floor"),
+            Call::Bounds => cfg!(export = "hanjolum_bounds"),
         }
     }
 
@@ -232,5 +241,12 @@ impl Subject for Library {
 
     fn practice_floor(&self, seed: u32) -> PracticeFloor {
         exported!("hanjolum_practice_floor", hanjolum_practice_floor(seed))
+    }
+
+    fn bounds(&self, low: &[u8], high: &[u8], step: &[u8]) -> Bounds {
+        exported!(
+            "hanjolum_bounds",
+            hanjolum_bounds(low.as_ptr(), low.len(), high.as_ptr(), high.len(), step.as_ptr(), step.len())
+        )
     }
 }

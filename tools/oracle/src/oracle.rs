@@ -1,6 +1,6 @@
 //! The oracle: refusal numbers by the table of documents 01 and 02, everything else by the Rust, but for what has no Rust,
-//! leg files, legs in which some window cell does not count, and practice floors (02, Jobs 1, 2 and 6), which the model
-//! answers. What diagonals decide, `init`, `build` of a flow field, the sector call and a leg, is the Rust's altered in
+//! leg files, legs in which some window cell does not count, practice floors and bounds (02, Jobs 1, 2, 6 and 9), which the
+//! model answers. What diagonals decide, `init`, `build` of a flow field, the sector call and a leg, is the Rust's altered in
 //! these tests alone (02, Job 7); what did not move is the published Rust's. A step whose goal or some window cell is of
 //! cost 255 (02, Job 3) is the table's, and the Rust, which takes it, is not asked. Wave counts come from the counted copy,
 //! whose fields are asserted equal to those of the copy that decides. Each judge is noted where it is asked.
@@ -20,7 +20,7 @@ pub fn judges(call: Call) -> &'static [Judge] {
         Call::Build => &[Judge::Published, Judge::Counted],
         Call::Sector => &[Judge::Altered, Judge::Counted],
         Call::Leg => &[Judge::Altered, Judge::Model],
-        Call::LegFileWrite | Call::LegFileRead | Call::PracticeFloor => &[Judge::Model],
+        Call::LegFileWrite | Call::LegFileRead | Call::PracticeFloor | Call::Bounds => &[Judge::Model],
         _ => &[Judge::Published],
     }
 }
@@ -221,7 +221,7 @@ impl Subject for Oracle {
         0
     }
 
-    // Leg files and practice floors have no Rust.
+    // Leg files, practice floors and bounds have no Rust.
 
     fn leg_file_write(&self, steps: &[u8], file: &mut [u8]) -> u8 {
         decides(Judge::Model);
@@ -236,5 +236,15 @@ impl Subject for Oracle {
     fn practice_floor(&self, seed: u32) -> PracticeFloor {
         decides(Judge::Model);
         Model::PLAIN.practice(seed)
+    }
+
+    fn bounds(&self, low: &[u8], high: &[u8], step: &[u8]) -> Bounds {
+        let given = Given { costs: Some(low), high: Some(high), steps: Some(step), ..Given::default() };
+        let number = number(&given);
+        if number != 0 {
+            return refused::bounds(number);
+        }
+        decides(Judge::Model);
+        Model::PLAIN.bounds_between(low, high, step)
     }
 }

@@ -19,6 +19,7 @@
 //! | leg_file_read.model | 154 | file length, file in 150 places | number, start, length of the part |
 //! | practice.model | 105 | seed of 32 bits | 100 costs, goal |
 //! | practice_text.model | 223 | input length, input in 8 places | text length, text in 213 places |
+//! | bounds.model, bounds.table | 1115 | lengths of low, high and step, low in 101 places, high in 101, step in 9 | number, 100 least of 32 bits, 100 greatest of 32 bits, 100 marks |
 //!
 //! A file whose name has no dot holds answers of the published Rust. Behind a dot stands the judge of a file that has
 //! another: `altered`, the Rust altered in one rule (document 02, Job 7: a diagonal is barred if either cell beside it is a
@@ -51,6 +52,9 @@
 //! length are 0.
 //!
 //! practice_text.model: what the practice printer has to print for its input. Places beyond a length are 0.
+//!
+//! bounds.model, bounds.table: two floors and a step, taken and refused. A mark is 1 for a sure cell, else 0. Places beyond
+//! a length are 0.
 //!
 //! Nothing here comes from the program that replays it.
 
@@ -119,6 +123,8 @@ pub fn sections() -> Vec<Section> {
         Section { name: "leg_file_read.model", length: 154, records: file_reads(rng()) },
         Section { name: "practice.model", length: 105, records: practice_floors(rng()) },
         Section { name: "practice_text.model", length: 223, records: practice_texts(rng()) },
+        Section { name: "bounds.model", length: 1115, records: bounds_taken(rng()) },
+        Section { name: "bounds.table", length: 1115, records: bounds_refused(rng()) },
     ]
 }
 
@@ -477,6 +483,7 @@ fn refusal(case: &Case) -> Vec<u8> {
         Call::WalkShallow | Call::WalkSteep => unreachable!("the walks alone are not recorded"),
         Call::LegFileWrite | Call::LegFileRead => unreachable!("a leg's files have sections of their own"),
         Call::PracticeFloor => unreachable!("practice floors refuse nothing"),
+        Call::Bounds => unreachable!("bounds have sections of their own"),
     };
     let short = |value: usize| (value as u16).to_le_bytes();
     let place = case.field.los_corners.iter().position(|corner| *corner != 0).unwrap_or(0);
@@ -862,4 +869,72 @@ fn practice_texts(mut rng: Rng) -> Vec<Vec<u8>> {
         inputs.push(any_bytes(&mut rng, length));
     }
     inputs.iter().map(|input| practice_text(input)).collect()
+}
+
+/// A call for bounds, and whether it is taken.
+fn bounds(case: &Case) -> (bool, Vec<u8>) {
+    let Case { costs: low, high, steps: step, .. } = case;
+    let answer = Oracle.bounds(low, high, step);
+    let mut record = [low, high, step].map(|bytes| bytes.len() as u8).to_vec();
+    record.extend(placed(low, 101).chain(placed(high, 101)).chain(placed(step, 9)));
+    record.push(answer.number);
+    record.extend(wide(&answer.least).chain(wide(&answer.greatest)));
+    record.extend(answer.sure.map(u8::from));
+    (answer.number == 0, record)
+}
+
+/// Two floors of one cost each.
+fn range(low: u8, high: u8, step: Step) -> Case {
+    Case { costs: vec![low; CELLS], high: vec![high; CELLS], steps: step.to_vec(), ..Case::of(Call::Bounds) }
+}
+
+/// Windows of every kind on each side, with ranges from one cost to 0 to 254; then floors that meet each kind of cell; then
+/// drawn ones.
+fn bounds_taken(mut rng: Rng) -> Vec<Vec<u8>> {
+    let windows = (0..4).flat_map(|boundary| {
+        let windows = [(0, 9), (2, 5), (4, 4)].map(|(first, last)| floors::window_step(63, boundary, first, last));
+        [(1, 1), (1, 2), (0, 254)].into_iter().zip(windows)
+    });
+    let mut cases: Vec<Case> = windows.map(|((low, high), step)| range(low, high, step)).collect();
+    cases.extend(groups::range_kinds().map(|kind| groups::floors_that_meet(&mut rng, kind)));
+    cases.extend((0..24).map(|_| groups::any_floors(&mut rng)));
+    cases.iter().map(bounds).filter(|(taken, _)| *taken).map(|(_, record)| record).collect()
+}
+
+/// Good floors of cost 1 to 3 with the lengths of one of them or of the step made others; with a goal; with a step at the
+/// limits; with one cell no from-to, at both ends of the sector and of the window; with a window cell a wall on either floor
+/// or on both; and with several of these.
+fn bounds_refused(mut rng: Rng) -> Vec<Vec<u8>> {
+    let east = floors::window_step(0, 1, 2, 5);
+    let sound = range(1, 3, east);
+    let mut cases = Vec::new();
+    for length in [0, 99, 101] {
+        cases.push(Case { costs: vec![1; length], ..sound.clone() });
+        cases.push(Case { high: vec![3; length], ..sound.clone() });
+    }
+    cases.extend([0, 7, 9].map(|length| Case { steps: vec![0; length], ..sound.clone() }));
+    let steps = goals_at_limits().into_iter().chain(windows_at_limits());
+    cases.extend(steps.map(|step| Case { steps: step.to_vec(), ..sound.clone() }));
+    for (cell, low, high) in [(0, 4, 3), (99, 4, 3), (99, 3, 2), (44, 2, 1), (44, 1, 255), (44, 255, 3), (99, 1, 255)] {
+        cases.push(with_costs(&sound, &[(cell, low, high)]));
+    }
+    for (low, high) in [(255, 3), (1, 255), (255, 255), (4, 3)] {
+        cases.extend([29, 39, 59].map(|cell| with_costs(&sound, &[(cell, low, high)])));
+        cases.push(with_costs(&sound, &[(29, low, high), (0, 2, 1)]));
+        let goal = Case { steps: floors::goal_step(0, 29).to_vec(), ..sound.clone() };
+        cases.push(with_costs(&goal, &[(29, low, high)]));
+        let turned = Case { steps: changed(east, &[(3, 59), (4, 29)]).to_vec(), ..sound.clone() };
+        cases.push(with_costs(&turned, &[(29, low, high)]));
+    }
+    cases.extend((0..12).map(|_| groups::refused_floors(&mut rng)));
+    cases.iter().map(bounds).filter(|(taken, _)| !*taken).map(|(_, record)| record).collect()
+}
+
+/// The same with these costs on the low and the high floor in some cells.
+fn with_costs(case: &Case, cells: &[(usize, u8, u8)]) -> Case {
+    let mut case = case.clone();
+    for (cell, low, high) in cells {
+        (case.costs[*cell], case.high[*cell]) = (*low, *high);
+    }
+    case
 }

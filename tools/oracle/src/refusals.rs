@@ -1,5 +1,5 @@
-//! The table of document 01 ("A leg, the added entry") with 16 and 17 of document 02, Jobs 3 and 8, read from those pages
-//! alone: each row a number and a condition, in the pages' order. 15 (02, Job 2) comes after 10 and is found by planning:
+//! The table of document 01 ("A leg, the added entry") with 16, 17 and 18 of document 02, Jobs 3, 8 and 9, read from those
+//! pages alone: each row a number and a condition, in the pages' order. 15 (02, Job 2) comes after 10 and is found by planning:
 //! the model has it.
 
 use std::ops::Index;
@@ -12,6 +12,9 @@ pub const ON_WALL: u8 = 16;
 /// The number of a window step in the sector call that comes without a previous field.
 pub const FIELDLESS: u8 = 17;
 
+/// The number of two floors that are no from-to, or of a step without window beside them.
+pub const NO_RANGE: u8 = 18;
+
 /// What a call was lent or given. What a call does not have stands as `None` or empty, and no row
 /// that speaks of it can hold.
 #[derive(Clone, Copy, Default)]
@@ -20,6 +23,8 @@ pub struct Given<'a> {
     pub leg: bool,
     /// The cost bytes, of a sector or of a floor.
     pub costs: Option<&'a [u8]>,
+    /// The cost bytes of the high one of two floors, whose low one is `costs`.
+    pub high: Option<&'a [u8]>,
     /// The length of the sheet: what it holds is never judged.
     pub sheet: Option<usize>,
     pub steps: Option<&'a [u8]>,
@@ -34,6 +39,17 @@ impl Given<'_> {
         self.costs.is_some() && self.previous.is_some()
     }
 
+    /// Whether the call is the one for bounds, which has two floors.
+    pub fn is_bounds_call(&self) -> bool {
+        self.high.is_some()
+    }
+
+    /// The costs of each cell on the two floors; none where the call has one floor.
+    pub fn from_to(&self) -> impl Iterator<Item = (u8, u8)> {
+        let [low, high] = [self.costs, self.high].map(|floor| floor.unwrap_or(&[]));
+        low.iter().copied().zip(high.iter().copied())
+    }
+
     /// Whether a previous field could be lent, and none is.
     pub fn is_fieldless(&self) -> bool {
         self.previous.is_some_and(|previous| !previous.lent)
@@ -46,17 +62,18 @@ impl Given<'_> {
 }
 
 /// A step as it is judged: its 8 bytes, and the cost bytes of the sector that it names, none where the call has none
-/// or the sector is not on the floor.
+/// or the sector is not on the floor; and those of the high floor, where there are two.
 #[derive(Clone, Copy)]
 pub struct Judged<'a> {
     pub step: &'a [u8],
     pub costs: &'a [u8],
+    pub high: &'a [u8],
 }
 
 impl Judged<'_> {
-    /// Whether a cell of the step's sector is of cost 255; none is where the call has no costs.
+    /// Whether a cell of the step's sector is of cost 255, on either of two floors; none is where the call has no costs.
     pub fn is_wall(&self, cell: usize) -> bool {
-        self.costs.get(cell) == Some(&255)
+        [self.costs, self.high].iter().any(|costs| costs.get(cell) == Some(&255))
     }
 
     /// Whether the goal or some window cell is.
@@ -88,6 +105,8 @@ pub struct Table<'a> {
     pub each_step: [Row<Judged<'a>>; 6],
     /// "in the sector call alone, after 16" (02, Job 8)
     pub sector_call: [Row<Given<'a>>; 1],
+    /// "after 16, which looks at both floors" (02, Job 9)
+    pub bounds_call: [Row<Given<'a>>; 1],
     /// "whole leg"
     pub whole_leg: [Row<[u8]>; 2],
     /// "building by hand", "flow by hand, sector call" and "line calls"
@@ -99,7 +118,7 @@ impl<'a> Table<'a> {
     pub fn documents() -> Self {
         Table {
             lent: [
-                Row { number: 1, holds: |g| g.costs.is_some_and(|costs| costs.len() != size(g)) },
+                Row { number: 1, holds: |g| [g.costs, g.high].iter().flatten().any(|costs| costs.len() != size(g)) },
                 Row { number: 2, holds: |g| g.sheet.is_some_and(|length| length != size(g)) },
                 Row { number: 3, holds: |g| g.steps.is_some_and(|steps| !step_list_fits(g.leg, steps.len())) },
             ],
@@ -115,6 +134,10 @@ impl<'a> Table<'a> {
                 number: FIELDLESS,
                 holds: |g| g.is_sector_call() && g.has_window() && g.is_fieldless(),
             }],
+            bounds_call: [Row {
+                number: NO_RANGE,
+                holds: |g| g.is_bounds_call() && (!g.has_window() || g.from_to().any(is_no_range)),
+            }],
             whole_leg: [
                 Row { number: 9, holds: |steps| !goal_then_windows(steps) || named_twice(steps) },
                 Row { number: 10, holds: |steps| !each_faces_the_one_before(steps) },
@@ -128,12 +151,13 @@ impl<'a> Table<'a> {
     }
 
     /// The number that a call gets: of the first row that holds, down the table, 4 to 8 and 16 for one step
-    /// before the next step, then 17; 0 where none holds.
+    /// before the next step, then 17 or 18; 0 where none holds.
     pub fn number(&self, given: &Given<'a>) -> u8 {
         let steps = given.steps.unwrap_or(&[]);
         first(&self.lent, given)
             .or_else(|| each(given).find_map(|step| first(&self.each_step, &step)))
             .or_else(|| first(&self.sector_call, given))
+            .or_else(|| first(&self.bounds_call, given))
             .or_else(|| if given.leg { first(&self.whole_leg, steps) } else { None })
             .or_else(|| first(&self.others, given))
             .unwrap_or(0)
@@ -147,10 +171,11 @@ pub fn first<T: ?Sized>(rows: &[Row<T>], of: &T) -> Option<u8> {
 
 /// Each step of a call, with the costs of its sector.
 pub fn each<'a>(given: &Given<'a>) -> impl Iterator<Item = Judged<'a>> {
-    let (leg, costs) = (given.leg, given.costs.unwrap_or(&[]));
+    let [costs, high] = [given.costs, given.high].map(|floor| floor.unwrap_or(&[]));
+    let leg = given.leg;
     given.steps.unwrap_or(&[]).chunks(8).map(move |step| {
         let at = if leg { 100 * usize::from(step[0]) } else { 0 };
-        Judged { step, costs: costs.get(at..at + 100).unwrap_or(&[]) }
+        Judged { step, costs: costs.get(at..at + 100).unwrap_or(&[]), high }
     })
 }
 
@@ -170,7 +195,13 @@ pub fn named_cells(step: &[u8]) -> Vec<usize> {
     }
 }
 
-fn size(given: &Given) -> usize {
+/// Whether two costs are no from-to: the low one above the high one, or 255 in only one of the two.
+pub fn is_no_range((low, high): (u8, u8)) -> bool {
+    low > high || (low == 255) != (high == 255)
+}
+
+/// The bytes of a floor that a call takes.
+pub fn size(given: &Given) -> usize {
     if given.leg { 6400 } else { 100 }
 }
 

@@ -15,6 +15,8 @@ enum Change {
     SheetByteZero(usize),
     SectorOpen(usize),
     CostOne(usize),
+    BothOne(usize),
+    HighAsLow(usize),
     CellTo(usize, u32),
     CellLow(usize),
     CellFlags(usize),
@@ -53,6 +55,7 @@ fn changes(case: &Case) -> Vec<Change> {
     list.extend((0..CELLS).flat_map(|i| [Change::CellTo(i, 65535), Change::CellTo(i, 0)]));
     list.extend((0..CELLS).flat_map(|i| [Change::CellLow(i), Change::CellFlags(i)]));
     list.extend((0..case.costs.len()).filter(|i| case.costs[*i] != 1).map(Change::CostOne));
+    list.extend((0..case.high.len().min(case.costs.len())).flat_map(|i| [Change::BothOne(i), Change::HighAsLow(i)]));
     list.extend((0..case.previous.len()).map(Change::PreviousZero));
     list.extend((0..case.sheet.len()).filter(|i| case.sheet[*i] != 0).map(Change::SheetByteZero));
     list
@@ -80,8 +83,13 @@ fn apply(change: Change, case: &mut Case) {
         Change::PreviousZero(i) => case.previous.iter_mut().skip(i).take(1).for_each(|x| *x = 0),
         Change::SheetZero => case.sheet.fill(0),
         Change::SheetByteZero(i) => case.sheet[i] = 0,
-        Change::SectorOpen(sector) => case.costs[sector * CELLS..(sector + 1) * CELLS].fill(1),
+        Change::SectorOpen(sector) => {
+            case.costs[sector * CELLS..(sector + 1) * CELLS].fill(1);
+            case.high.fill(1);
+        }
         Change::CostOne(i) => case.costs[i] = 1,
+        Change::BothOne(i) => (case.costs[i], case.high[i]) = (1, 1),
+        Change::HighAsLow(i) => case.high[i] = case.costs[i],
         // 65535 is simpler than 0, and 0 than the rest, so the changes come to an end.
         Change::CellTo(i, 65535) if is_field => case.field.field[i] = 65535,
         Change::CellTo(i, value) if is_field && case.field.field[i] != 65535 => case.field.field[i] = value,

@@ -96,6 +96,16 @@ pub struct PracticeFloor {
     pub goal: u8,
 }
 
+/// For each cell the least and the greatest built cost over all floors between two, and whether it is sure.
+#[repr(C)]
+#[derive(Clone, Copy, PartialEq, Eq, Debug)]
+pub struct Bounds {
+    pub number: u8,
+    pub least: [u32; CELLS],
+    pub greatest: [u32; CELLS],
+    pub sure: [bool; CELLS],
+}
+
 /// A yes or no, and the numbers lent beside it.
 #[derive(Clone, Copy, Debug)]
 pub struct Previous<'a> {
@@ -131,6 +141,7 @@ pub enum Call {
     LegFileWrite,
     LegFileRead,
     PracticeFloor,
+    Bounds,
 }
 
 /// A side of the comparison. A refusal answers its number, zeros else, and writes nothing.
@@ -151,6 +162,7 @@ pub trait Subject {
     fn leg_file_write(&self, steps: &[u8], file: &mut [u8]) -> u8;
     fn leg_file_read(&self, file: &[u8]) -> LegFile;
     fn practice_floor(&self, seed: u32) -> PracticeFloor;
+    fn bounds(&self, low: &[u8], high: &[u8], step: &[u8]) -> Bounds;
 }
 
 /// The answers of a refusal.
@@ -163,6 +175,10 @@ pub mod refused {
 
     pub fn build(number: u8) -> BuildAnswer {
         BuildAnswer { number, field: IntegrationField::ZERO, waves: 0 }
+    }
+
+    pub fn bounds(number: u8) -> Bounds {
+        Bounds { number, least: [0; CELLS], greatest: [0; CELLS], sure: [false; CELLS] }
     }
 
     pub fn line(number: u8) -> Line {

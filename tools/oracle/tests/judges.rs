@@ -21,7 +21,10 @@ fn groups_name_their_judges() {
     assert_eq!(names("leg, gaps"), ["altered Rust", "model"]);
     assert_eq!(names("leg, on walls"), ["altered Rust", "table of refusals", "model"]);
     assert_eq!(names("journey"), ["altered Rust", "model"]);
+    assert_eq!(names("file read"), ["model"]);
     assert_eq!(names("practice"), ["model"]);
+    assert_eq!(names("bounds"), ["model"]);
+    assert_eq!(names("bounds refusals"), ["table of refusals", "model"]);
     assert_eq!(names("leg refusals"), ["altered Rust", "table of refusals", "model"]);
     assert_eq!(names("build refusals"), ["published Rust", "counted copy", "table of refusals"]);
 }

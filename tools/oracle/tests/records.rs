@@ -1,10 +1,12 @@
 //! The recorded sample, read back by its layout and asked of the model: the bytes mean what the README
 //! of the sample says.
 
+use std::sync::LazyLock;
+
 use oracle::judges::Judge;
 use oracle::model::{Model, Slip};
-use oracle::records::sections;
-use oracle::refusals::{FIELDLESS, ON_WALL};
+use oracle::records::{Section, sections};
+use oracle::refusals::{FIELDLESS, NO_RANGE, ON_WALL};
 use oracle::subject::*;
 
 /// Reads a record from its start.
@@ -47,8 +49,15 @@ fn alone(cells: [u32; CELLS]) -> IntegrationField {
     IntegrationField::new(cells, &[])
 }
 
+/// The sample, made once.
+static SAMPLE: LazyLock<Vec<Section>> = LazyLock::new(sections);
+
+fn section(name: &str) -> &'static Section {
+    SAMPLE.iter().find(|section| section.name == name).expect("a section of that name")
+}
+
 fn each(name: &str, mut check: impl FnMut(&mut Reader)) {
-    let section = sections().into_iter().find(|section| section.name == name).expect("a section of that name");
+    let section = section(name);
     assert!(!section.records.is_empty());
     for record in &section.records {
         let mut reader = Reader(record);
@@ -62,19 +71,17 @@ const MODEL: Model = Model::PLAIN;
 /// A file that the published Rust does not decide says so in its name.
 #[test]
 fn a_file_with_another_judge_says_so_in_its_name() {
-    let sections = sections();
     let by = |judge: Judge| {
-        let named = sections.iter().filter(|section| section.judges().contains(&judge));
+        let named = SAMPLE.iter().filter(|section| section.judges().contains(&judge));
         named.map(|section| section.name).collect::<Vec<&str>>()
     };
     assert_eq!(by(Judge::Published), ["line", "line_end", "readers", "build", "flow_new"]);
     assert_eq!(by(Judge::Altered), ["init.altered", "flow_build.altered", "sector.altered", "leg.altered"]);
     assert_eq!(by(Judge::Counted), ["build", "sector.altered"]);
-    assert_eq!(by(Judge::Table), ["init.table", "sector.table", "leg.table", "refusals.table"]);
-    assert_eq!(
-        by(Judge::Model),
-        ["leg.model", "leg_file_write.model", "leg_file_read.model", "practice.model", "practice_text.model"]
-    );
+    assert_eq!(by(Judge::Table), ["init.table", "sector.table", "leg.table", "refusals.table", "bounds.table"]);
+    let files = ["leg_file_write.model", "leg_file_read.model"];
+    let floors = ["practice.model", "practice_text.model", "bounds.model"];
+    assert_eq!(by(Judge::Model), [&["leg.model"], &files[..], &floors[..]].concat());
     let named = |judge: Judge, end: &str| by(judge).iter().all(|name| name.ends_with(end));
     assert!(named(Judge::Altered, ".altered") && named(Judge::Table, ".table") && named(Judge::Model, ".model"));
     assert!(!by(Judge::Published).iter().any(|name| name.contains('.')));
@@ -84,7 +91,7 @@ fn a_file_with_another_judge_says_so_in_its_name() {
 #[test]
 fn replay_has_to_print_what_the_records_say() {
     let printed = include_str!("../../../crates/replay/stdout");
-    let due: Vec<String> = sections().iter().map(|section| section.agreed()).collect();
+    let due: Vec<String> = SAMPLE.iter().map(|section| section.agreed()).collect();
     assert_eq!(printed.lines().collect::<Vec<&str>>(), due);
 }
 
@@ -171,11 +178,10 @@ fn windows_of_the_sector_call_have_a_previous_field() {
         step[2] == 1 && !lent
     };
     each("sector.altered", |r| assert!(!fieldless(r)));
-    let sections = sections();
-    let table = sections.iter().find(|section| section.name == "sector.table").expect("a section of that name");
+    let table = section("sector.table");
     let both = |record: &&Vec<u8>| fieldless(&mut Reader(record)) && record[509] == ON_WALL;
     assert!(table.records.iter().filter(both).count() > 0);
-    let new = sections.iter().find(|section| section.name == "flow_new").expect("a section of that name");
+    let new = section("flow_new");
     let taken = |record: &&Vec<u8>| record[2] == 1 && record[408] == 0 && record[809] == 0;
     assert!(new.records.iter().filter(taken).count() > 0);
 }
@@ -230,7 +236,7 @@ fn goes_so(model: &Model, r: &mut Reader) -> (u8, bool) {
 fn one_wall_decides_records_of_each_file() {
     type Answers = fn(&Model, &mut Reader) -> (u8, bool);
     let told = |slip: Slip, name: &str, answers: Answers| {
-        let section = sections().into_iter().find(|section| section.name == name).expect("a section of that name");
+        let section = section(name);
         let wrong = section.records.iter().filter(|record| !answers(&Model { slip }, &mut Reader(record)).1).count();
         println!("{name}: {wrong} of {} records tell {slip:?}", section.records.len());
         assert!(wrong > 0);
@@ -313,8 +319,7 @@ fn leg_files() {
 
 /// The records of a section that a model with a slip does not answer so.
 fn shown(slip: Slip, name: &str, agrees: fn(&Model, &mut Reader) -> bool) -> bool {
-    let section = sections().into_iter().find(|section| section.name == name).expect("a section of that name");
-    section.records.iter().any(|record| !agrees(&Model { slip }, &mut Reader(record)))
+    section(name).records.iter().any(|record| !agrees(&Model { slip }, &mut Reader(record)))
 }
 
 /// The slips whose text begins so.
@@ -358,5 +363,40 @@ fn practice_floors() {
 fn practice_floors_show_every_slip() {
     for (slip, text) in slips_of("practice: ") {
         assert!(shown(*slip, "practice.model", draws_so), "not shown: {text}");
+    }
+}
+
+/// The number of a record of bounds, and whether a model answers what it says.
+fn bounds_so(model: &Model, r: &mut Reader) -> (u8, bool) {
+    let lengths = [(); 3].map(|()| usize::from(r.byte()));
+    let [low, high, step] = [101, 101, 9].map(|places| r.bytes(places));
+    let beyond = |bytes: &[u8], length: usize| bytes[length..].iter().all(|byte| *byte == 0);
+    assert!([low, high, step].iter().zip(lengths).all(|(bytes, length)| beyond(bytes, length)), "zeros beyond");
+    let (number, least, greatest) = (r.byte(), r.cells(), r.cells());
+    let sure = std::array::from_fn(|_| r.byte() == 1);
+    let answer = model.bounds(&low[..lengths[0]], &high[..lengths[1]], &step[..lengths[2]]);
+    (number, answer == Bounds { number, least, greatest, sure })
+}
+
+#[test]
+fn bounds() {
+    each("bounds.model", |r| assert_eq!(bounds_so(&MODEL, r), (0, true)));
+    let mut numbers = Vec::new();
+    each("bounds.table", |r| {
+        let (number, agrees) = bounds_so(&MODEL, r);
+        assert!(agrees);
+        numbers.push(number);
+    });
+    numbers.sort();
+    numbers.dedup();
+    assert_eq!(numbers, [1, 3, 4, 5, 6, 7, 8, ON_WALL, NO_RANGE]);
+}
+
+#[test]
+fn bounds_show_every_slip() {
+    let agrees = |model: &Model, r: &mut Reader| bounds_so(model, r).1;
+    for (slip, text) in slips_of("bounds: ") {
+        let taken = shown(*slip, "bounds.model", agrees);
+        assert!(taken || shown(*slip, "bounds.table", agrees), "not shown: {text}");
     }
 }

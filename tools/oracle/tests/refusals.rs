@@ -1,7 +1,8 @@
-//! The table of refusals sees what a call was lent, cost bytes and a previous field among it: 16 and 17 (02, Jobs 3 and 8).
+//! The table of refusals sees what a call was lent, cost bytes and a previous field among it: 16, 17 and 18 (02, Jobs 3, 8
+//! and 9).
 
 use oracle::floors::{Step, all_windows, goal_step, one_wall, uniform, window_step};
-use oracle::refusals::{FIELDLESS, Given, ON_WALL, number};
+use oracle::refusals::{FIELDLESS, Given, NO_RANGE, ON_WALL, number};
 use oracle::subject::Previous;
 
 /// The number of a sector call with a previous field.
@@ -123,4 +124,57 @@ fn other_calls_have_no_seventeen() {
     let flow_new = Given { sheet: Some(100), steps: Some(&east), previous: none, ..Given::default() };
     assert_eq!((number(&init), number(&flow_new)), (0, 0));
     assert_eq!((leg(&[], &[east]), leg(&[], &[goal_step(1, 44), east])), (9, 0));
+}
+
+/// The number of two floors of cost 1 to 3 and a step, but for these costs in some cells.
+fn bounds(cells: &[(usize, u8, u8)], step: &[u8]) -> u8 {
+    let [mut low, mut high] = [[1; 100], [3; 100]];
+    cells.iter().for_each(|(cell, from, to)| (low[*cell], high[*cell]) = (*from, *to));
+    number(&Given { costs: Some(&low), high: Some(&high), steps: Some(step), ..Given::default() })
+}
+
+/// A step without window, low above high, 255 in only one of the two: in any one cell, the window's too.
+#[test]
+fn what_is_no_range() {
+    let east = window_step(0, 1, 2, 5);
+    assert_eq!((bounds(&[], &east), bounds(&[], &goal_step(0, 44))), (0, NO_RANGE));
+    for cell in 0..100 {
+        let at = |from: u8, to: u8| bounds(&[(cell, from, to)], &east);
+        assert_eq!([at(1, 1), at(0, 0), at(0, 254), at(254, 254)], [0; 4]);
+        assert_eq!([at(4, 3), at(254, 0), at(1, 0)], [NO_RANGE; 3]);
+        // In a window cell 255 on either floor is 16.
+        let (wall, opened) = if [29, 39, 49, 59].contains(&cell) { (ON_WALL, ON_WALL) } else { (0, NO_RANGE) };
+        assert_eq!(
+            [at(255, 255), at(1, 255), at(254, 255), at(255, 3), at(255, 254)],
+            [wall, opened, opened, opened, opened]
+        );
+    }
+}
+
+/// After 16, which looks at both floors and comes after 8; 1 for either floor and 3 before them.
+#[test]
+fn where_eighteen_stands() {
+    let (east, goal) = (window_step(0, 1, 2, 5), goal_step(0, 44));
+    let turned = changed(changed(east, 3, 59), 4, 29);
+    for (from, to) in [(255, 255), (1, 255), (255, 3)] {
+        assert_eq!((bounds(&[(29, from, to)], &east), bounds(&[(44, from, to)], &goal)), (ON_WALL, ON_WALL));
+        assert_eq!((bounds(&[(29, from, to), (0, 3, 1)], &east), bounds(&[(29, from, to)], &turned)), (ON_WALL, 8));
+    }
+    assert_eq!((bounds(&[(0, 3, 1)], &turned), bounds(&[(0, 3, 1)], &changed(east, 0, 64))), (8, 4));
+    assert_eq!((bounds(&[(0, 3, 1)], &goal_step(0, 100)), bounds(&[(0, 3, 1)], &east[1..])), (5, 3));
+    let lent = |low: usize, high: usize| {
+        let (low, high) = (vec![255; low], vec![1; high]);
+        number(&Given { costs: Some(&low), high: Some(&high), steps: Some(&east[1..]), ..Given::default() })
+    };
+    assert_eq!([lent(99, 100), lent(100, 99), lent(101, 100), lent(100, 101), lent(0, 100), lent(100, 0)], [1; 6]);
+    assert_eq!(lent(100, 100), 3);
+}
+
+/// In the call for bounds alone, which has no 17.
+#[test]
+fn other_calls_have_no_eighteen() {
+    let (goal, east) = (goal_step(0, 44), window_step(0, 1, 2, 5));
+    let init = |step: &Step| number(&Given { costs: Some(&[1; 100]), steps: Some(step), ..Given::default() });
+    assert_eq!((init(&goal), init(&east), sector_with(None, &goal, false, &[])), (0, 0, 0));
+    assert_eq!(bounds(&[], &east), 0);
 }

@@ -6,7 +6,7 @@ use std::process::ExitCode;
 use std::time::Instant;
 
 use oracle::command;
-use oracle::groups::{Clean, Difference, FOLLOWED, GROUPS, Group, JOURNEY, Met};
+use oracle::groups::{BOUNDS, BUILT, Clean, Difference, FOLLOWED, GROUPS, Group, JOURNEY, Met};
 use oracle::judges::Judge;
 use oracle::library::Library;
 use oracle::model::{CLOSED, Model, Slip};
@@ -90,7 +90,7 @@ fn report_clean(group: &Group, clean: &Clean, start: Instant) {
     let seconds = start.elapsed().as_secs_f64();
     println!("{:<20} {:>9} inputs alike  {seconds:>7.1} s  numbers {}", group.name, clean.inputs, numbers.join(", "));
     println!("{:<20} decided by: {}", "", judged(&clean.judged));
-    if let Some(words) = left_out(clean) {
+    if let Some(words) = left_out(clean).filter(|_| group.has_rust()) {
         println!("{:<20} {words}", "");
     }
     if !clean.met.is_empty() {
@@ -101,6 +101,9 @@ fn report_clean(group: &Group, clean: &Clean, start: Instant) {
     }
     if clean.cleared.sectors > 0 {
         println!("{:<20} looked at: {}", "", clean.cleared);
+    }
+    if clean.between.inputs > 0 {
+        println!("{:<20} built between: {}", "", clean.between);
     }
 }
 
@@ -115,11 +118,15 @@ fn left_out(clean: &Clean) -> Option<String> {
     (!words.is_empty()).then(|| format!("left out of the comparison with the Rust, {}", words.join(", ")))
 }
 
-/// How many inputs met what, the places at which 15 was found together, and those of 16.
+/// How many inputs met what, the places at which 15 was found together, those of 16, and how many kinds of window.
 fn met(counts: &BTreeMap<Met, usize>) -> String {
     let placed = |met: &Met| matches!(met, Met::Closed { .. } | Met::OnWall { .. });
-    let (places, kinds): (Vec<_>, Vec<_>) = counts.iter().partition(|(met, _)| placed(met));
+    let (windows, others): (Vec<_>, Vec<_>) = counts.iter().partition(|(met, _)| matches!(met, Met::Window { .. }));
+    let (places, kinds): (Vec<_>, Vec<_>) = others.into_iter().partition(|(met, _)| placed(met));
     let mut words: Vec<String> = kinds.iter().map(|(met, count)| format!("{met} {count}")).collect();
+    if !windows.is_empty() {
+        words.push(format!("{} kinds of window", windows.len()));
+    }
     let inputs: usize = places.iter().map(|(_, count)| **count).sum();
     let number = if matches!(places.first(), Some((Met::OnWall { .. }, _))) { ON_WALL } else { CLOSED };
     if !places.is_empty() {
@@ -149,11 +156,15 @@ fn run(group: &Group, side: &dyn Subject, chosen: &Arguments) -> Result<Clean, S
 
 /// Runs every group that was chosen. A group whose calls the side does not have compares nothing, which is a failure.
 fn compare(side: &dyn Subject, chosen: &Arguments) -> Result<(), String> {
-    let mut all = Clean::default();
+    let (mut all, mut beside_rust) = (Clean::default(), Clean::default());
     let mut left = Vec::new();
     for group in GROUPS.iter().filter(|group| chosen.group.as_ref().is_none_or(|name| name == group.name)) {
         if group.needs.iter().all(|call| side.offers(*call)) {
-            all.add(&run(group, side, chosen)?);
+            let clean = run(group, side, chosen)?;
+            all.add(&clean);
+            if group.has_rust() {
+                beside_rust.add(&clean);
+            }
         } else {
             println!("{:<20} not there: {:?}", group.name, group.needs);
             left.push(group.name);
@@ -166,9 +177,12 @@ fn compare(side: &dyn Subject, chosen: &Arguments) -> Result<(), String> {
         return Err("nothing was compared".to_string());
     }
     println!("{} inputs, no difference (seed {}); decided by: {}", all.inputs, chosen.seed, judged(&all.judged));
-    left_out(&all).into_iter().for_each(|words| println!("{words}"));
+    left_out(&beside_rust).into_iter().for_each(|words| println!("{words}"));
     if all.cleared.sectors > 0 {
         println!("looked at: {}", all.cleared);
+    }
+    if all.between.inputs > 0 {
+        println!("built between: {}", all.between);
     }
     Ok(())
 }
@@ -195,19 +209,24 @@ fn found(slip: Slip, groups: &[&Group], chosen: &Arguments) -> bool {
     true
 }
 
-/// Tries every slip, on likely groups first; those that lead a cart astray once more, by following it alone.
+/// Tries every slip, on likely groups first; those that lead a cart astray once more, by following it alone, and those that
+/// floors between two show, by building these alone.
 fn try_slips(chosen: &Arguments) -> Result<(), String> {
     let mut missed = 0;
     for (slip, text) in Slip::ALL {
         println!("{text}");
         let (first, then): (Vec<&Group>, Vec<&Group>) = GROUPS.iter().partition(|group| likely(group, text));
-        let astray = Slip::ASTRAY.contains(slip);
-        let missing = !found(*slip, &[first, then].concat(), chosen);
-        missed += usize::from(missing || (astray && !found(*slip, &[&FOLLOWED], chosen)));
+        let alone = [(Slip::ASTRAY, &FOLLOWED), (Slip::BETWEEN, &BUILT)];
+        let mut missing = !found(*slip, &[first, then].concat(), chosen);
+        for (_, group) in alone.into_iter().filter(|(slips, _)| slips.contains(slip)) {
+            missing |= !found(*slip, &[group], chosen);
+        }
+        missed += usize::from(missing);
     }
-    let (slips, astray) = (Slip::ALL.len(), Slip::ASTRAY.len());
+    let (slips, [astray, between]) = (Slip::ALL.len(), [Slip::ASTRAY, Slip::BETWEEN].map(|slips| slips.len()));
     println!(
-        "{slips} slips, {astray} of them tried by `{JOURNEY}` alone too, {missed} not found (seed {})",
+        "{slips} slips, {astray} of them tried by following in `{JOURNEY}` alone too, {between} by the floors between of \
+         `{BOUNDS}` alone, {missed} not found (seed {})",
         chosen.seed
     );
     if missed == 0 { Ok(()) } else { Err(format!("{missed} slips were not found")) }

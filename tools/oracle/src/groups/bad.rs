@@ -1,10 +1,12 @@
 //! Inputs of which the table refuses many: good ones with something spoiled, one thing or several.
 
 use super::Cases;
+use super::bounds::{any_window, two_floors};
 use super::good::{drawn, leg_case};
 use super::legs::closed_leg;
 use crate::cases::Case;
 use crate::floors::{self, Costs, Rng, Step};
+use crate::refusals::{Given, NO_RANGE, ON_WALL, named_cells, number};
 use crate::subject::*;
 
 /// Coordinates on either side of the edge and far off.
@@ -180,4 +182,51 @@ fn wrapping_leg(rng: &mut Rng) -> Vec<u8> {
 
 pub fn legs(rng: Rng, inputs: usize) -> Cases {
     Box::new(drawn(rng, inputs / 10, bad_leg))
+}
+
+/// Costs of a cell made no from-to, or a wall on one floor or on both: an end of the sector or of the window, or any cell.
+fn spoil_range(rng: &mut Rng, case: &mut Case) {
+    let named = named_cells(&case.steps);
+    let any = rng.below(CELLS);
+    let cell = rng.pick(&[0, CELLS - 1, any, any, any, named[0], named[named.len() - 1]]);
+    let (low, high) = (&mut case.costs[cell], &mut case.high[cell]);
+    match rng.below(6) {
+        0 => *low = 255,
+        1 => *high = 255,
+        2 => (*low, *high) = (255, 255),
+        3 => *high = low.saturating_sub(1),
+        4 => (*low, *high) = (*high, *low),
+        _ => *low = high.saturating_add(1),
+    }
+}
+
+/// Two floors and a step with costs, bytes and lengths spoiled; one step in four has a goal.
+fn bad_floors(rng: &mut Rng) -> Case {
+    let step = if rng.one_in(4) { floors::any_step(rng) } else { any_window(rng) };
+    let mut case = two_floors(rng, step);
+    for _ in 0..rng.below(3) {
+        spoil_range(rng, &mut case);
+    }
+    if rng.one_in(2) {
+        case.steps = bad_step(rng, step);
+    }
+    spoil_length(rng, &mut case.costs, 20);
+    spoil_length(rng, &mut case.high, 20);
+    case
+}
+
+/// Such floors of a length that a record has room for, refused for what they cost.
+pub fn refused_floors(rng: &mut Rng) -> Case {
+    loop {
+        let case = bad_floors(rng);
+        let given =
+            Given { costs: Some(&case.costs), high: Some(&case.high), steps: Some(&case.steps), ..Given::default() };
+        if [ON_WALL, NO_RANGE].contains(&number(&given)) {
+            return case;
+        }
+    }
+}
+
+pub fn bounds(rng: Rng, inputs: usize) -> Cases {
+    Box::new(drawn(rng, inputs / 5, bad_floors))
 }

@@ -3,9 +3,8 @@
 use super::good::{drawn, leg_sheet};
 use super::{Cases, Compared};
 use crate::cases::{Case, Outcome};
-use crate::clear::Cleared;
 use crate::floors::{self, Rng, drawn_window};
-use crate::journey::{Followed, PlannedLeg};
+use crate::journey::PlannedLeg;
 use crate::judges;
 use crate::model::Model;
 use crate::oracle::Oracle;
@@ -81,7 +80,7 @@ pub(super) fn compared(case: &Case, side: &dyn Subject) -> Compared {
     let (due, judges) = judges::during(|| case.run(&Oracle));
     let outcome = case.run(side);
     let mut found = due.differences(&Outcome { sheet: due.sheet.clone(), ..outcome.clone() });
-    let mut followed = Followed::default();
+    let mut followed = Default::default();
     if due.number == 0 && outcome.number == 0 {
         let built = Oracle.built_steps(&case.costs, &case.steps);
         let leg = PlannedLeg { floor: &case.costs, steps: &case.steps, built: &built, sheet: &outcome.sheet };
@@ -90,5 +89,5 @@ pub(super) fn compared(case: &Case, side: &dyn Subject) -> Compared {
             Err(fault) => found.push(fault),
         }
     }
-    Compared { due, outcome, judges, found, followed, cleared: Cleared::default() }
+    Compared { followed, ..Compared::of(due, outcome, judges, found) }
 }

@@ -11,7 +11,7 @@ use crate::model::{CLOSED, Model, Plan, PlannedStep};
 use crate::refusals::{Given, ON_WALL, Table, each, first, named_cells};
 use crate::subject::*;
 
-/// What an input meets, a leg but for the last two. All before `OneCellClosed` are of legs that are planned, since only those are written.
+/// What an input meets: a leg, but for the practice floors and the two floors at the end. All before `OneCellClosed` are of legs that are planned, since only those are written.
 #[derive(Clone, Copy, PartialEq, Eq, PartialOrd, Ord, Debug)]
 pub enum Met {
     /// Windows, and every cell of them counts.
@@ -27,9 +27,15 @@ pub enum Met {
     /// A window of one cell, which does not.
     OneCellClosed,
     /// No cell counts at this step, from 1, of a leg of so many.
-    Closed { steps: usize, at: usize },
+    Closed {
+        steps: usize,
+        at: usize,
+    },
     /// A wall under the goal or a window cell of this step, from 1, of a leg of so many.
-    OnWall { steps: usize, at: usize },
+    OnWall {
+        steps: usize,
+        at: usize,
+    },
     /// 16 where another number, or none, would be due without it.
     InsteadOf(u8),
     /// 16 by one wall alone.
@@ -42,6 +48,31 @@ pub enum Met {
     GoalDrawnAs(u8),
     /// A practice floor whose goal has so many digits.
     GoalDigits(u8),
+    /// Two floors for this window.
+    Window {
+        boundary: u8,
+        first: u8,
+        last: u8,
+    },
+    /// A cell that is sure by a window cell straight ahead, or by a diagonal one alone.
+    SureByWindow,
+    SureByDiagonalWindow,
+    /// One that is sure by the costs of several neighbours, or by its only permitted one.
+    SureByCosts,
+    SureByOne,
+    /// One whose arrow is diagonal.
+    SureDiagonal,
+    /// A reached cell that is not sure because two costs are equal.
+    EqualNotSure,
+    /// One that is not, though low and high have the same arrow; one whose arrows there differ.
+    OneArrowNotSure,
+    OtherArrow,
+    /// One that is not, beside a window cell that walls bar.
+    WindowBarred,
+    /// A cell with a permitted neighbour that nothing reaches.
+    ClosedOff,
+    /// A cost 0.
+    CostZero,
 }
 
 /// Where a step has its wall.
@@ -74,6 +105,18 @@ impl fmt::Display for Met {
             Met::UnreadWall => write!(f, "a wall under a goal byte that is not read"),
             Met::GoalDrawnAs(cost) => write!(f, "the goal's cell drawn with cost {cost}"),
             Met::GoalDigits(digits) => write!(f, "a goal of {digits} digits"),
+            Met::Window { boundary, first, last } => write!(f, "the window {first} to {last} on boundary {boundary}"),
+            Met::SureByWindow => write!(f, "sure by a window cell straight ahead"),
+            Met::SureByDiagonalWindow => write!(f, "by a diagonal one"),
+            Met::SureByCosts => write!(f, "by costs"),
+            Met::SureByOne => write!(f, "by the one permitted neighbour"),
+            Met::SureDiagonal => write!(f, "sure with a diagonal arrow"),
+            Met::EqualNotSure => write!(f, "not sure by equal costs"),
+            Met::OneArrowNotSure => write!(f, "not sure with one arrow on low and high"),
+            Met::OtherArrow => write!(f, "with two"),
+            Met::WindowBarred => write!(f, "not sure beside a window cell that walls bar"),
+            Met::ClosedOff => write!(f, "a floor cell that nothing reaches"),
+            Met::CostZero => write!(f, "a cost 0"),
         }
     }
 }

@@ -3,6 +3,7 @@
 //! that shows it.
 
 mod bad;
+mod bounds;
 mod good;
 mod journeys;
 mod leg_files;
@@ -11,11 +12,14 @@ mod practice;
 
 use std::collections::BTreeMap;
 
+pub use bad::refused_floors;
+pub use bounds::{any_floors, floors_that_meet, range_kinds};
 pub use legs::{
     Met, Place, closed_leg, leg_kinds, leg_on_walls_that_meets, leg_that_counts, leg_that_meets, wall_kinds,
 };
 pub use practice::NAMED;
 
+use crate::between::{Between, Bounded};
 use crate::cases::{Ask, Case, Outcome};
 use crate::clear::{self, Cleared};
 use crate::floors::Rng;
@@ -23,7 +27,7 @@ use crate::journey::Followed;
 use crate::judges::{self, Judge, Judges};
 use crate::model::CLOSED;
 use crate::oracle::{self, Oracle};
-use crate::refusals::{FIELDLESS, ON_WALL};
+use crate::refusals::{FIELDLESS, NO_RANGE, ON_WALL};
 use crate::shrink;
 use crate::subject::{Call, Subject};
 
@@ -67,6 +71,7 @@ pub const GROUPS: &[Group] = &[
     Group { name: "file write", needs: &[Call::LegFileWrite], cases: leg_files::writes, reaches: &[0, 2, 3] },
     Group { name: "file read", needs: &[Call::LegFileRead], cases: leg_files::reads, reaches: &[0, 14] },
     Group { name: PRACTICE, needs: &[Call::PracticeFloor], cases: practice::floors, reaches: &[0] },
+    Group { name: BOUNDS, needs: &[Call::Bounds, Call::Sector], cases: bounds::bounds, reaches: &[0] },
     Group { name: "line refusals", needs: &[Call::Line], cases: bad::lines, reaches: &[0, 13] },
     Group { name: "walk shallow refusals", needs: &[Call::WalkShallow], cases: bad::shallow_walks, reaches: &[0, 13] },
     Group { name: "walk steep refusals", needs: &[Call::WalkSteep], cases: bad::steep_walks, reaches: &[0, 13] },
@@ -97,6 +102,12 @@ pub const GROUPS: &[Group] = &[
         cases: bad::legs,
         reaches: &[0, 1, 2, 3, 4, 5, 6, 7, 8, 9, 10, CLOSED, ON_WALL],
     },
+    Group {
+        name: "bounds refusals",
+        needs: &[Call::Bounds, Call::Sector],
+        cases: bad::bounds,
+        reaches: &[0, 1, 3, 4, 5, 6, 7, 8, ON_WALL, NO_RANGE],
+    },
 ];
 
 /// Legs whose windows face cells that were not reached.
@@ -117,12 +128,21 @@ pub const FOLLOWED: Group =
 /// Practice floors.
 const PRACTICE: &str = "practice";
 
+/// Two floors and a window step, and floors between them.
+pub const BOUNDS: &str = "bounds";
+
+const BUILT_ALONE: &str = "bounds, built alone";
+
+/// The same where nothing but building floors between finds a fault.
+pub const BUILT: Group =
+    Group { name: BUILT_ALONE, needs: &[Call::Bounds, Call::Sector], cases: bounds::bounds, reaches: &[0] };
+
 /// What a group that found no difference saw.
 #[derive(Clone, Default)]
 pub struct Clean {
     pub inputs: usize,
     /// How often each number was due. 16 is due where the Rust would open a wall, 17 where it would fall back on the
-    /// boundary's bits: so many inputs are left out of the comparison with it.
+    /// boundary's bits: so many inputs of a group that has the Rust are left out of the comparison with it.
     pub numbers: [usize; 21],
     /// How many inputs each judge decided, by its place in `Judge::ALL`. A build has two: fields and waves.
     pub judged: [usize; Judge::ALL.len()],
@@ -132,6 +152,8 @@ pub struct Clean {
     pub followed: Followed,
     /// The arrows that were looked at, of accepted sector calls and legs.
     pub cleared: Cleared,
+    /// The floors that were built, of accepted calls for bounds.
+    pub between: Between,
 }
 
 impl Clean {
@@ -143,6 +165,7 @@ impl Clean {
         other.met.iter().for_each(|(met, count)| *self.met.entry(*met).or_default() += count);
         self.followed.add(&other.followed);
         self.cleared.add(&other.cleared);
+        self.between.add(&other.between);
     }
 }
 
@@ -154,8 +177,8 @@ pub struct Difference {
     pub found: Vec<String>,
 }
 
-/// What the oracle says of one input, by which judges, and where a side differs from it; what was followed, if anything, and
-/// which arrows were looked at.
+/// What the oracle says of one input, by which judges, and where a side differs from it; what was followed, if anything,
+/// which arrows were looked at, and which floors were built between two.
 struct Compared {
     due: Outcome,
     outcome: Outcome,
@@ -163,9 +186,28 @@ struct Compared {
     found: Vec<String>,
     followed: Followed,
     cleared: Cleared,
+    between: Between,
 }
 
 impl Compared {
+    /// What was compared, and nothing looked at besides.
+    fn of(due: Outcome, outcome: Outcome, judges: Judges, found: Vec<String>) -> Self {
+        let (followed, cleared, between) = Default::default();
+        Compared { due, outcome, judges, found, followed, cleared, between }
+    }
+
+    /// Builds floors between the two of a call for bounds that both take, and holds the answer to them (02, Job 9).
+    fn built(mut self, case: &Case, side: &dyn Subject) -> Self {
+        let answer = self.outcome.bounds.filter(|answer| self.due.number == 0 && answer.number == 0);
+        let Some(answer) = answer else { return self };
+        let bounded = Bounded { low: &case.costs, high: &case.high, step: &case.steps, answer: &answer };
+        match bounded.held(side) {
+            Ok(between) => self.between = between,
+            Err(fault) => self.found.push(fault),
+        }
+        self
+    }
+
     /// Looks at the arrows of a sector call or a leg that both take: none passes a wall diagonally (02, Job 7).
     fn cleared(mut self, case: &Case) -> Self {
         let sheet = &self.outcome.sheet;
@@ -188,7 +230,7 @@ fn compared(case: &Case, side: &dyn Subject) -> Compared {
     assert!(judges.contains(&true), "no judge decided {:?}", case.ask);
     let outcome = case.run(side);
     let found = if due == outcome { Vec::new() } else { due.differences(&outcome) };
-    Compared { due, outcome, judges, found, followed: Followed::default(), cleared: Cleared::default() }
+    Compared::of(due, outcome, judges, found)
 }
 
 impl Group {
@@ -204,6 +246,7 @@ impl Group {
             ON_WALLS => legs::all_on_walls(),
             JOURNEY => legs::planned_kinds(),
             PRACTICE => practice::all(),
+            BOUNDS => bounds::all(),
             _ => Vec::new(),
         }
     }
@@ -214,26 +257,38 @@ impl Group {
             GAPS | JOURNEY => legs::met(case),
             ON_WALLS => legs::met_on_walls(case),
             PRACTICE => practice::met(case),
+            BOUNDS => bounds::met(case),
             _ => Vec::new(),
         }
     }
 
-    /// The judges of the group: those of its calls, and the table where it must have reached a refusal of the table's,
-    /// which has neither 15 nor the numbers of a call that has no Rust.
+    /// The judges of the group: those of the calls that it asks, and the table where it must have reached a refusal of the
+    /// table's, which has neither 15 nor the numbers of a leg's file.
     pub fn judges(&self) -> Vec<Judge> {
-        let accepted = self.needs.iter().filter(|_| self.reaches.contains(&0)).flat_map(|call| oracle::judges(*call));
+        let asked = if self.needs.contains(&Call::Bounds) { &[Call::Bounds][..] } else { self.needs };
+        let accepted = asked.iter().filter(|_| self.reaches.contains(&0)).flat_map(|call| oracle::judges(*call));
         let named: Vec<Judge> = accepted.copied().collect();
         let refused = self.reaches.iter().any(|number| ![0, CLOSED].contains(number));
-        let table = refused && named.iter().any(|judge| [Judge::Published, Judge::Altered].contains(judge));
+        let files = [Call::LegFileWrite, Call::LegFileRead];
+        let table = refused && !self.needs.iter().any(|call| files.contains(call));
         let named = |judge: &Judge| named.contains(judge) || (*judge == Judge::Table && table);
         Judge::ALL.into_iter().filter(named).collect()
+    }
+
+    /// Whether the Rust decides what the group's inputs must give.
+    pub fn has_rust(&self) -> bool {
+        self.judges().iter().any(|judge| [Judge::Published, Judge::Altered].contains(judge))
     }
 
     fn compared(&self, case: &Case, side: &dyn Subject) -> Compared {
         match self.name {
             JOURNEY => journeys::compared(case, side).cleared(case),
             FOLLOWED_ALONE => journeys::compared(case, side),
-            _ => compared(case, side).cleared(case),
+            BUILT_ALONE => {
+                let compared = compared(case, side);
+                Compared { found: Vec::new(), ..compared }.built(case, side)
+            }
+            _ => compared(case, side).cleared(case).built(case, side),
         }
     }
 
@@ -242,13 +297,14 @@ impl Group {
         for case in (self.cases)(Rng::new(seed), inputs) {
             clean.inputs += 1;
             self.met(&case).into_iter().for_each(|met| *clean.met.entry(met).or_default() += 1);
-            let Compared { due, judges, found, followed, cleared, .. } = self.compared(&case, side);
+            let Compared { due, judges, found, followed, cleared, between, .. } = self.compared(&case, side);
             clean.numbers[usize::from(due.number)] += 1;
             for (count, decided) in clean.judged.iter_mut().zip(judges) {
                 *count += usize::from(decided);
             }
             clean.followed.add(&followed);
             clean.cleared.add(&cleared);
+            clean.between.add(&between);
             if !found.is_empty() {
                 let smallest = shrink::smallest(&case, &|simpler| !self.compared(simpler, side).found.is_empty());
                 let found = self.compared(&smallest, side).found;
@@ -273,7 +329,10 @@ impl Group {
         if let Some(lacking) = clean.followed.lacks().filter(|_| self.name == JOURNEY) {
             return Some(format!("`{name}` did not meet {lacking} in {inputs} inputs: ask for more by --inputs"));
         }
-        let has_arrows = self.needs.iter().any(|call| [Call::Sector, Call::Leg].contains(call));
+        if let Some(lacking) = clean.between.lacks().filter(|_| self.needs.contains(&Call::Bounds)) {
+            return Some(format!("`{name}` did not meet {lacking} in {inputs} inputs: ask for more by --inputs"));
+        }
+        let has_arrows = self.has_rust() && self.needs.iter().any(|call| [Call::Sector, Call::Leg].contains(call));
         if let Some(lacking) = clean.cleared.lacks().filter(|_| has_arrows) {
             return Some(format!("`{name}` did not look at {lacking} in {inputs} inputs: ask for more by --inputs"));
         }

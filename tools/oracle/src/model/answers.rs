@@ -20,7 +20,12 @@ fn lent(previous: Previous<'_>) -> Option<&[u32]> {
 
 impl Model {
     /// The built field, its waves and the flow bytes of a sector.
-    fn planned(&self, costs: &[u8], step: &[u8], previous: Option<&[u32]>) -> (IntegrationField, usize, [u8; CELLS]) {
+    pub(crate) fn planned(
+        &self,
+        costs: &[u8],
+        step: &[u8],
+        previous: Option<&[u32]>,
+    ) -> (IntegrationField, usize, [u8; CELLS]) {
         let window = window_cells(step);
         let (field, waves) = self.built(costs, &self.started(costs, step, &window));
         let starting = self.starting_bytes(step, &window, &field.field, previous);
@@ -171,5 +176,13 @@ impl Subject for Model {
 
     fn practice_floor(&self, seed: u32) -> PracticeFloor {
         self.practice(seed)
+    }
+
+    fn bounds(&self, low: &[u8], high: &[u8], step: &[u8]) -> Bounds {
+        let given = Given { costs: Some(low), high: Some(high), steps: Some(step), ..Given::default() };
+        match self.turned_away(&given, &mut []) {
+            Some(number) => self.refused_bounds(number),
+            None => self.bounds_between(low, high, step),
+        }
     }
 }

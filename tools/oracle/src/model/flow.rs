@@ -5,7 +5,7 @@ use super::{EAST, Model, NORTH, SOUTH, Slip, WEST, beside, walls_beside_move};
 use crate::subject::*;
 
 /// Low halves toward N, E, S, W, NE, SE, SW, NW.
-pub(super) const BITS: [u8; 8] = [1, 2, 4, 8, 1 + 2, 4 + 2, 4 + 8, 1 + 8];
+pub(crate) const BITS: [u8; 8] = [1, 2, 4, 8, 1 + 2, 4 + 2, 4 + 8, 1 + 8];
 
 const PATHABLE: u8 = 0x10;
 const WALL: u8 = 0xE0;
@@ -142,7 +142,7 @@ impl Model {
     }
 
     /// Walls, and diagonals with a wall beside them.
-    fn passed_over(&self, cells: &[u32; CELLS], from: usize, to: usize) -> bool {
+    pub(super) fn passed_over(&self, cells: &[u32; CELLS], from: usize, to: usize) -> bool {
         let wall = |cell: usize| has(cells[cell], IMPASSABLE);
         let [in_row, in_column] = walls_beside_move(from, to, wall);
         let barred = match self.slip {

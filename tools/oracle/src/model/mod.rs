@@ -2,6 +2,7 @@
 //! and the same model with one slip planted (`Slip`), to see that the groups find it.
 
 mod answers;
+mod bounds;
 mod flow;
 mod integration;
 mod leg;

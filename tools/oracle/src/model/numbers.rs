@@ -2,7 +2,9 @@
 
 use super::leg::taken_but_for_walls;
 use super::{Model, Slip};
-use crate::refusals::{self, FIELDLESS, Given, Judged, ON_WALL, Table, first, named_cells};
+use crate::refusals::{
+    self, FIELDLESS, Given, Judged, NO_RANGE, ON_WALL, Table, first, is_no_range, named_cells, size,
+};
 
 /// What comes of a call.
 pub(super) enum Verdict {
@@ -26,6 +28,8 @@ impl Model {
         self.slip_in_step(&mut table);
         self.slip_on_walls(&mut table, given);
         self.slip_without_field(&mut table);
+        self.slip_on_floors(&mut table);
+        self.slip_in_range(&mut table);
         self.slip_elsewhere(&mut table);
         let due = self.early(&table, given).or_else(|| self.late(given));
         match due.unwrap_or_else(|| table.number(given)) {
@@ -67,7 +71,7 @@ impl Model {
                 rows.swap(4, 5);
                 rows[4].holds = |s| s.on_wall() || (s[2] == 1 && wall_at_end(s));
             }
-            Slip::OnWallInit if given.sheet.is_none() => rows[5].holds = |_| false,
+            Slip::OnWallInit if is_init(given) => rows[5].holds = |_| false,
             Slip::OnWallSector if given.sheet.is_some() && !given.leg => rows[5].holds = |_| false,
             Slip::OnWallLeg if given.leg => rows[5].holds = |_| false,
             _ => {}
@@ -87,6 +91,39 @@ impl Model {
             Slip::FieldlessByLength => {
                 row.holds = |g| fieldless_window(g) && g.previous.is_some_and(|p| p.numbers.is_empty())
             }
+            Slip::RangeFieldless => row.holds = |g| fieldless_window(g) || g.is_bounds_call(),
+            _ => {}
+        }
+    }
+
+    /// Slips in the rows of 1 and 16 that forget one of two floors.
+    fn slip_on_floors(&self, table: &mut Table) {
+        let (length, wall) = (&mut table.lent[0], &mut table.each_step[5]);
+        match self.slip {
+            Slip::RangeLowLength => length.holds = |g| g.high.or(g.costs).is_some_and(|costs| costs.len() != size(g)),
+            Slip::RangeHighLength => length.holds = |g| g.costs.is_some_and(|costs| costs.len() != size(g)),
+            Slip::RangeWallLowAlone => wall.holds = |s| Judged { high: &[], ..*s }.on_wall(),
+            Slip::RangeWallHighAlone => {
+                wall.holds = |s| if s.high.is_empty() { s.on_wall() } else { Judged { costs: &[], ..*s }.on_wall() }
+            }
+            _ => {}
+        }
+    }
+
+    /// Slips in the row of 18.
+    fn slip_in_range(&self, table: &mut Table) {
+        let row = &mut table.bounds_call[0];
+        match self.slip {
+            Slip::RangeGoalTaken => row.holds = |g| g.from_to().any(is_no_range),
+            Slip::RangeAboveTaken => {
+                row.holds = |g| no_window(g) || g.from_to().any(|(low, high)| (low == 255) != (high == 255))
+            }
+            Slip::RangeLastCell => row.holds = |g| no_window(g) || g.from_to().take(99).any(is_no_range),
+            Slip::RangeFirstCell => row.holds = |g| no_window(g) || g.from_to().take(1).any(is_no_range),
+            Slip::RangeAtWindow => row.holds = |g| no_window(g) || no_range_but_at_window(g),
+            Slip::RangeWallInHigh => row.holds = |g| no_window(g) || g.from_to().any(|(low, high)| low > high),
+            Slip::RangeEqual => row.holds = |g| is_due(g) || g.is_bounds_call() && g.costs == g.high,
+            Slip::RangeWallInBoth => row.holds = |g| is_due(g) || g.from_to().any(|costs| costs == (255, 255)),
             _ => {}
         }
     }
@@ -140,6 +177,14 @@ impl Model {
         if before != 0 && fieldless_window(given) && table.number(given) == before {
             return Some(FIELDLESS);
         }
+        let before = match self.slip {
+            Slip::RangeBeforeOrder => 8,
+            Slip::RangeBeforeWalls => ON_WALL,
+            _ => 0,
+        };
+        if before != 0 && is_due(given) && table.number(given) == before {
+            return Some(NO_RANGE);
+        }
         let steps = given.steps.filter(|_| given.leg && first(&table.lent, given).is_none())?;
         match self.slip {
             Slip::NineBeforeSteps => first(&table.whole_leg[..1], steps),
@@ -173,7 +218,22 @@ fn fieldless_window(g: &Given) -> bool {
 }
 
 fn is_init(g: &Given) -> bool {
-    g.costs.is_some() && g.steps.is_some() && g.sheet.is_none()
+    g.costs.is_some() && g.steps.is_some() && g.sheet.is_none() && !g.is_bounds_call()
+}
+
+fn no_window(g: &Given) -> bool {
+    g.is_bounds_call() && !g.has_window()
+}
+
+/// Whether the condition of 18 holds.
+fn is_due(g: &Given) -> bool {
+    no_window(g) || g.from_to().any(is_no_range)
+}
+
+/// Whether a cell outside the window has costs that are no from-to.
+fn no_range_but_at_window(g: &Given) -> bool {
+    let named = g.steps.map_or(Vec::new(), named_cells);
+    g.from_to().enumerate().any(|(cell, costs)| is_no_range(costs) && !named.contains(&cell))
 }
 
 /// Whether the cell that a byte of the step names is a wall, read or not.
