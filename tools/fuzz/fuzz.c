@@ -6,9 +6,12 @@
  * of an accepted sector call or leg that leads to a cell of the sector passes a wall diagonally. The arrows of a planned
  * leg, followed from every reached cell of a later sector, come into the goal's sector in at most 1,500 moves, as far as
  * there is no cost 0 on the way. A practice floor has costs of 1, 10 and 255, its goal inside and on cost 1, is the same
- * when it is made again, and is planned for its goal. A fault, and a run in which no call was accepted or none refused, no
- * leg of several steps planned, none refused with 15, no arrow followed, no diagonal one looked at, init, the sector call or
- * a leg never refused with 16, the sector call never with 17, or no practice floor with all three costs, is one line on
+ * when it is made again, and is planned for its goal. Bounds are accepted of from-to costs and a window alone; no least is
+ * above its greatest, walls and window cells have theirs and no mark, and a sure cell is reached; on low, high and a floor
+ * between, the sector call builds costs that lie between and meet the bounds, and gives each sure cell one and the same
+ * arrow. A fault, and a run in which no call was accepted or none refused, no leg of several steps planned, none refused
+ * with 15, no arrow followed, no diagonal one looked at, init, the sector call, a leg or bounds never refused with 16, the
+ * sector call never with 17, bounds never with 18, no cell sure, or no practice floor with all three costs, is one line on
  * standard error and exit status 1.
  */
 #define _DEFAULT_SOURCE
@@ -154,9 +157,9 @@ static int zeros(const void *part, size_t length)
 
 /* How many calls answered 0, and how many a number; how many legs of several steps were planned, and how many had a window
    in which no cell counts; from how many cells arrows were followed; how many diagonal arrows were looked at; how many of
-   init, sector calls and legs had a step on a wall; how many sector calls had a window without a previous field; how many
-   practice floors had all three costs. */
-static unsigned long accepted, turned_away, planned, closed, followed, diagonal, on_wall[3], fieldless, practised;
+   init, sector calls, legs and bounds had a step on a wall; how many sector calls had a window without a previous field;
+   how many practice floors had all three costs; how many bounds had no from-to or no window, and how many cells were sure. */
+static unsigned long accepted, turned_away, planned, closed, followed, diagonal, on_wall[4], fieldless, practised, unranged, sure;
 
 static void tallied(uint8_t number)
 {
@@ -206,7 +209,8 @@ static void open_steps(const Fenced *costs, const Fenced *route)
             *wall = 1;
 }
 
-/* Looks at 16, which init (0), a sector call (1) and a leg (2) have: the steps of an accepted call stand on no wall. */
+/* Looks at 16, which init (0), a sector call (1), a leg (2) and bounds (3) have: the steps of an accepted call stand on no
+   wall. */
 static void walls(int call, uint8_t number, const Fenced *costs, const Fenced *route)
 {
     on_wall[call] += number == 16;
@@ -362,11 +366,115 @@ static void a_practice_floor(Fenced *sheet)
         fail("a practice floor is refused for its own goal");
 }
 
+/* Two floors of any costs, mostly from-to: the high one at least the low one, with the same walls, and mostly none under the
+   step; now and then one cell is spoiled. */
+static void two_floors(Fenced *low, Fenced *high, const Fenced *route)
+{
+    uint8_t *wall;
+    place(low, near(100));
+    place(high, below(8) ? low->length : near(100));
+    fill(low);
+    fill(high);
+    while (route->length == 8 && below(8) && (wall = wall_under(low, route, 0, 0)) != NULL)
+        *wall = 1;
+    if (low->length != high->length || low->length == 0 || below(8) == 0)
+        return;
+    for (size_t i = 0, wide = 1 + below(255); i < low->length; i++)
+        high->at[i] = (uint8_t)(low->at[i] + (low->at[i] == HANJOLUM_WALL ? 0 : below(255u - low->at[i]) % wide));
+    if (below(4) == 0)
+        (below(2) ? low : high)->at[below((uint32_t)low->length)] = below(2) ? HANJOLUM_WALL : (uint8_t)draw();
+}
+
+/* Whether some cell of two floors has costs that are no from-to. */
+static int no_range(const Fenced *low, const Fenced *high)
+{
+    for (size_t i = 0; i < 100; i++)
+        if (low->at[i] > high->at[i] || (low->at[i] == HANJOLUM_WALL) != (high->at[i] == HANJOLUM_WALL))
+            return 1;
+    return 0;
+}
+
+/* The cost of a wall, and of a cell that nothing reaches. */
+enum { UNREACHED = 65535 };
+
+/* Looks at each cell of accepted bounds. */
+static void ranges(const HanjolumBounds *b, const Fenced *low)
+{
+    for (int i = 0; i < 100; i++) {
+        if (b->least[i] > b->greatest[i] || b->greatest[i] > UNREACHED)
+            fail("a least cost is above the greatest, or one is above 65535");
+        if ((b->least[i] == UNREACHED) != (b->greatest[i] == UNREACHED))
+            fail("a cell is reached by one of its bounds alone");
+        if (low->at[i] == HANJOLUM_WALL && (b->least[i] != UNREACHED || b->sure[i]))
+            fail("a wall has a cost or a mark");
+        if (b->sure[i] && b->greatest[i] == UNREACHED)
+            fail("a cell that is not reached is sure");
+        sure += b->sure[i];
+    }
+}
+
+/* Plans a floor between with a previous field of any numbers: the costs lie between the bounds, are those that low or high
+   have to meet, and each sure cell has the arrow that it had before, 0 before the first floor. */
+static void a_floor_between(const HanjolumBounds *b, const uint8_t *costs, const uint32_t *met, const Fenced *route, uint8_t *arrows)
+{
+    uint32_t previous[100];
+    uint8_t sheet[100] = {0};
+    for (int i = 0; i < 100; i++)
+        previous[i] = draw();
+    HanjolumBuildAnswer a = hanjolum_sector(costs, 100, route->at, 8, true, previous, 100, sheet, 100);
+    if (a.number != 0)
+        fail("a floor between is refused");
+    for (int i = 0; i < 100; i++) {
+        uint32_t cost = a.field.field[i] & HANJOLUM_FIELD_COST;
+        uint8_t arrow = sheet[i] & 0x0F;
+        if (cost < b->least[i] || cost > b->greatest[i])
+            fail("a floor between has a cost that is out of bounds");
+        if (met != NULL && cost != met[i])
+            fail("a bound is not met by its floor");
+        if ((a.field.field[i] & HANJOLUM_FIELD_PORTAL) != 0 && (b->greatest[i] != 0 || b->sure[i]))
+            fail("a window cell has a cost or a mark");
+        if (b->sure[i] && (arrow == 0 || (arrows[i] != 0 && arrows[i] != arrow)))
+            fail("a sure cell has no arrow, or another on a floor between");
+        arrows[i] = arrow;
+    }
+}
+
+/* Bounds of two floors. */
+static void bounds(Fenced *low, Fenced *high, Fenced *route)
+{
+    uint8_t between[100], arrows[100] = {0};
+    place(route, near(8));
+    steps(route, 0);
+    two_floors(low, high, route);
+    HanjolumBounds b = hanjolum_bounds(low->at, low->length, high->at, high->length, route->at, route->length);
+    counted(b.number);
+    walls(3, b.number, low, route);
+    unranged += b.number == 18;
+    if (b.number != 0) {
+        if (!(zeros(b.least, sizeof b.least) && zeros(b.greatest, sizeof b.greatest) && zeros(b.sure, sizeof b.sure)))
+            fail("refused bounds are not zero");
+        if (b.number == 18 && route->at[2] == 1 && !no_range(low, high))
+            fail("18 is answered to from-to costs and a window");
+        return;
+    }
+    if (route->at[2] != 1 || no_range(low, high))
+        fail("costs that are no from-to, or a goal, are accepted");
+    if (wall_under(high, route, 0, 0) != NULL)
+        fail("a step on a wall of the high floor is accepted");
+    ranges(&b, low);
+    for (int i = 0; i < 100; i++)
+        between[i] = (uint8_t)(low->at[i] + below(high->at[i] - low->at[i] + 1u));
+    a_floor_between(&b, low->at, b.least, route, arrows);
+    a_floor_between(&b, high->at, b.greatest, route, arrows);
+    a_floor_between(&b, between, NULL, route, arrows);
+}
+
 /* One call of each kind that writes a sheet, and one of each that does not. */
 static void round_of_calls(Fenced *costs, Fenced *route, Fenced *previous, Fenced *sheet)
 {
     file_calls(route, sheet);
     a_practice_floor(sheet);
+    bounds(costs, previous, route);
     int leg = below(4) == 0;
     place(costs, near(leg ? 6400 : 100));
     place(route, near(leg ? 8 * (1 + below(17)) : 8));
@@ -443,17 +551,20 @@ static void report(unsigned long rounds)
         fail("no arrow of a leg was followed");
     if (diagonal == 0)
         fail("no diagonal arrow was looked at");
-    if (on_wall[0] == 0 || on_wall[1] == 0 || on_wall[2] == 0)
-        fail("init, the sector call or a leg was never refused with 16");
+    if (on_wall[0] == 0 || on_wall[1] == 0 || on_wall[2] == 0 || on_wall[3] == 0)
+        fail("init, the sector call, a leg or bounds were never refused with 16");
     if (fieldless == 0)
         fail("the sector call was never refused with 17");
     if (practised == 0)
         fail("no practice floor had all three costs");
+    if (unranged == 0 || sure == 0)
+        fail("bounds were never refused with 18, or no cell was sure");
     printf("%lu rounds of calls, %lu accepted and %lu refused, %lu legs of several steps planned and %lu refused with 15, "
            "arrows followed from %lu cells to the goal's sector, %lu diagonal arrows looked at, "
-           "%lu init, %lu sector calls and %lu legs refused with 16, %lu sector calls with 17, %lu practice floors, nothing found\n",
+           "%lu init, %lu sector calls, %lu legs and %lu bounds refused with 16, %lu sector calls with 17, %lu bounds with 18, "
+           "%lu sure cells, %lu practice floors, nothing found\n",
            rounds, accepted, turned_away, planned, closed, followed, diagonal, on_wall[0], on_wall[1], on_wall[2],
-           fieldless, practised);
+           on_wall[3], fieldless, unranged, sure, practised);
     written();
 }
 
