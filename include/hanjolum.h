@@ -211,7 +211,7 @@ HanjolumBuildAnswer hanjolum_sector(
  * higher one, and low itself has the least, high itself the greatest. 65535 is a wall, or a cell that nothing reaches; a
  * cell that is reached on one floor between is reached on all. A window cell has 0.
  * A neighbour of a cell is permitted if the look for arrows does not pass it over: it lies in the sector, is no wall, and
- * no walls bar the diagonal move to it. A cell is sure exactly if a permitted neighbour is a window cell, or if the greatest
+ * the move to it passes no wall diagonally. A cell is sure exactly if a permitted neighbour is a window cell, or if the greatest
  * cost of one reached, permitted neighbour is strictly below the least cost of all other permitted ones; walls and window
  * cells are not marked. On every floor between, and with any previous field or none, the arrow of a sure cell is the same.
  * A cell that is not marked may have one arrow on all floors as well.

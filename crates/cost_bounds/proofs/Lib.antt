@@ -1,6 +1,7 @@
 pub mod Examples
 pub mod Floors
 pub mod Permitted
+pub mod Places
 pub mod Marks
 pub mod Sure
 pub mod Promise

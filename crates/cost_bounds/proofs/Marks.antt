@@ -65,10 +65,10 @@ module _ (p : ℕ → Bool) where
 
 module _ {costs window cells corners built : List ℕ} (s : Sector costs window cells corners built) (x : ℕ) (h : x < 100) where
   -- a wall of the field is a wall of the sector
-  wall-true : Wall costs (to-window window) x → wallAt built x ≡ true
+  pub wall-true : Wall costs (to-window window) x → wallAt built x ≡ true
   wall-true w = ap isImpassable (wall-word s x h (w .impassable) (λ a. w .not-window (among-mem x window a)))
 
-  true-wall : wallAt built x ≡ true → Wall costs (to-window window) x
+  pub true-wall : wallAt built x ≡ true → Wall costs (to-window window) x
   true-wall t =
       by-kind s x h
       (λ a e. absurd (true≢false (sym t ∙ ap isImpassable e)))

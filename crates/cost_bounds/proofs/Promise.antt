@@ -32,7 +32,8 @@ use Rattle.arrows.proofs.CellBytes.{window-sector}
 use Rattle.cost_bounds.specs.Bounds.{costsOn, isSure, sureOn}
 use Rattle.cost_bounds.specs.Promise.{FloorBetween, CostBounds, SureCell, SureArrow, SureMarks}
 use Rattle.cost_bounds.proofs.Floors.{started-same, not-dearer, reached-too, portal-known}
-use Rattle.cost_bounds.proofs.Marks.{sure-told, same-sure}
+use Rattle.cost_bounds.proofs.Places.{permitted-told}
+use Rattle.cost_bounds.proofs.Marks.{true-wall, wall-true, sure-told, same-sure}
 use Rattle.cost_bounds.proofs.Sure.{points-at, Within, Chosen, chosen}
 
 -- two floors of bytes with a from-to in each cell
@@ -156,6 +157,9 @@ module _ (low high window : List ℕ) (r : Ranged low high) (window-in : WindowI
     marks = record {
       exact = exact;
       arrows = λ x h e. sure-arrow x h (sure-told sector-low x h least greatest .0 (sym (sure-at x h) ∙ e));
+      places = λ costs b x h n.
+          (let s = sector-on costs b in
+          permitted-told costs target (builtCells costs target) (λ y l. (true-wall s y l, wall-true s y l)) x h n);
     }
 
 -- ---- for a target that is a window

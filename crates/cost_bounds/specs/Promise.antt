@@ -15,7 +15,7 @@ use Rattle.route.specs.Target.{Target, WindowCell}
 use Rattle.least_walks.specs.Walks.{Wall}
 use Rattle.flow_byte.specs.declared.Look.the-variants.{Looking}
 use Rattle.flow_byte.specs.Look.{lookAt}
-use Rattle.arrows.specs.Arrows.{builtCost, Reached, arrow, Away}
+use Rattle.arrows.specs.Arrows.{builtCost, Reached, arrow, Away, PassesWall}
 use Rattle.arrows.specs.Promise.{builtCells}
 
 -- a floor between two others (02, "Job 9": all floors between them): each cell costs at least what it costs on the low one, and at most what it
@@ -50,6 +50,16 @@ pub record PermittedNeighbour (cells : List ℕ) (x n : ℕ) : Type 0 where
   pub arrives : stepped (cellAt x) way ≡ Cell (cellAt n)
   pub not-passed : PassesOver cells x way → ⊥
 
+-- The same by rows and columns, and by nothing of a look (02, "Job 9", and "Job 7" for the diagonals that are barred): a cell of the sector that an
+-- arrow can point at, that is no wall, and to which no wall is passed diagonally.
+pub record PermittedPlace (costs : List ℕ) (target : Target) (x n : ℕ) : Type 0 where
+  pub way : ℕ
+  pub way-in : way < 16
+  pub away : Away way x n
+  pub inside : n < 100
+  pub no-wall : Wall costs target n → ⊥
+  pub no-wall-passed : PassesWall costs target x n → ⊥
+
 module _ (cells : List ℕ) (target : Target) (least greatest : List ℕ) where
   -- what makes a cell sure (02, "Job 9"): a permitted neighbour is a window cell, or the greatest cost of one reached, permitted neighbour is
   -- strictly below the least cost of all other permitted ones
@@ -82,3 +92,6 @@ pub record SureMarks (low high : List ℕ) (target : Target) (bytes : List ℕ �
   pub exact : (costs : List ℕ) → FloorBetween low high costs → (x : ℕ) → x < 100
       → (getD sure x false ≡ true) ↔ SureCell (builtCells costs target) target least greatest costs x
   pub arrows : (x : ℕ) → x < 100 → getD sure x false ≡ true → SureArrow low high target bytes least greatest x
+  -- the permitted neighbours on each of these floors, by rows and columns
+  pub places : (costs : List ℕ) → FloorBetween low high costs → (x : ℕ) → x < 100 → (n : ℕ)
+      → PermittedNeighbour (builtCells costs target) x n ↔ PermittedPlace costs target x n
