@@ -2,6 +2,7 @@
 // their bytes, or the first record that differs. The answers are the published Rust's; a file that has another judge has
 // its name behind a dot: the Rust altered in one rule, the table of refusals, or the model.
 mod files;
+mod floors;
 mod flow;
 mod integration;
 mod legs;
@@ -33,6 +34,7 @@ fn agrees(section: u8, record: &[u8]) -> bool {
         11 => files::read_agrees(record),
         12 => seeds::floor_agrees(record),
         13 => seeds::text_agrees(record),
+        14 => floors::bounds_agree(record),
         _ => false,
     }
 }
@@ -107,4 +109,6 @@ fn main() {
     replay(11, b"leg_file_read.model", 154);
     replay(12, b"practice.model", 105);
     replay(13, b"practice_text.model", 223);
+    replay(14, b"bounds.model", 1115);
+    replay(14, b"bounds.table", 1115);
 }
