@@ -1,5 +1,6 @@
 -- One wave of the recursion.
 --     settles-none     no wave is left
+--     settles-empty    a wave from no cell changes none
 --     settles-still    a wave that changes no cell is the last
 --     settles-more     a wave that changes a cell, and then the waves from those cells
 --     built-is         any number of waves from 99 on gives the definition's answer
@@ -13,7 +14,7 @@ use native.Mathlib.Omega.{arith}
 use lib.Dec.{eqb}
 use lib.ListN.{length, take}
 use lib.Seq.{length-take-le}
-use borrow.Author.Tests.{eqb-true}
+use borrow.Author.Tests.{eqb-true, eq-eqb}
 use Rattle.utilities.specs.Lists.{consIf}
 use Rattle.integration_field.specs.declared.IntegrationField.{IntegrationField}
 use Rattle.integration_field.specs.Listed.{padded, Indexes, listOf, withCorners}
@@ -40,10 +41,21 @@ unchanged i (a ∷ olds) (b ∷ news) n e = go (eqb a b) refl e (λ q. unchanged
     go true t e ih = ap₂ (λ (x : ℕ) (l : List ℕ). x ∷ l) (sym (eqb-true a b t)) (ih e)
     go false t e ih = absurd (omega (arith, ap length e))
 
+-- and where they are as before, none changed
+none-changed : (i : ℕ) (cells : List ℕ) → changedFrom i cells cells ≡ []
+unfolding changedFrom
+none-changed i [] = refl
+none-changed i (a ∷ cells) = rw (eq-eqb a a refl) (none-changed (suc i) cells)
+
 some-full : (l : List ℕ) → (length l ≡ 0 → ⊥) → isEmpty l ≡ false
 unfolding isEmpty
 some-full [] e = absurd (e refl)
 some-full (x ∷ l) e = refl
+
+pub settles-empty : (costs cells wave : List ℕ) (fuel count : ℕ) → count ≡ 0 → Settles costs cells (take count wave) fuel cells 0
+unfolding next offeredBy
+settles-empty costs cells wave fuel count e =
+    rw e (record { within = omega arith; settled = λ h. let q = none-changed 0 cells in sym (settle-any costs fuel 0 _ h q ∙ settle-none costs _ q) })
 
 module _ (costs cells wave : List ℕ) where
   pub settles-none : Settles costs cells wave 0 cells 0

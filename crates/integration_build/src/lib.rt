@@ -123,6 +123,10 @@ fn propagate_integrated_wavefront(
     if fuel == 0 {
         return 0;
     }
+    // No cell offers, so none changes: a field without corners.
+    if count == 0 {
+        return 0;
+    }
     let before = *cells;
     offer_wave(cells, costs, &before, wavefront, count);
     let mut next = [0; 100];

@@ -6,7 +6,7 @@ use native.Mathlib.Nat.{pos-of-ne-zero}
 use native.Mathlib.Omega.{arith}
 use borrow.Fn.Kinds.{In}
 use borrow.Fn.PlainCycle.{Measures, is, falls, and}
-use Rattle.integration_build.proofs.Recursion.{new-length, settles-none, settles-still, settles-more}
+use Rattle.integration_build.proofs.Recursion.{new-length, settles-none, settles-empty, settles-still, settles-more}
 use Rattle.integration_build.proofs.propagate_integrated_wavefront.Reads as go
 use Rattle.integration_build.proofs.propagate_integrated_wavefront.Kinds as kinds
 use Rattle.integration_build.proofs.+propagate_integrated_wavefront.Lts-propagate_integrated_wavefront as lts
@@ -34,7 +34,7 @@ module _ (t : ℕ) where
   Made = lts.After-offer-wave (calls t) (at t) go.Post
 
   abbrev fuelled : Made → lts.Else1 (calls t) (at t) go.Post
-  fuelled m = m .before .before .before .before
+  fuelled m = m .before .before .before .before .before
 
   abbrev start : Made → lts.Start (calls t) (at t) go.Post
   start m = fuelled m .before .before
@@ -45,9 +45,12 @@ module _ (t : ℕ) where
   returns : lts.Need-returns (calls t) (at t) go.Post
   returns c = rw (c .if1 .taken) (settles-none _ _ _)
 
+  returns-2 : lts.Need-returns-2 (calls t) (at t) go.Post
+  returns-2 c = settles-empty _ _ _ _ _ (c .if2 .taken)
+
   offer-wave-requires : lts.Need-offer-wave-requires (calls t) (at t) go.Post
   offer-wave-requires c κs =
-      let p = c .before .before .before .before .before .pre .1 in
+      let p = c .before .before .before .before .before .before .pre .1 in
       (p .0, p .1 .1)
 
   changed-requires : lts.Need-changed-requires (calls t) (at t) go.Post
@@ -56,11 +59,11 @@ module _ (t : ℕ) where
       let long = start m .pre .1 .1 .0 in
       (long, (new-length _ _ _ (m .offer-wave .ensures) ∙ long, refl))
 
-  returns-2 : lts.Need-returns-2 (calls t) (at t) go.Post
-  returns-2 c =
+  returns-3 : lts.Need-returns-3 (calls t) (at t) go.Post
+  returns-3 c =
       let found = c .before in
       let m = found .before .before .before .before in
-      settles-still _ _ _ _ _ _ (m .offer-wave .ensures) (found .changed .ensures) _ (c .if2 .taken)
+      settles-still _ _ _ _ _ _ (m .offer-wave .ensures) (found .changed .ensures) _ (c .if3 .taken)
 
   sub-fuel : lts.Need-sub-propagate-integrated-wavefront (calls t) (at t) go.Post
   sub-fuel c = some-fuel (c .before .before .before .before .before .before .before)
@@ -78,15 +81,15 @@ module _ (t : ℕ) where
       let m = c .before .before .before .before .before .before .before .before in
       omega (arith, c .propagate-integrated-wavefront .ensures .within, start m .fits .fuel, some-fuel m)
 
-  returns-3 : lts.Need-returns-3 (calls t) (at t) go.Post
-  returns-3 c =
+  returns-4 : lts.Need-returns-4 (calls t) (at t) go.Post
+  returns-4 c =
       let more = c .before .before .before in
       let found = more .before in
       let m = found .before .before .before .before in
-      settles-more _ _ _ _ _ _ (m .offer-wave .ensures) (found .changed .ensures) _ _ _ (fuelled m .if1 .left) (more .if2 .left)
+      settles-more _ _ _ _ _ _ (m .offer-wave .ensures) (found .changed .ensures) _ _ _ (fuelled m .if1 .left) (more .if3 .left)
       (c .propagate-integrated-wavefront .ensures)
 
 pub +propagate-integrated-wavefront-spec : {M : Type 1} → statement M
 +propagate-integrated-wavefront-spec =
     close μ λ t. lts.spec (calls t) (at t) go.Post
-    (returns t) (offer-wave-requires t) (changed-requires t) (returns-2 t) (sub-fuel t) (go-requires t) (add-waves t) (returns-3 t)
+    (returns t) (returns-2 t) (offer-wave-requires t) (changed-requires t) (returns-3 t) (sub-fuel t) (go-requires t) (add-waves t) (returns-4 t)
