@@ -21,7 +21,8 @@ use Rattle.fields.proofs.Steps.{index-of-cell}
 use Rattle.integration_field.specs.Diagonal.{wallAt, passesWall}
 use Rattle.arrows.proofs.Around.{Sees, sees, near-in}
 use Rattle.arrows.proofs.Look.{passes, sees-on}
-use Rattle.cost_bounds.specs.Bounds.{isPassedOver, consPermitted, permittedAlong, permittedFrom}
+use Rattle.flow_byte.specs.Look.{isPassedOver}
+use Rattle.cost_bounds.specs.Bounds.{consPermitted, permittedAlong, permittedFrom}
 use Rattle.cost_bounds.specs.Promise.{PermittedNeighbour}
 
 -- neither of two tests holds

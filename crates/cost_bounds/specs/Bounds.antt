@@ -16,8 +16,9 @@ use Rattle.route.specs.Table.{row, firstNumber}
 use Rattle.route.specs.Window.{below}
 use Rattle.route.specs.Step.{isWindow, isWallCost, stepNumberOn}
 use Rattle.route.specs.Target.{Target, windowOf, targetOf}
-use Rattle.integration_field.specs.Diagonal.{wallAt, passesWall}
+use Rattle.integration_field.specs.Diagonal.{wallAt}
 use Rattle.flow_byte.specs.New.{isIn}
+use Rattle.flow_byte.specs.Look.{isPassedOver}
 use Rattle.arrows.specs.Arrows.{builtCost}
 use Rattle.arrows.specs.Promise.{builtCells}
 use Rattle.cost_bounds.specs.declared.Bounds.{Bounds}
@@ -58,10 +59,6 @@ abbrev pub costsOn : List ℕ → Target → List ℕ
 costsOn costs target = map (builtCost (builtCells costs target)) (below 100)
 
 -- ---- sure cells
-
--- the look from cell i passes over cell n (01, "Flow byte"): a wall, or a diagonal that walls bar
-abbrev pub isPassedOver : List ℕ → ℕ → ℕ → Bool
-isPassedOver cells i n = wallAt cells n || passesWall cells i n
 
 -- the cell where a step from cell i arrives, before the list, unless it is passed over
 abbrev pub consPermitted : List ℕ → ℕ → Stepped → List ℕ → List ℕ

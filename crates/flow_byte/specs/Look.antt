@@ -1,6 +1,6 @@
 -- Looking around for the cheapest neighbour (01, "Flow byte"; 02, "Job 7").
 -- Assumes nothing.
-use mathlib.Core.Bool.{cond, _||_}
+use mathlib.Core.Bool.{Bool, cond, _||_}
 use mathlib.Core.List.{List, [], _∷_, map}
 use Prim.Native.Nat.{ℕ, _+_}
 use lib.Dec.{ltb, eqb}
@@ -19,13 +19,17 @@ use Rattle.flow_byte.specs.declared.Look.{Look}
 use Rattle.flow_byte.specs.declared.Look.the-variants.{Looking, Taken, Ended}
 use Rattle.flow_bits.specs.Byte.{bitsOf, isPathable, isImpassable}
 
+-- a look from cell i passes over the neighbour at index n: a wall, or a diagonal that passes one (02, Job 7)
+abbrev pub isPassedOver : List ℕ → ℕ → ℕ → Bool
+isPassedOver cells i n = wallAt cells n || passesWall cells i n
+
 -- What a look from cell i makes of the neighbour at index n in direction d, with the best so far and its value.
 -- Walls, and diagonals that pass one (02, Job 7), are passed over. The first GOAL or PORTAL is taken.
 -- Low bits 65535 first, in a cell with neither of these flags: looking ends. Best is strictly least, earliest.
 unfoldable pub seen : List ℕ → ℕ → CompassDir → ℕ → CompassDir → ℕ → Look
 seen cells i d n best value =
     let x = getD cells n 0 in
-    cond (wallAt cells n || passesWall cells i n) (Looking best value)
+    cond (isPassedOver cells i n) (Looking best value)
     (cond (isGoal x || isPortal x) (Taken d)
     (cond (eqb (low x) 65535) (Ended best)
     (cond (ltb (low x) value) (Looking d (low x)) (Looking best value))))

@@ -28,7 +28,8 @@ use Rattle.integration_field.specs.Word.{isPortal}
 use Rattle.integration_field.specs.Diagonal.{wallAt}
 use Rattle.integration_field.specs.Listed.{Indexes}
 use Rattle.flow_byte.specs.New.{isIn}
-use Rattle.cost_bounds.specs.Bounds.{someOf, everyOf, isPassedOver, consPermitted, permittedAlong, permittedFrom, isBelowOthers, isSure}
+use Rattle.flow_byte.specs.Look.{isPassedOver}
+use Rattle.cost_bounds.specs.Bounds.{someOf, everyOf, consPermitted, permittedAlong, permittedFrom, isBelowOthers, isSure}
 use Rattle.cost_bounds.proofs.Permitted.{listed-told, permitted-in}
 
 -- ---- a test of what is left

@@ -14,8 +14,9 @@ ghost use Rattle.route.specs.Window.{below};
 ghost use Rattle.integration_field.specs.Word.{isPortal};
 ghost use Rattle.integration_field.specs.Listed.{Indexes};
 ghost use Rattle.flow_byte.specs.New.{isIn};
+ghost use Rattle.flow_byte.specs.Look.{isPassedOver};
 ghost use Rattle.arrows.specs.Arrows.{builtCost};
-ghost use Rattle.cost_bounds.specs.Bounds.{someOf, isPassedOver, permittedFrom, isBelowOthers, isSure};
+ghost use Rattle.cost_bounds.specs.Bounds.{someOf, permittedFrom, isBelowOthers, isSure};
 ghost use Rattle.cost_bounds.specs.Inner.{heldPermitted, FoundAlong};
 
 // Whether the look from a cell passes over a neighbour: a wall, or a diagonal that walls bar.

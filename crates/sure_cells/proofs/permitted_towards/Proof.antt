@@ -15,8 +15,9 @@ use Rattle.fields.specs.declared.Stepped.the-variants.{Cell, Outside}
 use Rattle.fields.specs.Cell.{Inside, stepped, cellAt, indexOf}
 use Rattle.fields.proofs.Steps.{stepped-cell, step-told, index-told, index-of-cell, cell-inside}
 use Rattle.integration_field.specs.Listed.{Indexes}
+use Rattle.flow_byte.specs.Look.{isPassedOver}
 use Rattle.cost_bounds.specs.declared.PermittedCells.{PermittedCells}
-use Rattle.cost_bounds.specs.Bounds.{isPassedOver, permittedAlong}
+use Rattle.cost_bounds.specs.Bounds.{permittedAlong}
 use Rattle.cost_bounds.specs.Inner.{heldPermitted, FoundAlong}
 use Rattle.sure_cells.proofs.Loops.{indexes-more, along-outside, along-passed, along-found}
 use Rattle.sure_cells.proofs.permitted_towards.Statement.{statement}
