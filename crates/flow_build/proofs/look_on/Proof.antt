@@ -27,27 +27,39 @@ enum-told c = search needs
 
 returns : tie.Need-returns
 returns c =
-    let a = c .before .before .before .before .args in
+    let step = c .before .before in
+    let cell = step .before in
+    let a = cell .before .args in
     ap (λ (s : Stepped). seenAt (now (a .cells)) (a .index) (a .dir) s (a .best) (a .value))
-    (sym (c .enum-told .given .1) ∙ c .before .before .get-in-compass-direction .ensures .0 ∙ ap (λ (x : FieldCell). stepped x (a .dir)) (c .before .before .before .from-index .ensures))
+    (sym (c .enum-told .given .1) ∙ step .get-in-compass-direction .ensures .0 ∙ ap (λ (x : FieldCell). stepped x (a .dir)) (cell .from-index .ensures))
+
+-- where the next cell is known; the cell that is stepped from, and the call
+abbrev cell : tie.After-known-told → tie.After-from-index
+cell c = c .before .before .before .before
+
+abbrev start : tie.After-known-told → tie.Start
+start c = cell c .before
 
 -- the step arrives at the next cell
-arrives : (c : tie.After-known-told) → stepped (cellAt (c .before .before .before .before .before .args .index)) (c .before .before .before .before .before .args .dir) ≡ Cell (c .before .next .given .0 .0)
+arrives : (c : tie.After-known-told) → stepped (cellAt (start c .args .index)) (start c .args .dir) ≡ Cell (c .before .next .given .0 .0)
 arrives c =
-    ap (λ (x : FieldCell). stepped x (c .before .before .before .before .before .args .dir)) (sym (c .before .before .before .before .from-index .ensures))
+    ap (λ (x : FieldCell). stepped x (start c .args .dir)) (sym (cell c .from-index .ensures))
     ∙ sym (c .before .before .before .get-in-compass-direction .ensures .0)
     ∙ c .before .next .given .1
 
 see-requires : tie.Need-see-requires
 see-requires c κs =
-    (rw (c .before .before .before .before .from-index .ensures) (cell-inside (c .before .before .before .before .before .args .index) (c .before .before .before .before .before .pre)), stepped-cell (cellAt (c .before .before .before .before .before .args .index)) (c .before .before .before .before .before .args .dir) _ (arrives c) .within)
+    let a = start c .args in
+    (rw (cell c .from-index .ensures) (cell-inside (a .index) (start c .pre)), stepped-cell (cellAt (a .index)) (a .dir) _ (arrives c) .within)
 
 returns-2 : tie.Need-returns-2
 returns-2 c =
-    let a = c .before .before .before .before .before .before .args in
+    let told = c .before in
+    let a = start told .args in
+    let next = indexOf (told .before .next .given .0 .0) in
     c .see .ensures
-    ∙ ap (λ (x : FieldCell). seen (now (a .cells)) (indexOf x) (a .dir) (indexOf (c .before .before .next .given .0 .0)) (a .best) (a .value)) (c .before .before .before .before .before .from-index .ensures)
-    ∙ ap (λ (k : ℕ). seen (now (a .cells)) k (a .dir) (indexOf (c .before .before .next .given .0 .0)) (a .best) (a .value)) (index-of-cell (a .index))
+    ∙ ap (λ (x : FieldCell). seen (now (a .cells)) (indexOf x) (a .dir) next (a .best) (a .value)) (cell told .from-index .ensures)
+    ∙ ap (λ (k : ℕ). seen (now (a .cells)) k (a .dir) next (a .best) (a .value)) (index-of-cell (a .index))
     ∙ sym (ap (λ (s : Stepped). seenAt (now (a .cells)) (a .index) (a .dir) s (a .best) (a .value)) (arrives (c .before)))
 
 pub look-on-spec : {M : Type 1} → statement M
