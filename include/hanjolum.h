@@ -13,8 +13,9 @@
  * refused, never read past; that of previous is judged only with has_previous, and without it previous may be NULL. Where
  * a length is 0 its pointer may be anything, NULL too. Pointers are aligned as in C.
  *
- * Fields and answers pass by value: a field is 1,208 bytes, and the compiler copies it to the stack. Padding between the
- * parts of an answer is not set: compare its parts, not its bytes.
+ * Fields and answers pass by value: a field is 1,312 bytes, the answer with a started field 1,320 and that with a built
+ * one 1,328, and the compiler copies them to the stack. Padding between and behind the parts of an answer is not set:
+ * compare its parts, not its bytes.
  *
  * Floating point.  Sight uses single precision, rounded to nearest: leave the processor's mode as a C program starts.
  *
@@ -63,8 +64,8 @@
  * cell of a window, also for one that would not count. The writer of a leg file judges 3 as a leg does, and then 2 for a
  * buffer that is not exactly as long as the file. The call for bounds judges 1 for either floor, and 16 on both.
  *
- * Time and stack.  Every call ends, on all input. Each wave is one call on the stack, of 1,280 bytes in the compiled
- * archive, and there are at most 101 at a time: no call needs as much as 150,000 bytes (read off the archive, not proved).
+ * Time and stack.  Every call ends, on all input. Each wave is one call on the stack, of 576 bytes in the compiled
+ * archive, and there are at most 101 at a time: no call needs as much as 80,000 bytes (read off the archive, not proved).
  * Give a thread that calls sector, leg, bounds, init or build 256 KB.
  */
 #ifndef HANJOLUM_H
@@ -126,11 +127,17 @@ enum {
     HANJOLUM_ZERO = 8
 };
 
-/* 100 cells by index, and the indexes of the corners that building starts from: `count` of them, 0 beyond. */
+/*
+ * 100 cells by index, and the indexes of the corners that building starts from: `count` of them, 0 beyond. Once built, the
+ * position of a cell is the place in that list, from 0, of the corner that it belongs to: the earliest with a walk that
+ * arrives at the cell's built cost, where a corner that building left alone stays put. Before building it is 255, and so it
+ * stays in a cell that was wall, in sight or flagged GOAL before, and in one whose cost no corner's walk gives.
+ */
 typedef struct {
     uint32_t field[100];
     size_t los_corners[100];
     size_t count;
+    uint8_t positions[100];
 } HanjolumIntegrationField;
 
 typedef struct {
@@ -183,7 +190,7 @@ typedef struct {
 
 /*
  * Plans one sector: starts the field of a step on 100 cost bytes, builds it, and writes its 100 flow bytes to the sheet,
- * whatever they were before. Answers the built field and its wave count.
+ * whatever they were before. Answers the built field, with each cell's position, and its wave count.
  * With has_previous, previous is the 100 cells of the built field of the sector across the window, of which only the low
  * 16 bits count; each cell of a window of two or more then points at the cheapest of the two or three cells that it
  * faces, straight across where that is no dearer. A window of one cell always points straight across. A step with a
@@ -271,7 +278,8 @@ HanjolumLegFile hanjolum_leg_file_read(const uint8_t *file, size_t file_length);
 HanjolumPracticeFloor hanjolum_practice_floor(uint32_t seed);
 
 /*
- * The field that a step starts on 100 cost bytes: walls, and the goal with what is in its sight, or the window cells.
+ * The field that a step starts on 100 cost bytes: walls, and the goal with what is in its sight, or the window cells. No
+ * cell has a position yet: each is 255.
  * Numbers 1, 3, 4 to 8, 16.
  */
 HanjolumInitAnswer hanjolum_init(
@@ -280,7 +288,7 @@ HanjolumInitAnswer hanjolum_init(
 
 /*
  * A field, started by hanjolum_init or given by hand, built on 100 cost bytes. Walls are the cells with IMPASSABLE,
- * whatever they cost. Places of the corner list beyond the count are not read.
+ * whatever they cost. Places of the corner list beyond the count are not read, and the positions given are not either.
  * Numbers 1, 11.
  */
 HanjolumBuildAnswer hanjolum_build(

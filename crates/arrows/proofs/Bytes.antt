@@ -1,5 +1,4 @@
 -- The bytes of a flow field, cell by cell.
---     table-at                  a table of all cells at an index
 --     built-byte, new-byte      the byte at an index
 --     new-length                100 bytes
 --     pointed-is                a byte made of a direction: its arrow has that direction's bits, and it has not all of 0xE0
@@ -19,34 +18,25 @@ use Rattle.utilities.specs.declared.CompassDir.{CompassDir}
 use Rattle.utilities.specs.declared.CompassDir.the-variants.{North, East, South, West, NorthEast, SouthEast, SouthWest, NorthWest, Zero}
 use Rattle.utilities.specs.Compass.{points, opposite, lowerSide}
 use Rattle.utilities.proofs.Compass.{small}
+use Rattle.utilities.specs.Lists.{below}
+use Rattle.utilities.proofs.Lists.{table-at}
 use Rattle.route.specs.declared.PortalWindow.{PortalWindow}
-use Rattle.route.specs.Window.{below, stride}
-use Rattle.route.proofs.Below.{holds-at, same-at}
+use Rattle.route.specs.Window.{stride}
+use Rattle.route.proofs.Below.{holds-at}
 use Rattle.flow_bits.specs.Byte.{bitsOf, isPathable, isImpassable}
 use Rattle.flow_byte.specs.New.{isIn, startOf, facingBits, facingValue, unlessEnd, facingChoice, windowBits, newByte, newBytes}
 use Rattle.flow_byte.specs.Look.{pointed, builtByte, flowBuild}
 
 -- ---- a byte at an index
 
-map-at : {A : Type 0} (f : ℕ → A) (none : A) (l : List ℕ) (i : ℕ) → i < length l → getD (map f l) i none ≡ f (getD l i 0)
-map-at f none [] i h = absurd (omega arith)
-map-at f none (x ∷ l) zero h = refl
-map-at f none (x ∷ l) (suc i) h = map-at f none l i (omega arith)
-
-pub below-at : (i : ℕ) → i < 100 → getD (below 100) i 0 ≡ i
-below-at = same-at 100 (λ i. getD (below 100) i 0) (λ i. i) refl
-
-pub table-at : {A : Type 0} (f : ℕ → A) (none : A) (i : ℕ) → i < 100 → getD (map f (below 100)) i none ≡ f i
-table-at f none i h = map-at f none (below 100) i h ∙ ap f (below-at i h)
-
 pub built-byte : (cells sheet : List ℕ) (i : ℕ) → i < 100 → getD (flowBuild cells sheet) i 0 ≡ builtByte cells i (getD sheet i 0)
 unfolding flowBuild
-built-byte cells sheet i h = table-at (λ i. builtByte cells i (getD sheet i 0)) 0 i h
+built-byte cells sheet i h = table-at (λ i. builtByte cells i (getD sheet i 0)) 0 100 i h
 
 module _ (portal : PortalWindow) (window cells : List ℕ) (has : Bool) (previous : List ℕ) where
   pub new-byte : (i : ℕ) → i < 100 → getD (newBytes portal window cells has previous) i 0 ≡ newByte portal window (getD cells i 0) has previous i
   unfolding newBytes
-  new-byte i h = table-at (λ i. newByte portal window (getD cells i 0) has previous i) 0 i h
+  new-byte i h = table-at (λ i. newByte portal window (getD cells i 0) has previous i) 0 100 i h
 
   pub new-length : length (newBytes portal window cells has previous) ≡ 100
   unfolding newBytes

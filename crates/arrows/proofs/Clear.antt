@@ -20,10 +20,11 @@ use lib.ListN.{length, getD}
 use borrow.Author.Tests.{eqb-false}
 use Rattle.utilities.specs.declared.CompassDir.{CompassDir}
 use Rattle.utilities.specs.declared.CompassDir.the-variants.{North, East, South, West, NorthEast, SouthEast, SouthWest, NorthWest, Zero}
+use Rattle.utilities.specs.Lists.{below}
 use Rattle.fields.specs.Cell.{cellAt}
 use Rattle.fields.proofs.Steps.{stepped-cell}
 use Rattle.route.specs.declared.PortalWindow.{PortalWindow}
-use Rattle.route.specs.Window.{below, stride, onEdge, edge, between, cellsBetween}
+use Rattle.route.specs.Window.{stride, onEdge, edge, between, cellsBetween}
 use Rattle.route.specs.Step.{goalOf, firstOf, lastOf, boundaryOf, isWindow, windowCells, portalOf}
 use Rattle.route.specs.Target.{Target, to-goal, to-window, windowOf, GoalCell, WindowCell, TargetIn, targetOf}
 use Rattle.route.proofs.Cells.{by-edge}

@@ -7,7 +7,7 @@ use mathlib.Core.List.{List}
 use Prim.Native.Nat.{ℕ, _≤_, _<_}
 use lib.ListN.{length, getD}
 use Rattle.route.specs.Target.{Target, byWindow, TargetIn, targetOf}
-use Rattle.integration_field.specs.Build.{builtField}
+use Rattle.integration_field.specs.Built.{builtField}
 use Rattle.started_field.specs.Started.{started}
 use Rattle.flow_byte.specs.New.{flowNew}
 use Rattle.arrows.specs.Arrows.{ClearArrows, ArrowsLead}

@@ -9,7 +9,8 @@ use mathlib.Core.List.{List, [], _∷_, _++_, map}
 use Prim.Native.Nat.{ℕ, suc, _≤_, _<_}
 use lib.ListN.{length, getD}
 use borrow.Author.Tests.{ne-eqb}
-use Rattle.route.specs.Window.{below}
+use Rattle.utilities.specs.Lists.{below}
+use Rattle.utilities.proofs.Lists.{below-at}
 use Rattle.route.specs.Step.{portalOf}
 use Rattle.route.specs.Target.{Target, windowOf, byWindow, TargetIn, targetOf}
 use Rattle.route.proofs.Targets.{at-place, target-in}
@@ -17,7 +18,6 @@ use Rattle.integration_field.specs.Word.{isPortal}
 use Rattle.flow_byte.specs.New.{isIn}
 use Rattle.arrows.specs.Arrows.{builtCost}
 use Rattle.arrows.specs.Promise.{builtCells}
-use Rattle.arrows.proofs.Bytes.{below-at}
 use Rattle.sector.specs.Sector.{sectorBytes}
 use Rattle.cost_bounds.specs.declared.Bounds.{Bounds}
 use Rattle.cost_bounds.specs.Bounds.{someOf, boundsNumber, isSure, refusedBounds, acceptedBounds, boundsAnswer}
@@ -42,7 +42,7 @@ module _ (p : ℕ → Bool) where
   some-so-far i e q = last (below i) i e q
 
   pub some-found : (i : ℕ) → i < 100 → p i ≡ true → someOf p (below 100) ≡ true
-  some-found i h e = told-some p (below 100) i (at-place (below 100) i i h (below-at i h)) e
+  some-found i h e = told-some p (below 100) i (at-place (below 100) i i h (below-at 100 i h)) e
 
 -- ---- the run
 

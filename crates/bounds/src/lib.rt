@@ -7,7 +7,7 @@ ghost use mathlib.Core.Path.{_≡_};
 ghost use mathlib.Core.Bool.{not, _&&_, _||_};
 ghost use lib.Dec.{ltb, eqb};
 ghost use lib.ListN.{length};
-ghost use Rattle.route.specs.Window.{below};
+ghost use Rattle.utilities.specs.Lists.{below};
 ghost use Rattle.route.specs.Target.{targetOf};
 ghost use Rattle.route.specs.Inner.{heldTarget, TargetHeld};
 ghost use Rattle.arrows.specs.Promise.{builtCells};

@@ -1,4 +1,5 @@
--- The starred cases of document 01 (01, "Cases"), one of them a refusal since document 02: one table, one proof by computation from the definitions.
+-- The starred cases of document 01 (01, "Cases"), one of them a refusal since document 02, and a floor of 02, "Job 10": one table, one proof by
+-- computation from the definitions.
 -- Assumes nothing.
 use mathlib.Core.Path.{_≡_, refl}
 use mathlib.Core.Bool.{Bool, true, false, cond}
@@ -19,6 +20,7 @@ use Rattle.integration_field.specs.Listed.{listOf}
 use Rattle.integration_field.specs.Wave.{relaxed, offeredAround, offeredBy, changedFrom, next}
 use Rattle.integration_field.specs.Rest.{total}
 use Rattle.integration_field.specs.Build.{isEmpty, settle, build}
+use Rattle.integration_field.specs.Position.{firstPosition, arrivesFrom, positionAt}
 use Rattle.started_field.specs.Sight.{walls, withPortals, withGoal, marked, lineMarked, seen, extended, sideTried, wallMet, neighbourLooked, lookedAround, waveLooked, sightAfter}
 use Rattle.started_field.specs.CornerLine.{cornerLine}
 use Rattle.started_field.specs.Started.{sightFrom, startedFrom, startedAt, started, initNumber}
@@ -71,6 +73,16 @@ built costs step is =
 abbrev waves : List ℕ → List ℕ → List ℕ
 waves costs step = let f = started costs (targetOf step) in build costs (f .field) (listOf f) .waves ∷ []
 
+-- cells' positions in the built field
+abbrev placed : List ℕ → List ℕ → List ℕ → List ℕ
+placed costs step is =
+    let f = started costs (targetOf step) in
+    map (positionAt costs (f .field) (listOf f)) is
+
+-- walls but for two window cells, 93 and 94, and a way around from the first that meets the second's at cell 64, as dear there
+abbrev twoWays : List ℕ
+twoWays = set (set (set (set (set (set (set (set (set (replicate 100 255) 93 1) 94 1) 83 1) 84 3) 73 3) 74 3) 63 2) 64 2) 65 2
+
 abbrev zeros : List ℕ
 zeros = replicate 100 0
 
@@ -103,6 +115,9 @@ cases =
     -- All 1, East window 9 to 99: cell 0 holds 9; waves 9; flow 0x12; cell 9, with a previous field of zeros since 02, "Job 8", 0x92.
     ∷ case (built ones (window 9 99 1) (0 ∷ []) ++ waves ones (window 9 99 1) ++ flow ones (window 9 99 1) true zeros (0 ∷ 9 ∷ []))
     (9 ∷ 9 ∷ 0x12 ∷ 0x92 ∷ [])
+    -- Two window cells, the second's walk the shorter, both as dear at cells 64 and 65: these belong to the first, though cell 74 on the way to
+    -- them is the second's. A wall has no position.
+    ∷ case (placed twoWays (window 93 94 2) (65 ∷ 64 ∷ 63 ∷ 74 ∷ 84 ∷ 93 ∷ 94 ∷ 50 ∷ [])) (0 ∷ 0 ∷ 0 ∷ 1 ∷ 1 ∷ 0 ∷ 1 ∷ 255 ∷ [])
     -- North window 3 to 5, facing 9, 5, 9: 0x93, 0x91, 0x99; facing 7, 7, 7: 0x91 each.
     ∷ case (facing 9 5 9 ++ facing 7 7 7) (0x93 ∷ 0x91 ∷ 0x99 ∷ 0x91 ∷ 0x91 ∷ 0x91 ∷ [])
     -- (0,0) to (2,1): middle (1,0); from (2,1) back: also (1,0).
@@ -118,5 +133,5 @@ cases =
     ∷ []
 
 pub as-expected : map (λ (c : Case). c .given) cases ≡ map (λ (c : Case). c .expected) cases
-unfolding onEdge stepped table toward nearest shallow steep line gradient intercept floor rowAt firstEnding slantedEnd endBy lineEnd add sub mul div neg ofInt edge cellsBetween targetOf passesWall relaxed offeredAround offeredBy changedFrom next total isEmpty settle build walls withPortals withGoal marked lineMarked seen extended sideTried wallMet neighbourLooked lookedAround waveLooked sightAfter cornerLine sightFrom startedFrom startedAt started initNumber stepNumberOn sectorNumber startOf facingBits facingChoice windowBits newByte newBytes look.seen lookAround pointed builtByte flowBuild sectorBytes
+unfolding onEdge stepped table toward nearest shallow steep line gradient intercept floor rowAt firstEnding slantedEnd endBy lineEnd add sub mul div neg ofInt edge cellsBetween targetOf passesWall relaxed offeredAround offeredBy changedFrom next total isEmpty settle build firstPosition arrivesFrom walls withPortals withGoal marked lineMarked seen extended sideTried wallMet neighbourLooked lookedAround waveLooked sightAfter cornerLine sightFrom startedFrom startedAt started initNumber stepNumberOn sectorNumber startOf facingBits facingChoice windowBits newByte newBytes look.seen lookAround pointed builtByte flowBuild sectorBytes
 as-expected = refl

@@ -13,12 +13,12 @@ use native.Mathlib.Decide.{decLt, ℕ-discrete}
 use lib.Dec.{ltb, eqb}
 use lib.ListN.{length, getD}
 use borrow.Author.Tests.{lt-ltb, eqb-true, eqb-false, eq-eqb, ne-eqb}
-use Rattle.route.specs.Window.{below}
+use Rattle.utilities.specs.Lists.{below}
+use Rattle.utilities.proofs.Lists.{below-at}
 use Rattle.route.specs.Step.{isWindow, isWallCost, stepNumber, stepNumberOn}
 use Rattle.route.specs.Target.{byWindow, targetOf}
 use Rattle.route.proofs.Targets.{at-place, target-window}
 use Rattle.route.proofs.Walls.{accepted-on}
-use Rattle.arrows.proofs.Bytes.{below-at}
 use Rattle.cost_bounds.specs.Bounds.{someOf, noRange, boundsNumber}
 use Rattle.cost_bounds.proofs.Marks.{told-some}
 use Rattle.cost_bounds.proofs.Promise.{Ranged}
@@ -79,7 +79,7 @@ module _ (low high : List ℕ) where
   -- where the test of all cells fails, no cell's costs are so
   no-cell : someOf (noRange low high) (below 100) ≡ false → (x : ℕ) → x < 100 → NoRange x → ⊥
   no-cell e x h n =
-      true≢false (sym (told-some (noRange low high) (below 100) x (at-place (below 100) x x h (below-at x h)) (test-true x n)) ∙ e)
+      true≢false (sym (told-some (noRange low high) (below 100) x (at-place (below 100) x x h (below-at 100 x h)) (test-true x n)) ∙ e)
 
   module _ (step : List ℕ) (a : Accepted low high step) (byte : (x : ℕ) → x < 100 → getD high x 0 ≤ 255) where
     pub ranged : Ranged low high

@@ -26,7 +26,8 @@ use Rattle.arrows.specs.Arrows.{builtCost, arrow, Away}
 use Rattle.arrows.specs.Promise.{builtCells}
 use Rattle.arrows.proofs.Fall.{Sector, by-kind}
 use Rattle.arrows.proofs.Around.{near-in}
-use Rattle.arrows.proofs.Bytes.{table-at, pointed-is}
+use Rattle.utilities.proofs.Lists.{table-at}
+use Rattle.arrows.proofs.Bytes.{pointed-is}
 use Rattle.arrows.proofs.Moves.{away, away-bits}
 use Rattle.arrows.proofs.CellBytes.{window-sector}
 use Rattle.cost_bounds.specs.Bounds.{costsOn, isSure, sureOn}
@@ -83,10 +84,10 @@ module _ (low high window : List ℕ) (r : Ranged low high) (window-in : WindowI
   -- ---- the bounds
 
   least-at : (x : ℕ) → x < 100 → getD least x 0 ≡ builtCost (builtCells low target) x
-  least-at x h = table-at (builtCost (builtCells low target)) 0 x h
+  least-at x h = table-at (builtCost (builtCells low target)) 0 100 x h
 
   greatest-at : (x : ℕ) → x < 100 → getD greatest x 0 ≡ builtCost (builtCells high target) x
-  greatest-at x h = table-at (builtCost (builtCells high target)) 0 x h
+  greatest-at x h = table-at (builtCost (builtCells high target)) 0 100 x h
 
   within : (costs : List ℕ) (b : FloorBetween low high costs) → Within least greatest (sector-on costs b)
   within costs b = record {
@@ -107,7 +108,7 @@ module _ (low high window : List ℕ) (r : Ranged low high) (window-in : WindowI
   -- ---- sure cells
 
   sure-at : (x : ℕ) → x < 100 → getD (sureOn low high target) x false ≡ isSure (builtCells low target) window least greatest x
-  sure-at x h = table-at (isSure (builtCells low target) window least greatest) false x h
+  sure-at x h = table-at (isSure (builtCells low target) window least greatest) false 100 x h
 
   abbrev SureLow : ℕ → Type 0
   SureLow x = SureCell (builtCells low target) target least greatest low x

@@ -8,12 +8,11 @@ use lib.Dec.{ltb, eqb}
 use lib.ListN.{length, getD, replicate}
 use Rattle.utilities.specs.declared.CompassDir.{CompassDir}
 use Rattle.utilities.specs.Compass.{all}
-use Rattle.utilities.specs.Lists.{consIf}
+use Rattle.utilities.specs.Lists.{below, consIf}
 use Rattle.fields.specs.declared.Stepped.{Stepped}
 use Rattle.fields.specs.declared.Stepped.the-variants.{Cell, Outside}
 use Rattle.fields.specs.Cell.{cellAt, indexOf, stepped}
 use Rattle.route.specs.Table.{row, firstNumber}
-use Rattle.route.specs.Window.{below}
 use Rattle.route.specs.Step.{isWindow, isWallCost, stepNumberOn}
 use Rattle.route.specs.Target.{Target, windowOf, targetOf}
 use Rattle.integration_field.specs.Diagonal.{wallAt}

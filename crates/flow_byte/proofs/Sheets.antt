@@ -1,5 +1,4 @@
 -- A sheet that is filled cell by cell, each byte by a rule.
---     bytes-length, bytes-at          the 100 bytes of a rule
 --     fill-none, fill-more, fill-all  nothing is written yet; one byte more; all are written
 --     still-old                       what is not written yet is as it was
 -- Assumes nothing.
@@ -9,27 +8,9 @@ use Prim.Native.Nat.{ℕ, zero, suc, _+_, _<_}
 use native.Mathlib.Nat.{add-zero}
 use native.Mathlib.Numerals.{add-one}
 use native.Mathlib.Omega.{arith}
-use native.Mathlib.Decide.{ℕ-discrete}
-use lib.ListN.{length, take, drop, set, getD, length-append, length-set, List·getD-append}
-use lib.Seq.{take-all, take-suc-set, drop-set-lt, getD-drop, drop-drop, getD-at}
-use Rattle.route.specs.Window.{below}
-
-module _ (g : ℕ → ℕ) where
-  pub bytes-length : (n : ℕ) → length (map g (below n)) ≡ n
-  bytes-length zero = refl
-  bytes-length (suc n) =
-      ap length (map-append g (below n) (n ∷ []))
-      ∙ omega (arith, length-append (map g (below n)) (g n ∷ []), bytes-length n)
-
-  pub bytes-at : (n i : ℕ) → i < n → getD (map g (below n)) i 0 ≡ g i
-  bytes-at zero i h = absurd (omega arith)
-  bytes-at (suc n) i h = ap (λ (l : List ℕ). getD l i 0) (map-append g (below n) (n ∷ [])) ∙ pick (ℕ-discrete i n) (λ m. bytes-at n i m)
-    where
-      pick : Dec (i ≡ n) → (i < n → getD (map g (below n)) i 0 ≡ g i) → getD (map g (below n) ++ g n ∷ []) i 0 ≡ g i
-      pick (yes e) f = rw e (getD-at (map g (below n)) (g n) [] 0 n (bytes-length n))
-      pick (no e) f =
-          let m : i < n = omega arith in
-          List·getD-append (map g (below n)) (g n ∷ []) 0 i (omega (arith, bytes-length n)) ∙ f m
+use lib.ListN.{length, take, drop, set, getD, length-set}
+use lib.Seq.{take-all, take-suc-set, drop-set-lt, getD-drop, drop-drop}
+use Rattle.utilities.specs.Lists.{below}
 
 -- the first i bytes are the rule's, and the others are the old ones
 pub record Filled (g : ℕ → ℕ) (old : List ℕ) (i : ℕ) (l : List ℕ) : Type 0 where

@@ -9,10 +9,10 @@ use lib.ListN.{getD}
 use Rattle.utilities.specs.declared.CompassDir.{CompassDir}
 use Rattle.utilities.specs.declared.CompassDir.the-variants.{Zero}
 use Rattle.utilities.specs.Compass.{points, all}
+use Rattle.utilities.specs.Lists.{below}
 use Rattle.fields.specs.declared.Stepped.{Stepped}
 use Rattle.fields.specs.declared.Stepped.the-variants.{Cell, Outside}
 use Rattle.fields.specs.Cell.{cellAt, indexOf, stepped}
-use Rattle.route.specs.Window.{below}
 use Rattle.integration_field.specs.Word.{low, isGoal, isPortal}
 use Rattle.integration_field.specs.Diagonal.{wallAt, passesWall}
 use Rattle.flow_byte.specs.declared.Look.{Look}

@@ -8,8 +8,9 @@ use lib.Bits.{bitOr}
 use lib.ListN.{getD}
 use Rattle.utilities.specs.declared.CompassDir.{CompassDir}
 use Rattle.utilities.specs.Compass.{opposite, lowerSide}
+use Rattle.utilities.specs.Lists.{below}
 use Rattle.route.specs.declared.PortalWindow.{PortalWindow}
-use Rattle.route.specs.Window.{below, stride, facing}
+use Rattle.route.specs.Window.{stride, facing}
 use Rattle.route.specs.Step.{portalOf}
 use Rattle.route.specs.Target.{windowOf, targetOf}
 use Rattle.integration_field.specs.Word.{low, isLos, isGoal, isPortal, isImpassable}

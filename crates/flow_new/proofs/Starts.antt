@@ -14,15 +14,15 @@ use lib.Bits.{bitOr, or-zero-r}
 use lib.ListN.{length, getD, set, length-set}
 use lib.Seq.{slice, slice-cons, slice-empty, getD-set-same, getD-set-other, ext-getD}
 use borrow.Author.Tests.{eqb-true, eqb-false}
+use Rattle.utilities.specs.Lists.{below}
 use Rattle.route.specs.declared.PortalWindow.{PortalWindow}
 use Rattle.route.specs.declared.WindowCells.{WindowCells}
-use Rattle.route.specs.Window.{below}
 use Rattle.route.specs.Target.{WindowIn}
 use Rattle.route.specs.Inner.{WindowHeld}
 use Rattle.flow_byte.specs.New.{startOf, windowBits, isIn, newByte, newBytes}
 use Rattle.arrows.proofs.Fall.{in-among}
 use Rattle.flow_new.specs.Inner.{startBytes, withBits}
-use Rattle.flow_byte.proofs.Sheets.{bytes-length, bytes-at}
+use Rattle.utilities.proofs.Lists.{table-length, table-at}
 
 module _ (portal : PortalWindow) (has : Bool) (previous : List ℕ) where
   abbrev bits : ℕ → ℕ
@@ -71,12 +71,12 @@ module _ (portal : PortalWindow) (has : Bool) (previous : List ℕ) where
   new-made window cells w =
       let start : ℕ → ℕ = λ i. startOf (getD cells i 0) in
       let new : ℕ → ℕ = λ i. newByte portal window (getD cells i 0) has previous i in
-      let full = bits-length window (startBytes cells) ∙ bytes-length start 100 in
-      ext-getD 0 (ored window (startBytes cells)) (map new (below 100)) (full ∙ sym (bytes-length new 100))
+      let full = bits-length window (startBytes cells) ∙ table-length start 100 in
+      ext-getD 0 (ored window (startBytes cells)) (map new (below 100)) (full ∙ sym (table-length new 100))
       (λ i h.
-      bits-at window (startBytes cells) w (bytes-length start 100) i
-      ∙ ap (λ (x : ℕ). bitOr x (cond (isIn i window) (bits i) 0)) (bytes-at start 100 i (omega arith))
-      ∙ sym (bytes-at new 100 i (omega arith)))
+      bits-at window (startBytes cells) w (table-length start 100) i
+      ∙ ap (λ (x : ℕ). bitOr x (cond (isIn i window) (bits i) 0)) (table-at start 0 100 i (omega arith))
+      ∙ sym (table-at new 0 100 i (omega arith)))
 
 -- window cell by window cell
 module _ (portal : PortalWindow) (has : Bool) (previous : List ℕ) (held : WindowCells) (w : WindowHeld held) where

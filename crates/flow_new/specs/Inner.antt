@@ -5,8 +5,8 @@ use mathlib.Core.List.{List, [], _∷_, map}
 use Prim.Native.Nat.{ℕ}
 use lib.Bits.{bitOr}
 use lib.ListN.{getD, set}
+use Rattle.utilities.specs.Lists.{below}
 use Rattle.route.specs.declared.PortalWindow.{PortalWindow}
-use Rattle.route.specs.Window.{below}
 use Rattle.flow_byte.specs.New.{startOf, windowBits}
 
 unfoldable pub startBytes : List ℕ → List ℕ

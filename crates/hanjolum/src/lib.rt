@@ -18,9 +18,9 @@ ghost use Rattle.line_end.specs.LineEnd.{lineEndAnswer};
 ghost use Rattle.route.specs.Target.{targetOf};
 ghost use Rattle.integration_field.specs.Listed.{listOf};
 ghost use Rattle.integration_field.specs.Answer.{buildAnswer};
-ghost use Rattle.integration_field.specs.Promise.{LeastWalks, Counted};
+ghost use Rattle.integration_field.specs.Promise.{LeastWalks, Counted, EarliestCorners};
 ghost use Rattle.started_field.specs.Started.{initAnswer, StartedField};
-ghost use Rattle.least_walks.specs.Promise.{OnceBuilt, BuildsStarted};
+ghost use Rattle.least_walks.specs.Promise.{StartedPositions, OnceBuilt, BuildsStarted};
 ghost use Rattle.flow_bits.specs.Byte.{dirOf, isPathable, hasLineOfSight, isGoal, isPortalGoal, isWall};
 ghost use Rattle.arrows.specs.Promise.{BuildArrows};
 ghost use Rattle.flow_new.specs.Flow.{newNumber, newSheet};
@@ -50,6 +50,7 @@ pub extern "C" fn hanjolum_sector(
     ensures answer { λ r. ⌜ r ≡ sectorAnswer (now (costs .entry)) (now (step .entry)) «has_previous» (now (previous .entry)) (now (sheet .entry)) ⌝ }
     ensures sheet { λ _. ⌜ now (sheet .exit) ≡ sectorSheet (now (costs .entry)) (now (step .entry)) «has_previous» (now (previous .entry)) (now (sheet .entry)) ⌝ }
     ensures planned { λ r. ⌜ (r .number ≡ 0 → Planned (now (costs .entry)) (targetOf (now (step .entry))) (r .field .field) (r .waves) (now (sheet .exit))) ⌝ }
+    ensures positions { λ r. ⌜ (r .number ≡ 0 → StartedPositions (now (costs .entry)) (targetOf (now (step .entry))) (r .field .field) (r .field .positions)) ⌝ }
 {
     sector::plan_sector(costs, step, has_previous, previous, sheet)
 }
@@ -120,6 +121,7 @@ pub extern "C" fn hanjolum_build(costs: &[u8], field: IntegrationField) -> Build
     ensures answer { λ r. ⌜ r ≡ buildAnswer (now (costs .entry)) field ⌝ }
     ensures least { λ r. ⌜ (r .number ≡ 0 → LeastWalks (now (costs .entry)) (field .field) (listOf field) (r .field .field)) ⌝ }
     ensures counted { λ r. ⌜ (r .number ≡ 0 → Counted (now (costs .entry)) (field .field) (listOf field) (r .field .field) (r .waves)) ⌝ }
+    ensures positions { λ r. ⌜ (r .number ≡ 0 → EarliestCorners (now (costs .entry)) (field .field) (listOf field) (r .field .field) (r .field .positions)) ⌝ }
     ensures started { λ r. ⌜ BuildsStarted (now (costs .entry)) field r ⌝ }
 {
     integration_build::build(costs, field)

@@ -4,8 +4,9 @@
 --     changed-more, pushed         one index more: a place written, and counted where the cells differ
 --     indexes, changed-indexes     places whose list has indexes of cells alone, and those with the changed cells
 --     corner-more                  a corner more
+--     clear-first .. clear-end     the places beyond the list, cleared
 -- Assumes nothing.
-use mathlib.Core.Path.{_≡_, refl, sym, ap, subst, _∙_}
+use mathlib.Core.Path.{_≡_, refl, sym, ap, ap₂, subst, _∙_}
 use mathlib.Core.Bool.{Bool, true, false, not}
 use mathlib.Core.List.{List, [], _∷_, _++_}
 use Prim.Native.Nat.{ℕ, zero, suc, _+_, _≤_, _<_}
@@ -14,7 +15,7 @@ use native.Mathlib.Numerals.{add-one}
 use native.Mathlib.Omega.{arith}
 use lib.Dec.{eqb}
 use lib.ListN.{length, getD, set, take, drop}
-use lib.Seq.{slice, slice-cons, slice-empty, take-suc, take-append-add, set-split, getD-take, length-take-le}
+use lib.Seq.{slice, slice-cons, slice-empty, take-suc, take-suc-set, take-all, take-append-add, set-split, getD-take, length-take-le}
 use mir.Val.{boolByte}
 use borrow.Author.Tests.{lt-ltb, le-ltb}
 use Rattle.utilities.specs.Lists.{consIf}
@@ -24,7 +25,7 @@ use Rattle.integration_field.specs.Word.{low}
 use Rattle.integration_field.specs.Listed.{padded, Indexes}
 use Rattle.integration_field.specs.Wave.{offeredAround, offeredBy, changedFrom}
 use Rattle.integration_field.specs.Answer.{allCells}
-use Rattle.integration_field.proofs.Lists.{padded-push}
+use Rattle.integration_field.proofs.Lists.{padded-length, padded-list, padded-beyond, padded-push}
 
 -- ---- the offers of a wavefront
 
@@ -63,6 +64,31 @@ corner-more corners i h l =
     ∙ padded-push (take i corners) (getD corners i 0) (omega arith)
     ∙ rw (add-one i, take-suc corners i 0 h)
 
+-- the places beyond the list, cleared one after another
+module _ (corners : List ℕ) (count : ℕ) where
+  pub clear-first : count ≤ length corners → take count corners ≡ take count (padded (take count corners))
+  clear-first h =
+      let n : length (take count corners) ≡ count = length-take-le count corners h in
+      sym (padded-list (take count corners)) ∙ ap (λ (k : ℕ). take k (padded (take count corners))) n
+
+  module _ (long : length corners ≡ 100) (few : count ≤ 100) where
+    many : length (take count corners) ≡ count
+    many = length-take-le count corners (omega arith)
+
+    whole : length (padded (take count corners)) ≡ 100
+    whole = padded-length (take count corners) (omega (arith, many))
+
+    pub clear-more : (l : List ℕ) (i : ℕ) → count ≤ i → i < 100 → length l ≡ 100 → take i l ≡ take i (padded (take count corners))
+        → take (i + 1) (set l i 0) ≡ take (i + 1) (padded (take count corners))
+    clear-more l i h k full e =
+        rw add-one
+        (take-suc-set l i 0 (omega arith)
+        ∙ ap₂ (λ (x : List ℕ) (y : ℕ). x ++ y ∷ []) e (sym (padded-beyond (take count corners) i (omega (arith, many))))
+        ∙ sym (take-suc (padded (take count corners)) i 0 (omega (arith, whole))))
+
+    pub clear-end : (l : List ℕ) → length l ≡ 100 → take 100 l ≡ take 100 (padded (take count corners)) → l ≡ padded (take count corners)
+    clear-end l full e = sym (take-all 100 l (omega arith)) ∙ e ∙ take-all 100 (padded (take count corners)) (omega (arith, whole))
+
 -- ---- the changed cells
 
 cons-append : (b : Bool) (x : ℕ) (l m : List ℕ) → consIf b x (l ++ m) ≡ consIf b x l ++ m
@@ -92,10 +118,6 @@ module _ (before after : List ℕ) where
       let m : length (take i after) ≡ i = length-take-le i after (omega arith) in
       let q : 0 + length (take i before) ≡ i = omega arith in
       rw (add-one i, take-suc before i 0 h, take-suc after i 0 k, changed-snoc 0 (take i before) (take i after) (getD before i 0) (getD after i 0) (n ∙ sym m), q)
-
-pub bit-few : (b : Bool) → boolByte b ≤ 1
-bit-few true = omega arith
-bit-few false = omega arith
 
 -- a place written behind the first n, and counted where a test holds
 pub pushed : (b : Bool) (l : List ℕ) (n x : ℕ) → n < length l → take (n + boolByte b) (set l n x) ≡ take n l ++ consIf b x []

@@ -8,7 +8,7 @@ use Rattle.integration_field.specs.declared.IntegrationField.{IntegrationField}
 use Rattle.integration_field.specs.declared.BuildAnswer.{BuildAnswer}
 use Rattle.integration_field.specs.Listed.{listOf}
 use Rattle.integration_field.specs.Answer.{answerOf, buildNumber, buildAnswer}
-use Rattle.integration_field.specs.Promise.{LeastWalks, Counted}
+use Rattle.integration_field.specs.Promise.{LeastWalks, Counted, EarliestCorners}
 use Rattle.integration_field.proofs.Answers.{answer-promises}
 use Rattle.least_walks.specs.Promise.{BuildsStarted}
 use Rattle.least_walks.proofs.Promise.{builds-started}
@@ -16,8 +16,9 @@ use Rattle.least_walks.proofs.Promise.{builds-started}
 pub promised : (costs : List ℕ) (f : IntegrationField) → length (f .field) ≡ 100 → (n : ℕ) → buildNumber costs f ≡ n → (r : BuildAnswer) → r ≡ answerOf n costs f
     → (r ≡ buildAnswer costs f)
     × ((r .number ≡ 0 → LeastWalks costs (f .field) (listOf f) (r .field .field))
-    × ((r .number ≡ 0 → Counted costs (f .field) (listOf f) (r .field .field) (r .waves)) × BuildsStarted costs f r))
+    × ((r .number ≡ 0 → Counted costs (f .field) (listOf f) (r .field .field) (r .waves))
+    × ((r .number ≡ 0 → EarliestCorners costs (f .field) (listOf f) (r .field .field) (r .field .positions)) × BuildsStarted costs f r)))
 promised costs f full n number r answer =
     let e : r ≡ buildAnswer costs f = answer ∙ sym (ap (λ (k : ℕ). answerOf k costs f) number) in
     let p = answer-promises costs f full r e in
-    (p .0, (p .1 .0, (p .1 .1, builds-started costs f r e)))
+    (p .0, (p .1 .0, (p .1 .1 .0, (p .1 .1 .1, builds-started costs f r e))))

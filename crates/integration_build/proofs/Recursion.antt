@@ -3,7 +3,8 @@
 --     settles-empty    a wave from no cell changes none
 --     settles-still    a wave that changes no cell is the last
 --     settles-more     a wave that changes a cell, and then the waves from those cells
---     built-is         any number of waves from 99 on gives the definition's answer
+--     built-cells      any number of waves from 99 on gives the definition's cells and count
+--     built-is         and the record with them is the definition's answer
 -- Assumes nothing.
 use mathlib.Core.Path.{_≡_, refl, sym, ap, ap₂, _∙_}
 use mathlib.Core.Bool.{Bool, true, false, not}
@@ -17,9 +18,10 @@ use lib.Seq.{length-take-le}
 use borrow.Author.Tests.{eqb-true, eq-eqb}
 use Rattle.utilities.specs.Lists.{consIf}
 use Rattle.integration_field.specs.declared.IntegrationField.{IntegrationField}
-use Rattle.integration_field.specs.Listed.{padded, Indexes, listOf, withCorners}
+use Rattle.integration_field.specs.Listed.{padded, Indexes, listOf}
 use Rattle.integration_field.specs.Wave.{offeredBy, changedFrom, next}
-use Rattle.integration_field.specs.Build.{Built, isEmpty}
+use Rattle.integration_field.specs.Build.{Built, isEmpty, build}
+use Rattle.integration_field.specs.Position.{positions as positionsOf}
 use Rattle.integration_field.specs.Answer.{answerOf, Accepted}
 use Rattle.integration_field.proofs.Lists.{padded-length, padded-list, corners-length}
 use Rattle.integration_field.proofs.Offers.{offers-made}
@@ -100,7 +102,7 @@ module _ (costs : List ℕ) (f : IntegrationField) (long : length (f .«los_corn
   many : length (listOf f) ≡ f .count
   many = corners-length f long (a .count-in)
 
-  listed : take (f .count) places ≡ listOf f
+  pub listed : take (f .count) places ≡ listOf f
   listed = ap₂ take (sym many) e ∙ padded-list (listOf f)
 
   pub corners-indexes : Indexes 100 places (f .count)
@@ -109,11 +111,25 @@ module _ (costs : List ℕ) (f : IntegrationField) (long : length (f .«los_corn
       (rw listed (all-below (listOf f) (a .corners-in)))
 
   -- any number of waves from 99 on is enough
-  pub built-is : length (f .field) ≡ 100 → {m : ℕ} {left : List ℕ} {waves : ℕ} → Settles costs (f .field) (take (f .count) places) m left waves → 99 ≤ m
-      → record { number = 0; field = record { field = left; «los_corners» = places; count = f .count }; waves = waves } ≡ answerOf 0 costs f
-  built-is full {m} {left} {waves} s h =
+  pub built-cells : length (f .field) ≡ 100 → {m : ℕ} {left : List ℕ} {waves : ℕ} → Settles costs (f .field) (take (f .count) places) m left waves → 99 ≤ m
+      → record { cells = left; waves = waves } ≡ build costs (f .field) (listOf f)
+  built-cells full {m} {left} {waves} s h =
       let enough = rests-within costs (f .field) (listOf f) full (all-cells (listOf f) (a .corners-in)) m h in
       let t : Settles costs (f .field) (listOf f) m left waves = rw listed at s in
-      ap₂ (λ (l : List ℕ) (n : ℕ). record { number = 0; field = record { field = left; «los_corners» = l; count = n }; waves = waves }) e (sym many)
-      ∙ ap (λ (b : Built). record { number = 0; field = withCorners (b .cells) (listOf f); waves = b .waves })
-      (t .settled enough ∙ settle-build costs (f .field) (listOf f) m enough)
+      t .settled enough ∙ settle-build costs (f .field) (listOf f) m enough
+
+  -- the record that comes out
+  pub built-is : {left found : List ℕ} {waves : ℕ} → record { cells = left; waves = waves } ≡ build costs (f .field) (listOf f)
+      → found ≡ positionsOf costs (f .field) (listOf f)
+      → record { number = 0; field = record { field = left; «los_corners» = places; count = f .count; positions = found }; waves = waves } ≡ answerOf 0 costs f
+  built-is {left} {found} {waves} b p =
+      ap₂ (λ (l : List ℕ) (n : ℕ). record {
+        number = 0;
+        field = record { field = left; «los_corners» = l; count = n; positions = found };
+        waves = waves;
+      }) e (sym many)
+      ∙ ap₂ (λ (x : Built) (q : List ℕ). record {
+        number = 0;
+        field = record { field = x .cells; «los_corners» = padded (listOf f); count = length (listOf f); positions = q };
+        waves = x .waves;
+      }) b p

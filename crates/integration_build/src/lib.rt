@@ -12,7 +12,7 @@ ghost use Rattle.fields.specs.Cell.{cellAt, stepped};
 ghost use Rattle.integration_field.specs.Listed.{listOf, padded, Indexes};
 ghost use Rattle.integration_field.specs.Wave.{isWritten, relaxed, offered, offeredAround, offeredBy, changedFrom};
 ghost use Rattle.integration_field.specs.Answer.{answerOf, allCells, Accepted, buildAnswer};
-ghost use Rattle.integration_field.specs.Promise.{LeastWalks, Counted};
+ghost use Rattle.integration_field.specs.Promise.{LeastWalks, Counted, EarliestCorners};
 ghost use Rattle.least_walks.specs.Promise.{BuildsStarted};
 ghost use Rattle.integration_build.specs.Wavefront.{Settles};
 
@@ -21,6 +21,13 @@ fn wide(cost: u8) -> u32
     ensures { λ r. ⌜ (r ≡ cost) × (r < 256) ⌝ }
 {
     cost as u32
+}
+
+// A wavefront's entry, which is the index of a cell, as a number of an index's width.
+fn index_of(entry: u8) -> usize
+    ensures { λ r. ⌜ r ≡ entry ⌝ }
+{
+    entry as usize
 }
 
 // Whether a sum offered to a cell is written there: neither wall nor in sight, and strictly smaller.
@@ -78,7 +85,7 @@ fn offer_wave(
     cells: &mut [u32; 100],
     costs: &[u8],
     before: &[u32; 100],
-    wave: &[usize; 100],
+    wave: &[u8; 100],
     count: usize,
 )
     requires { ⌜ (Indexes 100 (now wave) count) × (length (now costs) ≡ 100) ⌝ }
@@ -86,7 +93,7 @@ fn offer_wave(
 {
     let mut i = 0;
     while i < count {
-        let cell = wave[i];
+        let cell = index_of(wave[i]);
         let value = integration_bits::low_bits(before[cell]);
         offer_around(cells, costs, value, cell);
         i += 1;
@@ -94,7 +101,7 @@ fn offer_wave(
 }
 
 // The cells that a wave changed, each once, in the order of their indexes. Answers how many.
-fn changed(before: &[u32; 100], after: &[u32; 100], next: &mut [usize; 100]) -> usize
+fn changed(before: &[u32; 100], after: &[u32; 100], next: &mut [u8; 100]) -> usize
     requires { ⌜ (length (now before) ≡ 100) × ((length (now after) ≡ 100) × (length (now next) ≡ 100)) ⌝ }
     ensures { λ r. ⌜ (Indexes 100 (now (next .exit)) r) × (take r (now (next .exit)) ≡ changedFrom 0 (now (before .entry)) (now (after .entry))) ⌝ }
 {
@@ -102,7 +109,7 @@ fn changed(before: &[u32; 100], after: &[u32; 100], next: &mut [usize; 100]) -> 
     let mut i = 0;
     while i < 100 {
         // written before it is known to count: no branch depends on a cell
-        next[count] = i;
+        next[count] = i as u8;
         count += (before[i] != after[i]) as usize;
         i += 1;
     }
@@ -113,7 +120,7 @@ fn changed(before: &[u32; 100], after: &[u32; 100], next: &mut [usize; 100]) -> 
 fn propagate_integrated_wavefront(
     costs: &[u8],
     cells: &mut [u32; 100],
-    wavefront: &[usize; 100],
+    wavefront: &[u8; 100],
     count: usize,
     fuel: usize,
 ) -> usize
@@ -129,7 +136,7 @@ fn propagate_integrated_wavefront(
     }
     let before = *cells;
     offer_wave(cells, costs, &before, wavefront, count);
-    let mut next = [0; 100];
+    let mut next: [u8; 100] = [0; 100];
     let some = changed(&before, cells, &mut next);
     if some == 0 {
         return 0;
@@ -153,37 +160,54 @@ fn corners_inside(corners: &[usize; 100], count: usize) -> bool
     true
 }
 
-// Wave 0: the listed corners, and 0 in the places beyond them.
-fn corner_wave(corners: &[usize; 100], count: usize) -> [usize; 100]
+// Puts 0 in the places beyond the listed corners.
+fn clear_beyond(corners: &mut [usize; 100], count: usize)
     requires { ⌜ (count ≤ 100) × (length (now corners) ≡ 100) ⌝ }
+    ensures { λ _. ⌜ now (corners .exit) ≡ padded (take count (now (corners .entry))) ⌝ }
+{
+    let mut i = count;
+    while i < 100 {
+        corners[i] = 0;
+        i += 1;
+    }
+}
+
+// Wave 0: the listed corners, and 0 in the places beyond them.
+fn corner_wave(corners: &[usize; 100], count: usize) -> [u8; 100]
+    requires { ⌜ Indexes 100 (now corners) count ⌝ }
     ensures { λ r. ⌜ r ≡ padded (take count (now (corners .entry))) ⌝ }
 {
-    let mut cells = [0; 100];
+    let mut cells: [u8; 100] = [0; 100];
     let mut i = 0;
     while i < count {
-        cells[i] = corners[i];
+        cells[i] = corners[i] as u8;
         i += 1;
     }
     cells
 }
 
-// A field whose corners are cells, built: no number of waves from 99 on gives another answer than 100.
-fn built(costs: &[u8], field: IntegrationField) -> BuildAnswer
-    requires { ⌜ Accepted (now costs) field ⌝ }
-    ensures { λ r. ⌜ r ≡ answerOf 0 (now (costs .entry)) field ⌝ }
+// A field whose corners are cells, built: its cells are lent to the waves, and no number of waves from 99 on gives another answer than 100.
+fn built(costs: &[u8], given: IntegrationField) -> BuildAnswer
+    requires { ⌜ Accepted (now costs) given ⌝ }
+    ensures { λ r. ⌜ r ≡ answerOf 0 (now (costs .entry)) given ⌝ }
 {
+    let mut field = given;
     let count = field.count;
-    let los_corners = corner_wave(&field.los_corners, count);
-    let mut cells = field.field;
-    let waves = propagate_integrated_wavefront(costs, &mut cells, &los_corners, count, 100);
-    let left = IntegrationField {
-        field: cells,
-        los_corners,
+    let before = field.field;
+    clear_beyond(&mut field.los_corners, count);
+    let wavefront = corner_wave(&field.los_corners, count);
+    let waves = propagate_integrated_wavefront(costs, &mut field.field, &wavefront, count, 100);
+    let positions = corner_positions::corner_positions(
+        costs,
+        &before,
+        &field.field,
+        &field.los_corners,
         count,
-    };
+    );
+    field.positions = positions;
     BuildAnswer {
         number: 0,
-        field: left,
+        field,
         waves,
     }
 }
@@ -193,6 +217,7 @@ pub fn build(costs: &[u8], field: IntegrationField) -> BuildAnswer
     ensures answer { λ r. ⌜ r ≡ buildAnswer (now (costs .entry)) field ⌝ }
     ensures least { λ r. ⌜ (r .number ≡ 0 → LeastWalks (now (costs .entry)) (field .field) (listOf field) (r .field .field)) ⌝ }
     ensures counted { λ r. ⌜ (r .number ≡ 0 → Counted (now (costs .entry)) (field .field) (listOf field) (r .field .field) (r .waves)) ⌝ }
+    ensures positions { λ r. ⌜ (r .number ≡ 0 → EarliestCorners (now (costs .entry)) (field .field) (listOf field) (r .field .field) (r .field .positions)) ⌝ }
     ensures started { λ r. ⌜ BuildsStarted (now (costs .entry)) field r ⌝ }
 {
     if costs.len() != 100 {

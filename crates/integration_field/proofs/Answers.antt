@@ -4,7 +4,8 @@
 --     number-costs, number-count, number-corners, number-accepted    the number, case by case
 --     answer-least      least walks, of the answer
 --     answer-counted    the count, of the answer
---     answer-promises   both, of whatever equals the answer
+--     answer-positions  positions, of the answer
+--     answer-promises   all three, of whatever equals the answer
 -- Assumes nothing.
 use mathlib.Core.Path.{_≡_, refl, sym, _∙_}
 use mathlib.Core.Bool.{Bool, true, false, not, cond, _||_, and-eq-true-iff}
@@ -18,8 +19,9 @@ use Rattle.integration_field.specs.declared.IntegrationField.{Integratio
 use Rattle.integration_field.specs.declared.BuildAnswer.{BuildAnswer}
 use Rattle.integration_field.specs.Listed.{listOf}
 use Rattle.integration_field.specs.Answer.{answerOf, allCells, buildNumber, Accepted, buildAnswer}
-use Rattle.integration_field.specs.Promise.{LeastWalks, Counted}
+use Rattle.integration_field.specs.Promise.{LeastWalks, Counted, EarliestCorners}
 use Rattle.integration_field.proofs.Least.{least-walks, waves-counted}
+use Rattle.integration_field.proofs.Position.{positions-told}
 
 pub all-cells : (l : List ℕ) → allCells l ≡ true → (x : ℕ) → List·Memᴰ x l → x < 100
 unfolding allCells
@@ -77,8 +79,13 @@ module _ (costs : List ℕ) (f : IntegrationField) (full : length (f .field) ≡
   pub answer-counted : buildAnswer costs f .number ≡ 0 → Counted costs (f .field) (listOf f) (buildAnswer costs f .field .field) (buildAnswer costs f .waves)
   answer-counted e = let z = number-is e in rw z (waves-counted costs (f .field) (listOf f) full (corners-inside z))
 
+  pub answer-positions : buildAnswer costs f .number ≡ 0
+      → EarliestCorners costs (f .field) (listOf f) (buildAnswer costs f .field .field) (buildAnswer costs f .field .positions)
+  answer-positions e = let z = number-is e in rw z (positions-told costs (f .field) (listOf f) full (corners-inside z))
+
   pub answer-promises : (r : BuildAnswer) → r ≡ buildAnswer costs f
       → (r ≡ buildAnswer costs f)
       × ((r .number ≡ 0 → LeastWalks costs (f .field) (listOf f) (r .field .field))
-      × (r .number ≡ 0 → Counted costs (f .field) (listOf f) (r .field .field) (r .waves)))
-  answer-promises r e = (e, rw e (answer-least, answer-counted))
+      × ((r .number ≡ 0 → Counted costs (f .field) (listOf f) (r .field .field) (r .waves))
+      × (r .number ≡ 0 → EarliestCorners costs (f .field) (listOf f) (r .field .field) (r .field .positions))))
+  answer-promises r e = (e, rw e (answer-least, (answer-counted, answer-positions)))

@@ -9,3 +9,4 @@ pub mod Answers
 pub mod Decided
 pub mod Snake
 pub mod Diagonal
+pub mod Position

@@ -9,7 +9,7 @@ use lib.ListN.{length}
 use Rattle.integration_field.specs.declared.IntegrationField.{IntegrationField}
 use Rattle.integration_field.specs.declared.BuildAnswer.{BuildAnswer}
 use Rattle.integration_field.specs.Listed.{listOf, zeroField}
-use Rattle.integration_field.specs.Build.{builtField, waveCount}
+use Rattle.integration_field.specs.Built.{builtField, waveCount}
 
 -- a refused answer
 abbrev pub refusal : ℕ → BuildAnswer

@@ -1,11 +1,9 @@
--- The built field (01, "Integration: build"): the waves from the listed corners until one changes no cell, and how many changed one.
+-- Building cells (01, "Integration: build"): the waves from the listed corners until one changes no cell, and how many changed one.
 -- Assumes nothing.
 use mathlib.Core.Bool.{Bool, true, false}
 use mathlib.Core.List.{List, [], _∷_}
 use Prim.Native.Nat.{ℕ, zero, suc}
 use native.Mathlib.Nat.{le-refl}
-use Rattle.integration_field.specs.declared.IntegrationField.{IntegrationField}
-use Rattle.integration_field.specs.Listed.{listOf, withCorners}
 use Rattle.integration_field.specs.Wave.{Wave, next}
 use Rattle.integration_field.specs.Rest.{Rests, total, rest}
 
@@ -35,11 +33,3 @@ unfoldable pub build : List ℕ → List ℕ → List ℕ → Built
 build costs cells corners =
     let w : Wave = record { cells = cells; changed = corners } in
     settle costs (total cells) w (rest costs (total cells) w (le-refl (total cells)))
-
--- a field, built: its cells, with the list that it had
-abbrev pub builtField : List ℕ → IntegrationField → IntegrationField
-builtField costs f = withCorners (build costs (f .field) (listOf f) .cells) (listOf f)
-
--- the count answered: the waves that changed a cell
-abbrev pub waveCount : List ℕ → IntegrationField → ℕ
-waveCount costs f = build costs (f .field) (listOf f) .waves

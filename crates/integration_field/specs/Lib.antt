@@ -4,6 +4,8 @@ pub mod Listed
 pub mod Wave
 pub mod Rest
 pub mod Build
+pub mod Position
+pub mod Built
 pub mod Answer
 pub mod Walks
 pub mod Promise

@@ -21,10 +21,14 @@ pub record Indexes (places : ℕ) (cells : List ℕ) (count : ℕ) : Type 0 wher
 abbrev pub listOf : IntegrationField → List ℕ
 listOf f = take (f .count) (f .«los_corners»)
 
--- a field of these cells, with these corners
+-- no cell has a position before building (02, "Job 10")
+abbrev pub noPositions : List ℕ
+noPositions = replicate 100 255
+
+-- a field of these cells, with these corners, before building
 abbrev pub withCorners : List ℕ → List ℕ → IntegrationField
-withCorners cells corners = record { field = cells; «los_corners» = padded corners; count = length corners }
+withCorners cells corners = record { field = cells; «los_corners» = padded corners; count = length corners; positions = noPositions }
 
 -- the field of a refused answer
 abbrev pub zeroField : IntegrationField
-zeroField = record { field = replicate 100 0; «los_corners» = replicate 100 0; count = 0 }
+zeroField = record { field = replicate 100 0; «los_corners» = replicate 100 0; count = 0; positions = replicate 100 0 }

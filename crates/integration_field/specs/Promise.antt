@@ -1,13 +1,13 @@
--- What is promised of a built field (demand 3, for every field, started or given by hand).
+-- What is promised of a built field (demand 3 and 02, "Job 10", for every field, started or given by hand).
 -- Assumes nothing.
 use mathlib.Core.Path.{_≡_}
-use mathlib.Core.Bool.{true}
+use mathlib.Core.Bool.{true, false}
 use mathlib.Core.Logic.{_⊎_, _↔_}
-use mathlib.Core.List.{List}
+use mathlib.Core.List.{List, [], _∷_}
 use Prim.Native.Nat.{ℕ, zero, suc, _≤_, _<_}
-use lib.ListN.{getD}
+use lib.ListN.{length, getD}
 use Rattle.waves.specs.Waves.{Waves}
-use Rattle.integration_field.specs.Word.{low, isOpen, isLos, isImpassable}
+use Rattle.integration_field.specs.Word.{low, isOpen, isGoal, isLos, isImpassable}
 use Rattle.integration_field.specs.Wave.{waveAt}
 use Rattle.integration_field.specs.Walks.{grid, Permitted}
 
@@ -51,3 +51,27 @@ module _ (costs cells corners : List ℕ) where
     pub at-most : waves ≤ 99
     -- running on changes nothing
     pub settled : (k : ℕ) → waves ≤ k → waveAt costs cells corners k .cells ≡ built
+
+  -- a walk from the corner listed at position i into cell x, at the sum s; one of no moves stays put
+  abbrev pub WalkFrom : ℕ → ℕ → ℕ → Type 0
+  WalkFrom i x s = (k : ℕ) × Permitted costs cells (getD corners i 0 ∷ []) k x s
+
+  -- cell x was neither wall nor in sight nor flagged GOAL before building
+  pub record Placed (x : ℕ) : Type 0 where
+    pub no-wall : isImpassable (getD cells x 0) ≡ false
+    pub not-in-sight : isLos (getD cells x 0) ≡ false
+    pub no-goal : isGoal (getD cells x 0) ≡ false
+
+  -- the position p that cell x holds, where `built` are the cells after building (02, "Job 10")
+  pub data Position (built : List ℕ) (x p : ℕ) : Type 0 where
+    -- the earliest corner with a walk arriving at the cell's built cost
+    earliest : Placed x → p < length corners → WalkFrom p x (low (getD built x 0)) → ((i : ℕ) → i < p → WalkFrom i x (low (getD built x 0)) → ⊥)
+        → Position built x p
+    -- 255: no corner's walk gives the cell's cost
+    none : Placed x → p ≡ 255 → ((i : ℕ) → i < length corners → WalkFrom i x (low (getD built x 0)) → ⊥) → Position built x p
+    -- 255: the cell was wall, in sight or flagged GOAL
+    unplaced : (Placed x → ⊥) → p ≡ 255 → Position built x p
+
+  -- each cell of the sector holds its position
+  abbrev pub EarliestCorners : List ℕ → List ℕ → Type 0
+  EarliestCorners built positions = (x : ℕ) → x < 100 → Position built x (getD positions x 0)

@@ -3,12 +3,14 @@ ghost use mathlib.Core.Path.{_≡_};
 ghost use Rattle.integration_field.specs.Listed.{zeroField};
 ghost use Rattle.integration_field.specs.Answer.{refusal};
 
-// A field's 100 cells, and its list of corners: `count` of them, in the first places of `los_corners`.
+// A field's 100 cells, its list of corners, `count` of them in the first places of `los_corners`, and for each cell the position in that
+// list of the corner that it belongs to, 255 where it has none.
 #[repr(C)]
 pub struct IntegrationField {
     pub field: [u32; 100],
     pub los_corners: [usize; 100],
     pub count: usize,
+    pub positions: [u8; 100],
 }
 
 // What building answers: its number, the built field and how many waves changed a cell.
@@ -28,6 +30,7 @@ impl IntegrationField {
             field: [0; 100],
             los_corners: [0; 100],
             count: 0,
+            positions: [0; 100],
         }
     }
 }

@@ -20,20 +20,28 @@ ghost use Prim.Native.Nat.{ℕ, suc, _+_, _<_, _≤_};
 ghost use lib.ListN.{length, take};
 ghost use Rattle.utilities.specs.Compass.{orthogonal};
 ghost use Rattle.fields.specs.Cell.{cellAt, indexOf, stepped};
-ghost use Rattle.integration_field.specs.Listed.{padded, Indexes};
+ghost use Rattle.integration_field.specs.Listed.{padded, Indexes, withCorners};
 ghost use Rattle.route.specs.Target.{targetOf};
 ghost use Rattle.integration_field.specs.Diagonal.{wallAt};
 ghost use Rattle.route.specs.Inner.{heldCells, heldTarget, WindowHeld, TargetHeld};
 ghost use Rattle.started_field.specs.Started.{startedAt, startedFrom, started, initRefused, initAnswer, StartedField};
 ghost use Rattle.started_field.specs.CornerLine.{cornerLine};
-ghost use Rattle.started_field.specs.Sight.{wallOr, walls, withPortals, marked, stopped, lineMarked, extended, unlessWall, sideTried, wallMet, neighbourLooked, looked, lookedAround, waveLooked, sightAfter};
+ghost use Rattle.started_field.specs.Sight.{wallOr, walls, marked, stopped, lineMarked, extended, unlessWall, sideTried, wallMet, neighbourLooked, looked, lookedAround, waveLooked, sightAfter};
 ghost use Rattle.least_walks.specs.Promise.{OnceBuilt};
 ghost use Rattle.integration_init.specs.Held.{sightOf, Holds, Ready, Applied, AppliedAll, HoldsAll, ReadyAll, InWave, Drawn};
+ghost use Rattle.integration_init.specs.Stages.{windowPut, goalPut, BeforeSight, sightPut};
 
 // How many corners are listed, and how many cells the wave has queued.
 struct Counts {
     corners: usize,
     queued: usize,
+}
+
+// A wave's entry, which is the index of a cell, as a number of an index's width.
+fn index_of(entry: u8) -> usize
+    ensures { λ r. ⌜ r ≡ entry ⌝ }
+{
+    entry as usize
 }
 
 // Whether the cell at an index is a wall.
@@ -209,7 +217,7 @@ fn meet_wall(
 fn look_at(
     cells: &mut [u32; 100],
     corners: &mut [usize; 100],
-    queue: &mut [usize; 100],
+    queue: &mut [u8; 100],
     counts: Counts,
     from: usize,
     dir: CompassDir,
@@ -237,7 +245,7 @@ fn look_at(
         return counts;
     }
     cells[n] = wavefront_cost + INT_BITS_LOS;
-    queue[queued] = n;
+    queue[queued] = n as u8;
     Counts {
         corners: listed,
         queued: queued + 1,
@@ -248,7 +256,7 @@ fn look_at(
 fn look(
     cells: &mut [u32; 100],
     corners: &mut [usize; 100],
-    queue: &mut [usize; 100],
+    queue: &mut [u8; 100],
     counts: Counts,
     from: usize,
     dir: CompassDir,
@@ -279,7 +287,7 @@ fn look(
 fn look_around(
     cells: &mut [u32; 100],
     corners: &mut [usize; 100],
-    queue: &mut [usize; 100],
+    queue: &mut [u8; 100],
     counts: Counts,
     from: usize,
     goal: usize,
@@ -316,9 +324,9 @@ fn look_wave(
     cells: &mut [u32; 100],
     corners: &mut [usize; 100],
     count: usize,
-    wavefront: &[usize; 100],
+    wavefront: &[u8; 100],
     size: usize,
-    next: &mut [usize; 100],
+    next: &mut [u8; 100],
     goal: usize,
     wavefront_cost: u32,
 ) -> Counts
@@ -331,7 +339,7 @@ fn look_wave(
     };
     let mut i = 0;
     while i < size {
-        let from = wavefront[i];
+        let from = index_of(wavefront[i]);
         counts = look_around(cells, corners, next, counts, from, goal, wavefront_cost);
         i += 1;
     }
@@ -343,7 +351,7 @@ fn propagate_los(
     cells: &mut [u32; 100],
     corners: &mut [usize; 100],
     count: usize,
-    wavefront: &[usize; 100],
+    wavefront: &[u8; 100],
     size: usize,
     goal: usize,
     wavefront_cost: u32,
@@ -358,7 +366,7 @@ fn propagate_los(
     if size == 0 {
         return count;
     }
-    let mut next: [usize; 100] = [0; 100];
+    let mut next: [u8; 100] = [0; 100];
     let counts = look_wave(
         cells,
         corners,
@@ -405,20 +413,73 @@ fn mark_walls(costs: &[u8], cells: &mut [u32; 100])
     }
 }
 
-// Marks the cells of a window as portals, and lists them as corners in order.
-fn mark_portals(cells: &mut [u32; 100], corners: &mut [usize; 100], window: WindowCells)
-    requires { ⌜ (WindowHeld window) × (now corners ≡ padded []) ⌝ }
-    ensures { λ _. ⌜ (now (cells .exit) ≡ withPortals (heldCells window) (now (cells .entry))) × (now (corners .exit) ≡ padded (heldCells window)) ⌝ }
+// The record as it is made: cells as their costs give them, no corner listed, no cell with a position.
+fn walled(costs: &[u8]) -> IntegrationField
+    requires { ⌜ length (now costs) ≡ 100 ⌝ }
+    ensures { λ r. ⌜ r ≡ withCorners (walls (now (costs .entry))) [] ⌝ }
 {
+    let mut field = IntegrationField {
+        field: [65535; 100],
+        los_corners: [0; 100],
+        count: 0,
+        positions: [255; 100],
+    };
+    mark_walls(costs, &mut field.field);
+    field
+}
+
+// Marks the cells of a window as portals, and lists them as corners in order.
+fn with_window(given: IntegrationField, window: WindowCells) -> IntegrationField
+    requires { ⌜ (WindowHeld window) × (given .«los_corners» ≡ padded []) ⌝ }
+    ensures { λ r. ⌜ r ≡ windowPut (heldCells window) given ⌝ }
+{
+    let mut field = given;
     let listed = window.cells;
     let count = window.count;
     let mut i = 0;
     while i < count {
         let n = listed[i];
-        cells[n] = INT_BITS_PORTAL;
-        corners[i] = n;
+        field.field[n] = INT_BITS_PORTAL;
+        field.los_corners[i] = n;
         i += 1;
     }
+    field.count = count;
+    field
+}
+
+// Marks the goal.
+fn with_goal(given: IntegrationField, goal: usize) -> IntegrationField
+    requires { ⌜ goal < 100 ⌝ }
+    ensures { λ r. ⌜ r ≡ goalPut goal given ⌝ }
+{
+    let mut field = given;
+    field.field[goal] = INT_BITS_GOAL;
+    field
+}
+
+// Spreads the sight of a goal. Cells and corners are lent to its waves; of a record only one array can be lent at a time, so the corners are
+// taken out and put back.
+fn with_sight(given: IntegrationField, goal: usize) -> IntegrationField
+    requires { ⌜ BeforeSight goal given ⌝ }
+    ensures { λ r. ⌜ r ≡ sightPut goal given ⌝ }
+{
+    let mut field = given;
+    let mut corners = field.los_corners;
+    let mut wavefront: [u8; 100] = [0; 100];
+    wavefront[0] = goal as u8;
+    let count = propagate_los(
+        &mut field.field,
+        &mut corners,
+        0,
+        &wavefront,
+        1,
+        goal,
+        1,
+        100,
+    );
+    field.los_corners = corners;
+    field.count = count;
+    field
 }
 
 // The field that starts at window cells, which need not lie side by side.
@@ -426,15 +487,8 @@ pub fn start_at(costs: &[u8], window: WindowCells) -> IntegrationField
     requires { ⌜ (length (now costs) ≡ 100) × (WindowHeld window) ⌝ }
     ensures { λ r. ⌜ r ≡ startedAt (now (costs .entry)) (heldCells window) ⌝ }
 {
-    let mut cells: [u32; 100] = [65535; 100];
-    mark_walls(costs, &mut cells);
-    let mut corners: [usize; 100] = [0; 100];
-    mark_portals(&mut cells, &mut corners, window);
-    IntegrationField {
-        field: cells,
-        los_corners: corners,
-        count: window.count,
-    }
+    let field = walled(costs);
+    with_window(field, window)
 }
 
 // The field that starts from a goal, with the sight of it.
@@ -442,18 +496,8 @@ fn start_from(costs: &[u8], goal: usize) -> IntegrationField
     requires { ⌜ (length (now costs) ≡ 100) × (goal < 100) ⌝ }
     ensures { λ r. ⌜ r ≡ startedFrom (now (costs .entry)) goal ⌝ }
 {
-    let mut cells: [u32; 100] = [65535; 100];
-    mark_walls(costs, &mut cells);
-    cells[goal] = INT_BITS_GOAL;
-    let mut corners: [usize; 100] = [0; 100];
-    let mut wavefront: [usize; 100] = [0; 100];
-    wavefront[0] = goal;
-    let count = propagate_los(&mut cells, &mut corners, 0, &wavefront, 1, goal, 1, 100);
-    IntegrationField {
-        field: cells,
-        los_corners: corners,
-        count,
-    }
+    let field = with_goal(walled(costs), goal);
+    with_sight(field, goal)
 }
 
 // The field that a target starts.

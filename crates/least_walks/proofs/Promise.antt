@@ -2,6 +2,7 @@
 --     accepts-started    the started field is one that `build` takes
 --     started-ground     what its cells are, as far as walks go
 --     started-walks      its least walks, once built
+--     started-positions  its positions, once built
 --     demand3            the same in demand 3's words, and the exact count
 --     built, builds      what `build` answers for it, and the same of that answer
 --     builds-started     as it is promised of `build`
@@ -20,14 +21,16 @@ use Rattle.integration_field.specs.declared.IntegrationField.{IntegrationField}
 use Rattle.integration_field.specs.declared.BuildAnswer.{BuildAnswer}
 use Rattle.integration_field.specs.Build.{build}
 use Rattle.integration_field.specs.Answer.{answerOf, allCells, Accepted, buildAnswer}
+use Rattle.integration_field.specs.Position.{positions}
 use Rattle.integration_field.specs.Promise.{LeastWalks}
 use Rattle.integration_field.proofs.Answers.{number-accepted}
 use Rattle.started_field.specs.declared.InitAnswer.{InitAnswer}
 use Rattle.integration_field.proofs.Least.{least-walks, waves-counted}
+use Rattle.integration_field.proofs.Position.{positions-told}
 use Rattle.started_field.specs.Started.{started, StartedCells, StartedField, initAnswer}
 use Rattle.started_field.proofs.Started.{started-field, accepted-target, answered}
 use Rattle.least_walks.specs.Walks.{Wall}
-use Rattle.least_walks.specs.Promise.{Demand3, OnceBuilt, BuildsStarted}
+use Rattle.least_walks.specs.Promise.{Demand3, StartedPositions, OnceBuilt, BuildsStarted}
 use Rattle.least_walks.proofs.Started.{Ground, started-least}
 use Rattle.least_walks.proofs.Ground.{mem-among, goal-ground, window-ground}
 
@@ -77,6 +80,9 @@ module _ (costs : List ℕ) (target : Target) (full : length costs ≡ 100) (tar
 
   pub started-walks : LeastWalks costs cells corners (build costs cells corners .cells)
   started-walks = least-walks costs cells corners hundred inside
+
+  pub started-positions : StartedPositions costs target (build costs cells corners .cells) (positions costs cells corners)
+  started-positions = positions-told costs cells corners hundred inside
 
   pub demand3 : Demand3 costs target (build costs cells corners .cells) (build costs cells corners .waves)
   demand3 = record {

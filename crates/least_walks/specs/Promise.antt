@@ -7,8 +7,8 @@ use Rattle.route.specs.Target.{Target, GoalCell, targetOf}
 use Rattle.integration_field.specs.declared.IntegrationField.{IntegrationField}
 use Rattle.integration_field.specs.declared.BuildAnswer.{BuildAnswer}
 use Rattle.integration_field.specs.Listed.{listOf}
-use Rattle.integration_field.specs.Build.{builtField, waveCount}
-use Rattle.integration_field.specs.Promise.{Counted}
+use Rattle.integration_field.specs.Built.{builtField, waveCount}
+use Rattle.integration_field.specs.Promise.{Counted, EarliestCorners}
 use Rattle.started_field.specs.Started.{started, initNumber}
 use Rattle.least_walks.specs.Walks.{Wall, StartedLeast}
 
@@ -16,6 +16,11 @@ use Rattle.least_walks.specs.Walks.{Wall, StartedLeast}
 pub record Demand3 (costs : List ℕ) (target : Target) (built : List ℕ) (waves : ℕ) : Type 0 where
   pub least : StartedLeast costs (started costs target .field) (listOf (started costs target)) (Wall costs target) (GoalCell target) built
   pub counted : Counted costs (started costs target .field) (listOf (started costs target)) built waves
+
+-- Each cell of the started field, once built, holds the position of the earliest corner with a walk arriving at its cost (02, "Job 10").
+abbrev pub StartedPositions : List ℕ → Target → List ℕ → List ℕ → Type 0
+StartedPositions costs target built positions =
+    EarliestCorners costs (started costs target .field) (listOf (started costs target)) built positions
 
 -- of `init`: a field that it answers, once built
 abbrev pub OnceBuilt : List ℕ → Target → IntegrationField → Type 0

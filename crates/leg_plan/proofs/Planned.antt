@@ -13,7 +13,7 @@ use borrow.Author.Tests.{ne-eqb}
 use Rattle.route.specs.Step.{stepNumber}
 use Rattle.route.specs.Target.{TargetIn}
 use Rattle.route.proofs.Accepted.{accepted-step}
-use Rattle.integration_field.specs.Build.{waveCount}
+use Rattle.integration_field.specs.Built.{waveCount}
 use Rattle.started_field.specs.Started.{started}
 use Rattle.sector.specs.Sector.{sectorField}
 use Rattle.sector.specs.Promise as sector

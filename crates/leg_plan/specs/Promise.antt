@@ -8,7 +8,7 @@ use lib.ListN.{length, getD}
 use Rattle.route.specs.declared.PortalWindow.{PortalWindow}
 use Rattle.route.specs.Step.{sectorOf, portalOf}
 use Rattle.route.specs.Target.{Target}
-use Rattle.integration_field.specs.Build.{waveCount}
+use Rattle.integration_field.specs.Built.{waveCount}
 use Rattle.started_field.specs.Started.{started}
 use Rattle.sector.specs.Sector.{sectorField, sectorBytes}
 use Rattle.sector.specs.Promise.{Planned}

@@ -71,26 +71,29 @@ pub fn summed(before: u64, bytes: &[u8]) -> u64 {
     sum
 }
 
-// The field that stands as cells, count and corners, 0 past the end.
+// The field that stands as cells, count, positions and corners, 0 past the end.
 pub fn field_of(bytes: &[u8]) -> IntegrationField
     ensures { λ r. ⌜ length (r .field) ≡ 100 ⌝ }
 {
     let mut field = [0u32; 100];
+    let mut positions = [0u8; 100];
     let mut los_corners = [0usize; 100];
     let mut i = 0;
     while i < 100 {
         field[i] = word_at(bytes, 4 * i);
-        los_corners[i] = size_at(bytes, 401 + i);
+        positions[i] = byte_at(bytes, 401 + i);
+        los_corners[i] = size_at(bytes, 501 + i);
         i += 1;
     }
     IntegrationField {
         field,
         los_corners,
         count: size_at(bytes, 400),
+        positions,
     }
 }
 
-// Whether a field is the one that stands as count, corners and cells.
+// Whether a field is the one that stands as count, positions, corners and cells.
 pub fn same_field(field: IntegrationField, bytes: &[u8]) -> bool
     ensures { λ r. ⌜ (r ≡ true → SameField field (now (bytes .entry))) ⌝ }
 {
@@ -98,14 +101,18 @@ pub fn same_field(field: IntegrationField, bytes: &[u8]) -> bool
     if count != size_at(bytes, 0) {
         return false;
     }
+    let positions = field.positions;
     let los_corners = field.los_corners;
     let cells = field.field;
     let mut i = 0;
     while i < 100 {
-        if los_corners[i] != size_at(bytes, 1 + i) {
+        if positions[i] != byte_at(bytes, 1 + i) {
             return false;
         }
-        if cells[i] != word_at(bytes, 101 + 4 * i) {
+        if los_corners[i] != size_at(bytes, 101 + i) {
+            return false;
+        }
+        if cells[i] != word_at(bytes, 201 + 4 * i) {
             return false;
         }
         i += 1;

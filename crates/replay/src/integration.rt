@@ -10,7 +10,7 @@ use started_field::InitAnswer;
 // Number, field.
 pub fn same_init(answer: InitAnswer, bytes: &[u8]) -> bool {
     let field = answer.field;
-    answer.number == byte_at(bytes, 0) && same_field(field, part(bytes, 1, 502))
+    answer.number == byte_at(bytes, 0) && same_field(field, part(bytes, 1, 602))
 }
 
 // Number, waves, field.
@@ -18,20 +18,20 @@ pub fn same_build(answer: BuildAnswer, bytes: &[u8]) -> bool {
     let field = answer.field;
     answer.number == byte_at(bytes, 0)
         && answer.waves == size_at(bytes, 1)
-        && same_field(field, part(bytes, 2, 503))
+        && same_field(field, part(bytes, 2, 603))
 }
 
 // A record: 100 costs, 8 bytes of step; number, field.
 pub fn init_agrees(record: &[u8]) -> bool {
     let answer = integration_init::init(part(record, 0, 100), part(record, 100, 108));
-    same_init(answer, part(record, 108, 610))
+    same_init(answer, part(record, 108, 710))
 }
 
 // A record: 100 costs, the field; number, waves, field.
 pub fn build_agrees(record: &[u8]) -> bool {
-    let given = field_of(part(record, 100, 601));
+    let given = field_of(part(record, 100, 701));
     let answer = integration_build::build(part(record, 0, 100), given);
-    same_build(answer, part(record, 601, 1104))
+    same_build(answer, part(record, 701, 1304))
 }
 
 // A record: 100 costs, 8 bytes of step, has_previous, 100 previous numbers; number, waves, field, sheet.
@@ -46,5 +46,5 @@ pub fn sector_agrees(record: &[u8]) -> bool {
         &previous,
         &mut sheet,
     );
-    same_build(answer, part(record, 509, 1012)) && check::same(&sheet, part(record, 1012, 1112))
+    same_build(answer, part(record, 509, 1112)) && check::same(&sheet, part(record, 1112, 1212))
 }

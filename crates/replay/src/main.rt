@@ -94,13 +94,13 @@ fn main() {
     replay(0, b"line", 16);
     replay(1, b"line_end", 8);
     replay(2, b"readers", 8);
-    replay(3, b"init.altered", 610);
-    replay(3, b"init.table", 610);
-    replay(4, b"build", 1104);
+    replay(3, b"init.altered", 710);
+    replay(3, b"init.table", 710);
+    replay(4, b"build", 1304);
     replay(5, b"flow_new", 910);
     replay(6, b"flow_build.altered", 601);
-    replay(7, b"sector.altered", 1112);
-    replay(7, b"sector.table", 1112);
+    replay(7, b"sector.altered", 1212);
+    replay(7, b"sector.table", 1212);
     replay(8, b"leg.altered", 3330);
     replay(8, b"leg.model", 3330);
     replay(8, b"leg.table", 3330);

@@ -49,6 +49,7 @@ fn given_field(record: &[u8]) -> IntegrationField {
         field: [0; 100],
         los_corners,
         count: short_at(record, 10, 11),
+        positions: [0; 100],
     }
 }
 

@@ -1,21 +1,16 @@
 -- A window's cells, and the cells that face them across the boundary (01, "A leg").
 -- Assumes nothing.
 use mathlib.Core.Bool.{Bool, false, cond, _&&_}
-use mathlib.Core.List.{List, [], _∷_, _++_}
-use Prim.Native.Nat.{ℕ, zero, suc, _+_, _*_, _/_, _%_}
+use mathlib.Core.List.{List, [], _∷_}
+use Prim.Native.Nat.{ℕ, _+_, _*_, _/_, _%_}
 use lib.Dec.{leb, eqb}
 use lib.ListN.{length}
 use Rattle.utilities.specs.declared.CompassDir.{CompassDir}
 use Rattle.utilities.specs.declared.CompassDir.the-variants.{North, East, South, West, NorthEast, SouthEast, SouthWest, NorthWest, Zero}
 use Rattle.utilities.specs.Compass.{differences}
-use Rattle.utilities.specs.Lists.{consIf}
+use Rattle.utilities.specs.Lists.{consIf, below}
 use Rattle.utilities.specs.Padded.{padded}
 use Rattle.route.specs.declared.WindowCells.{WindowCells}
-
--- the numbers below n, in order
-abbrev pub below : ℕ → List ℕ
-below zero = []
-below (suc n) = below n ++ (n ∷ [])
 
 -- those of a list that pass a test, in its order
 abbrev pub select : (ℕ → Bool) → List ℕ → List ℕ

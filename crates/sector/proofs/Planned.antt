@@ -12,20 +12,21 @@ use Prim.Native.Nat.{ℕ, zero, suc}
 use lib.Dec.{eqb}
 use lib.ListN.{length, getD}
 use borrow.Author.Tests.{eq-eqb, ne-eqb}
+use Rattle.utilities.proofs.Lists.{table-length}
 use Rattle.route.specs.declared.PortalWindow.{PortalWindow}
 use Rattle.route.specs.Step.{portalOf}
 use Rattle.route.specs.Target.{Target, windowOf, TargetIn, targetOf}
 use Rattle.route.proofs.Targets.{target-in}
 use Rattle.integration_field.specs.declared.IntegrationField.{IntegrationField}
 use Rattle.integration_field.specs.declared.BuildAnswer.{BuildAnswer}
-use Rattle.integration_field.specs.Build.{waveCount}
+use Rattle.integration_field.specs.Built.{waveCount}
 use Rattle.integration_field.specs.Answer.{refusal, answerOf, buildAnswer}
 use Rattle.started_field.specs.Started.{started}
-use Rattle.least_walks.proofs.Promise.{built, demand3}
+use Rattle.least_walks.specs.Promise.{StartedPositions}
+use Rattle.least_walks.proofs.Promise.{built, demand3, started-positions}
 use Rattle.flow_byte.specs.New.{windowBits, newByte, newBytes}
 use Rattle.flow_byte.specs.Look.{builtByte, flowBuild}
 use Rattle.flow_build.specs.Flow.{buildNumber, buildSheet}
-use Rattle.flow_byte.proofs.Sheets.{bytes-length}
 use Rattle.arrows.proofs.Bytes.{new-length}
 use Rattle.arrows.proofs.Clear.{OnEdge, arrows-clear, target-on}
 use Rattle.arrows.proofs.Lead.{arrows-lead}
@@ -38,7 +39,7 @@ module _ (costs : List ℕ) (target : Target) (portal : PortalWindow) where
   unfolding sectorBytes flowBuild
   bytes-hundred has previous =
       let cells = sectorField costs target .field in
-      bytes-length (λ i. builtByte cells i (getD (newBytes portal (windowOf target) cells has previous) i 0)) 100
+      table-length (λ i. builtByte cells i (getD (newBytes portal (windowOf target) cells has previous) i 0)) 100
 
   -- without a previous field, what is lent in its place is not read
   pub none-read : (previous other : List ℕ) → sectorBytes costs target portal false previous ≡ sectorBytes costs target portal false other
@@ -72,11 +73,15 @@ module _ (costs step : List ℕ) (has : Bool) (previous sheet : List ℕ) where
   abbrev Promised : BuildAnswer → List ℕ → Type 0
   Promised r bytes =
       (r ≡ sectorAnswer costs step has previous sheet)
-      × ((bytes ≡ sectorSheet costs step has previous sheet) × (r .number ≡ 0 → Planned costs (targetOf step) (r .field .field) (r .waves) bytes))
+      × ((bytes ≡ sectorSheet costs step has previous sheet)
+      × ((r .number ≡ 0 → Planned costs (targetOf step) (r .field .field) (r .waves) bytes)
+      × (r .number ≡ 0 → StartedPositions costs (targetOf step) (r .field .field) (r .field .positions))))
 
   pub refuses : (n : ℕ) → n ≡ sectorNumber costs step has previous sheet → (n ≡ 0 → ⊥) → (r : BuildAnswer) → r ≡ refusal n → Promised r sheet
   refuses zero e h r q = absurd (h refl)
-  refuses (suc n) e h r q = (q ∙ rw (← e), (rw (← e, ne-eqb (suc n) 0 h), λ z. absurd (h (cc))))
+  refuses (suc n) e h r q =
+      let not-zero : r .number ≡ 0 → ⊥ = λ z. h (sym (ap (λ (b : BuildAnswer). b .number) q) ∙ z) in
+      (q ∙ rw (← e), (rw (← e, ne-eqb (suc n) 0 h), (λ z. absurd (not-zero z), λ z. absurd (not-zero z))))
 
   pub accepts : sectorNumber costs step has previous sheet ≡ 0 → (b : BuildAnswer) (bytes : List ℕ)
       → b ≡ answerOf 0 costs (started costs (targetOf step)) → bytes ≡ sectorBytes costs (targetOf step) (portalOf step) has previous → Promised b bytes
@@ -84,5 +89,11 @@ module _ (costs step : List ℕ) (has : Bool) (previous sheet : List ℕ) where
       let ok = accepted costs step has previous sheet z in
       let inside = target-in step (ok .step-good) in (
         e ∙ rw z,
-        (w ∙ rw z, λ _. rw (e, w) (sector-planned costs (targetOf step) (portalOf step) (ok .costs-hundred) inside has previous (target-on step))),
+        (
+          w ∙ rw z,
+          (
+            λ _. rw (e, w) (sector-planned costs (targetOf step) (portalOf step) (ok .costs-hundred) inside has previous (target-on step)),
+            λ _. rw e (started-positions costs (targetOf step) (ok .costs-hundred) inside),
+          ),
+        ),
       )

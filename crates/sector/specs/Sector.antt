@@ -12,7 +12,7 @@ use Rattle.route.specs.Step.{isWindow, portalOf, stepNumberOn}
 use Rattle.route.specs.Target.{Target, windowOf, targetOf}
 use Rattle.integration_field.specs.declared.IntegrationField.{IntegrationField}
 use Rattle.integration_field.specs.declared.BuildAnswer.{BuildAnswer}
-use Rattle.integration_field.specs.Build.{builtField}
+use Rattle.integration_field.specs.Built.{builtField}
 use Rattle.integration_field.specs.Answer.{answerOf}
 use Rattle.started_field.specs.Started.{started}
 use Rattle.flow_byte.specs.New.{newBytes}

@@ -11,6 +11,7 @@ ghost use Rattle.route.specs.Target.{targetOf};
 ghost use Rattle.route.specs.Inner.{heldTarget};
 ghost use Rattle.integration_field.specs.Answer.{answerOf};
 ghost use Rattle.started_field.specs.Started.{started};
+ghost use Rattle.least_walks.specs.Promise.{StartedPositions};
 ghost use Rattle.sector.specs.Sector.{lacksPrevious, sectorNumber, sectorBytes, sectorAnswer, sectorSheet};
 ghost use Rattle.sector.specs.Inner.{RunReady};
 ghost use Rattle.sector.specs.Promise.{Planned};
@@ -88,6 +89,7 @@ pub fn plan_sector(
     ensures answer { λ r. ⌜ r ≡ sectorAnswer (now (costs .entry)) (now (step .entry)) «has_previous» (now (previous .entry)) (now (sheet .entry)) ⌝ }
     ensures sheet { λ _. ⌜ now (sheet .exit) ≡ sectorSheet (now (costs .entry)) (now (step .entry)) «has_previous» (now (previous .entry)) (now (sheet .entry)) ⌝ }
     ensures planned { λ r. ⌜ (r .number ≡ 0 → Planned (now (costs .entry)) (targetOf (now (step .entry))) (r .field .field) (r .waves) (now (sheet .exit))) ⌝ }
+    ensures positions { λ r. ⌜ (r .number ≡ 0 → StartedPositions (now (costs .entry)) (targetOf (now (step .entry))) (r .field .field) (r .field .positions)) ⌝ }
 {
     let number = sector_number(costs, step, has_previous, previous, sheet.len());
     if number != 0 {

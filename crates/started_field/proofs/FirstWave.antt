@@ -25,7 +25,8 @@ use Rattle.integration_field.specs.Word.{isLos, isGoal, isBlocked, isImpassable
 use Rattle.integration_field.specs.Diagonal.{wallAt, passesWall}
 use Rattle.started_field.specs.Sight.{Sight, cornerWord, sightWord, listed, marked, stopped, lineMarked, seen, extended, sideTried, wallMet, neighbourLooked, looked, lookedAround}
 use Rattle.started_field.specs.Lines.{Lines}
-use Rattle.started_field.proofs.Count.{Each, count, Passes, once-room, each-more, each-one, once-more, at-set}
+use Rattle.utilities.specs.Count.{count}
+use Rattle.utilities.proofs.Count.{Each, Passes, once-room, each-more, each-one, once-more, at-set}
 use Rattle.started_field.proofs.Words.{corner-flags}
 use Rattle.started_field.proofs.Kept.{Found, Keeps, kept-marked, kept-line, kept-side, kept-wall, kept-looked, kept-around}
 use Rattle.started_field.proofs.Sides.{isSide, by-side, square, odd, side-opposite, side-sideways, sideways-back, sideways-away}

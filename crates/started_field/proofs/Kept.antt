@@ -33,7 +33,7 @@ use Rattle.started_field.specs.Sight.{
   lookedAround,
   waveLooked,
 }
-use Rattle.started_field.proofs.Count.{Each}
+use Rattle.utilities.proofs.Count.{Each}
 use Rattle.started_field.proofs.Words.{Flags}
 use Rattle.started_field.proofs.Sides.{isSide, Sideways}
 

@@ -1,5 +1,4 @@
 pub mod Examples
-pub mod Count
 pub mod Words
 pub mod Before
 pub mod Sides

@@ -15,7 +15,8 @@ use Rattle.integration_field.specs.Word.{isLos, isBlocked, isImpassable}
 use Rattle.integration_field.specs.Diagonal.{wallAt}
 use Rattle.started_field.specs.Sight.{Sight, cornerWord, sightWord, listed, seen, begun}
 use Rattle.started_field.specs.Room.{Room}
-use Rattle.started_field.proofs.Count.{count, count-length, count-room, once-room, each-more, once-more, at-set}
+use Rattle.utilities.specs.Count.{count}
+use Rattle.utilities.proofs.Count.{count-length, count-room, once-room, each-more, once-more, at-set}
 use Rattle.started_field.proofs.Words.{corner-flags, seen-flags}
 
 -- LOS or BLOCKED

@@ -18,7 +18,8 @@ use Rattle.started_field.specs.Lines.{Lines}
 use Rattle.started_field.specs.Room.{Room}
 use Rattle.started_field.specs.StartedCell.{Among, SightCell}
 use Rattle.started_field.specs.StartedCell.SightCell.{in-sight, corner}
-use Rattle.started_field.proofs.Count.{Each, bit, bit-small, count, count-set, count-room, each-more, at-set, more-length, more-before, more-last}
+use Rattle.utilities.specs.Count.{bit, count}
+use Rattle.utilities.proofs.Count.{Each, bit-small, count-set, count-room, each-more, at-set, more-length, more-before, more-last}
 use Rattle.started_field.proofs.Words.{Flags, corner-flags, seen-flags}
 use Rattle.started_field.proofs.Kept.{Found, Keeps}
 use Rattle.started_field.proofs.Sides.{isSide}

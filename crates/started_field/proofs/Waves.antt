@@ -25,7 +25,8 @@ use Rattle.started_field.specs.Room.{Room}
 use Rattle.started_field.specs.Sizes.{Sizes}
 use Rattle.started_field.specs.StartedCell.{SightCell, GoalStays, GoalStarted}
 use Rattle.started_field.specs.StartedCell.SightCell.{in-sight, corner, unseen}
-use Rattle.started_field.proofs.Count.{Each, count, count-length, Passes, once-room, each-one, at-set}
+use Rattle.utilities.specs.Count.{count}
+use Rattle.utilities.proofs.Count.{Each, count-length, Passes, once-room, each-one, at-set}
 use Rattle.started_field.proofs.Words.{corner-flags, seen-flags}
 use Rattle.started_field.proofs.Kept.{Found, kept-around, kept-wave}
 use Rattle.started_field.proofs.Room.{room-begins, room-corners, room-queued}

@@ -9,7 +9,7 @@ use lib.ListN.{length, getD, set, length-set}
 use Rattle.integration_field.specs.Word.{isLos, isGoal}
 use Rattle.started_field.specs.Sight.{walls, withPortals}
 use Rattle.started_field.specs.StartedCell.{Among, WindowStarted}
-use Rattle.started_field.proofs.Count.{Each, Once, at-set}
+use Rattle.utilities.proofs.Count.{Each, Once, at-set}
 use Rattle.started_field.proofs.Before.{walls-length, Before, chosen, unchosen, chosen-word, wall-word, other-word, only-wall, fails}
 
 -- a word after window cells were put: 0x80000 in the window, else as before

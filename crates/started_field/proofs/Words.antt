@@ -8,7 +8,7 @@ use native.Mathlib.Omega.{arith}
 use borrow.Author.Tests.{eq-eqb, ne-eqb}
 use lib.ListN.{length, getD}
 use Rattle.integration_field.specs.Word.{flag, isLos, isGoal, isBlocked, isImpassable}
-use Rattle.started_field.proofs.Count.{bit}
+use Rattle.utilities.specs.Count.{bit}
 use Rattle.started_field.specs.Sight.{wallOr, walls, cornerWord, sightWord}
 
 flag-is : (k x : ℕ) (b : Bool) → x / 2 ^ k % 2 ≡ bit b → flag k x ≡ b

@@ -1,7 +1,6 @@
 -- Laws of the loops here, and of what is found in one direction after the other.
 --     some-here, some-over, every-here, every-over   a test of what is left of a list in an array
 --     some-same                                      tests that agree on cells
---     filled-more, filled-all                        a table of all cells, filled from the first on
 --     indexes-more                                   an index more in an array with a count
 --     along-more                                     the neighbours in a list of directions, those in the first before the rest
 --     along-outside, along-passed, along-found       and what is found in one direction
@@ -18,12 +17,11 @@ use lib.Dec.{ltb}
 use lib.ListN.{length, getD, set, take, length-set}
 use lib.Seq.{slice, slice-cons, slice-empty, take-suc-set, getD-set-same, getD-set-other}
 use Rattle.utilities.specs.declared.CompassDir.{CompassDir}
-use Rattle.utilities.specs.Lists.{consIf}
+use Rattle.utilities.specs.Lists.{below, consIf}
 use Rattle.fields.specs.declared.FieldCell.{FieldCell}
 use Rattle.fields.specs.declared.Stepped.{Stepped}
 use Rattle.fields.specs.declared.Stepped.the-variants.{Cell, Outside}
 use Rattle.fields.specs.Cell.{cellAt, indexOf, stepped}
-use Rattle.route.specs.Window.{below}
 use Rattle.integration_field.specs.Word.{isPortal}
 use Rattle.integration_field.specs.Diagonal.{wallAt}
 use Rattle.integration_field.specs.Listed.{Indexes}
@@ -53,32 +51,6 @@ module _ (p : ℕ → Bool) (l : List ℕ) (n : ℕ) where
 pub some-same : (p q : ℕ → Bool) (l : List ℕ) → ((x : ℕ) → List·Memᴰ x l → p x ≡ q x) → someOf p l ≡ someOf q l
 some-same p q [] h = refl
 some-same p q (x ∷ l) h = rw (h x (List·Memᴰ·head refl), some-same p q l (λ y m. h y (List·Memᴰ·tail m)))
-
--- ---- filling a table
-
-map-append : {A : Type 0} (f : ℕ → A) (l m : List ℕ) → map f (l ++ m) ≡ map f l ++ map f m
-map-append f [] m = refl
-map-append f (x ∷ l) m = ap (λ r. f x ∷ r) (map-append f l m)
-
--- an array of 100 places, of which those below i are filled
-pub record FilledTo {A : Type 0} (f : ℕ → A) (i : ℕ) (table : List A) : Type 0 where
-  pub full : length table ≡ 100
-  pub first : take i table ≡ map f (below i)
-
-module _ {A : Type 0} (f : ℕ → A) where
-  pub filled-more : (i : ℕ) (table : List A) (a : A) → i < 100 → a ≡ f i → FilledTo f i table → FilledTo f (i + 1) (set table i a)
-  filled-more i table a h e t = record {
-    full = length-set table i a ∙ t .full;
-    first = rw (add-one i) (take-suc-set table i a (omega (arith, t .full)) ∙ rw (t .first, e) (sym (map-append f (below i) (i ∷ []))));
-  }
-
-  pub filled-all : (table : List A) → FilledTo f 100 table → table ≡ map f (below 100)
-  filled-all table t = sym (take-whole table 100 (t .full)) ∙ t .first
-    where
-      take-whole : (l : List A) (n : ℕ) → length l ≡ n → take n l ≡ l
-      take-whole [] n e = rw (← e)
-      take-whole (x ∷ l) zero e = absurd (omega arith)
-      take-whole (x ∷ l) (suc n) e = ap (λ r. x ∷ r) (take-whole l n (omega arith))
 
 -- ---- one more in an array
 

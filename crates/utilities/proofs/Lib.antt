@@ -1,2 +1,4 @@
 pub mod Padded
 pub mod Compass
+pub mod Lists
+pub mod Count

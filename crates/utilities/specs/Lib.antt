@@ -1,3 +1,4 @@
 pub mod Compass
 pub mod Padded
 pub mod Lists
+pub mod Count

@@ -7,7 +7,7 @@ use native.Mathlib.Numerals.{add-one}
 use native.Mathlib.Omega.{arith}
 use borrow.Author.Needs.{needs}
 use denote.Ref.{now}
-use Rattle.route.specs.Window.{below}
+use Rattle.utilities.specs.Lists.{below}
 use Rattle.cost_bounds.specs.Bounds.{someOf, noRange}
 use Rattle.bounds.proofs.Laws.{some-so-far, some-found}
 use Rattle.bounds.proofs.has_no_range.Statement.{statement}

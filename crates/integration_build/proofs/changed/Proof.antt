@@ -11,7 +11,8 @@ use lib.Seq.{take-all}
 use borrow.Author.Needs.{needs}
 use Rattle.utilities.specs.Lists.{consIf}
 use Rattle.integration_field.specs.Wave.{changedFrom}
-use Rattle.integration_build.proofs.Loops.{changedTo, changed-more, changed-indexes, bit-few, pushed}
+use Rattle.utilities.proofs.Count.{bit-few}
+use Rattle.integration_build.proofs.Loops.{changedTo, changed-more, changed-indexes, pushed}
 use Rattle.integration_build.proofs.changed.Statement.{statement}
 use Rattle.integration_build.proofs.changed.Tie as tie
 
@@ -26,8 +27,8 @@ loop-holds : tie.Need-loop-holds Inv-loop μ-loop
 unfolding changedFrom
 loop-holds c = (search needs, search needs, c .pre .1 .1, refl)
 
-mul-next : tie.Need-mul-next Inv-loop μ-loop
-mul-next c = search needs
+cast-next : tie.Need-cast-next Inv-loop μ-loop
+cast-next c = search needs
 
 element-write-next : tie.Need-element-write-next Inv-loop μ-loop
 element-write-next c = search needs
@@ -93,7 +94,7 @@ changed-spec =
     Inv-loop
     μ-loop
     loop-holds
-    mul-next
+    cast-next
     element-write-next
     mul-count
     element-copy-out-count

@@ -27,8 +27,11 @@ mul-cells c = search needs
 element-copy-out-cells : tie.Need-element-copy-out-cells Inv-loop μ-loop
 element-copy-out-cells c = search needs
 
-mul-cells-2 : tie.Need-mul-cells-2 Inv-loop μ-loop
-mul-cells-2 c = search needs
+cast-cells : tie.Need-cast-cells Inv-loop μ-loop
+cast-cells c =
+    let turn = c .before in
+    let h = turn .before .before .pre .cells-in (turn .before .loop .i) (turn .loop-test .taken) in
+    omega arith
 
 array-write-cells : tie.Need-array-write-cells Inv-loop μ-loop
 array-write-cells c = search needs
@@ -44,8 +47,8 @@ loop-again c =
     let s = c .before .before .before in
     let l = c .before .before .loop in
     let corners = s .args .corners .now in
-    let room : l .i < 100 = omega (arith, s .pre .0) in
-    (search needs, ap (λ (x : List ℕ). set x (l .i) (getD corners (l .i) 0)) (l .inv .1) ∙ corner-more corners (l .i) (omega (arith, s .pre .1)) room)
+    let room : l .i < 100 = omega (arith, s .pre .count-in) in
+    (search needs, ap (λ (x : List ℕ). set x (l .i) (getD corners (l .i) 0)) (l .inv .1) ∙ corner-more corners (l .i) (omega (arith, s .pre .full)) room)
 
 returns : tie.Need-returns Inv-loop μ-loop
 returns c =
@@ -63,7 +66,7 @@ corner-wave-spec =
     loop-holds
     mul-cells
     element-copy-out-cells
-    mul-cells-2
+    cast-cells
     array-write-cells
     add-i
     loop-less

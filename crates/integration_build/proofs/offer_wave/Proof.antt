@@ -9,6 +9,7 @@ use lib.Seq.{slice}
 use borrow.Author.Needs.{needs}
 use Rattle.utilities.specs.Compass.{orthogonal}
 use Rattle.fields.specs.Cell.{cellAt}
+use Rattle.integration_field.specs.Word.{low}
 use Rattle.integration_field.specs.Wave.{offeredAround, offeredBy}
 use Rattle.integration_build.proofs.Loops.{wave-step, wave-end}
 use Rattle.integration_build.proofs.offer_wave.Statement.{statement}
@@ -24,14 +25,18 @@ abbrev μ-loop : tie.MeasureT-loop
 loop-holds : tie.Need-loop-holds Inv-loop μ-loop
 loop-holds c = (search needs, refl)
 
-mul-cell : tie.Need-mul-cell Inv-loop μ-loop
-mul-cell c = search needs
+element-copy-out-index-of : tie.Need-element-copy-out-index-of Inv-loop μ-loop
+element-copy-out-index-of c = search needs
 
-element-copy-out-cell : tie.Need-element-copy-out-cell Inv-loop μ-loop
-element-copy-out-cell c = search needs
+-- the turn, and the cell that it takes from the wave
+abbrev turn : tie.After-index-of Inv-loop μ-loop → tie.In-loop Inv-loop μ-loop
+turn c = c .before .before
 
-cell-in : (c : tie.After-cell Inv-loop μ-loop) → getD (c .before .before .before .before .args .wave .now) (c .before .before .loop .i) 0 < 100
-cell-in c = c .before .before .before .before .pre .0 .cells-in (c .before .before .loop .i) (c .before .loop-test .taken)
+cell-in : (c : tie.After-index-of Inv-loop μ-loop) → c .index-of .result < 100
+cell-in c =
+    let t = turn c in
+    let h = t .before .before .before .pre .0 .cells-in (t .before .loop .i) (t .loop-test .taken) in
+    omega (arith, c .index-of .ensures)
 
 mul-low-bits : tie.Need-mul-low-bits Inv-loop μ-loop
 mul-low-bits c = let h = cell-in c in omega arith
@@ -39,12 +44,9 @@ mul-low-bits c = let h = cell-in c in omega arith
 element-copy-out-low-bits : tie.Need-element-copy-out-low-bits Inv-loop μ-loop
 element-copy-out-low-bits c = cell-in c
 
-low-bits-requires : tie.Need-low-bits-requires Inv-loop μ-loop
-low-bits-requires c κs = search needs
-
 offer-around-requires : tie.Need-offer-around-requires Inv-loop μ-loop
 offer-around-requires c κs =
-    let s = c .before .before .before .before .before .before .before in
+    let s = turn (c .before .before .before) .before .before .before in
     (omega (arith, c .before .low-bits .ensures), s .pre .1)
 
 add-i : tie.Need-add-i Inv-loop μ-loop
@@ -55,16 +57,20 @@ loop-less c = search needs
 
 loop-again : tie.Need-loop-again Inv-loop μ-loop
 loop-again c =
-    let turn = c .before .before .before .before .before in
-    let l = turn .before .loop in
-    let s = turn .before .before .before in
+    let found = c .before .before .before .before in
+    let t = turn found in
+    let l = t .before .loop in
+    let s = t .before .before .before in
     let a = s .args in
     let room : a .count ≤ length (a .wave .now) = omega (arith, s .pre .0 .count-in, s .pre .0 .full) in
-    let cell = getD (a .wave .now) (l .i) 0 in (
+    let cell = found .index-of .result in
+    let rest : List ℕ → List ℕ = offeredBy (a .costs .now) (a .before .now) (slice (l .i + 1) (a .count) (a .wave .now)) in
+    let from : ℕ → List ℕ = λ n. offeredAround (a .costs .now) (low (getD (a .before .now) n 0)) (cellAt n) orthogonal (l .cells) in (
       search needs,
       l .inv .1
-          ∙ wave-step (a .costs .now) (a .before .now) (a .wave .now) (a .count) (l .i) (l .cells) (turn .loop-test .taken) room
-          ∙ sym (ap (λ (x : List ℕ). offeredBy (a .costs .now) (a .before .now) (slice (l .i + 1) (a .count) (a .wave .now)) x)
+          ∙ wave-step (a .costs .now) (a .before .now) (a .wave .now) (a .count) (l .i) (l .cells) (t .loop-test .taken) room
+          ∙ ap (λ (n : ℕ). rest (from n)) (sym (found .index-of .ensures))
+          ∙ sym (ap rest
           (c .offer-around .ensures ∙ ap (λ (v : ℕ). offeredAround (a .costs .now) v (cellAt cell) orthogonal (l .cells)) (c .before .before .low-bits .ensures))),
     )
 
@@ -78,19 +84,9 @@ returns c =
     ∙ wave-end (a .costs .now) (a .before .now) (a .wave .now) (a .count) (l .cells))
 
 pub offer-wave-spec : {M : Type 1} → statement M
-offer-wave-spec =
-    tie.close
-    (tie.spec
-    Inv-loop
-    μ-loop
-    loop-holds
-    mul-cell
-    element-copy-out-cell
-    mul-low-bits
-    element-copy-out-low-bits
-    low-bits-requires
-    offer-around-requires
-    add-i
-    loop-less
-    loop-again
-    returns)
+offer-wave-spec = tie.close (tie.spec
+    Inv-loop μ-loop loop-holds element-copy-out-index-of
+    (λ c κs. search needs)
+    mul-low-bits element-copy-out-low-bits
+    (λ c κs. search needs)
+    offer-around-requires add-i loop-less loop-again returns)

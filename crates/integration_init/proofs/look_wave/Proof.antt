@@ -2,13 +2,14 @@
 -- Assumes nothing.
 use mathlib.Core.Path.{_≡_, refl, sym, ap, _∙_}
 use mathlib.Core.List.{[]}
-use Prim.Native.Nat.{ℕ, _+_, _-_, _≤_}
+use Prim.Native.Nat.{ℕ, _+_, _-_, _<_, _≤_}
 use native.Mathlib.Omega.{arith}
 use borrow.Author.Needs.{needs}
 use denote.Ref.{now}
 use lib.ListN.{length, take}
 use lib.Seq.{slice}
-use Rattle.started_field.specs.Sight.{Sight, waveLooked}
+use Rattle.utilities.specs.Compass.{orthogonal}
+use Rattle.started_field.specs.Sight.{Sight, lookedAround, waveLooked}
 use Rattle.started_field.specs.CornerLine.{cornerLine}
 use Rattle.integration_init.specs.Held.{sightOf, ReadyAll}
 use Rattle.integration_init.proofs.Held.{held-all, all-ready}
@@ -31,19 +32,32 @@ loop-holds c = let a = c .args in
     (search needs, (record { room = c .pre .0 .room; held = c .pre .0 .held; full = c .pre .1 .1 .0; queue-held = refl; queued-held = refl }, refl))
 
 look-around-requires : tie.Need-look-around-requires Inv-loop μ-loop
-look-around-requires c κs = let s = c .before .before .before .before .before .before in
-    (c .before .before .before .before .before .loop .inv .1 .0, record { wave-in = s .pre .1 .1 .1 .0; goal-in = s .pre .1 .1 .1 .1; from-in = s .pre .1 .0 .cells-in (c .before .before .before .before .before .loop .i) (c .before .before .before .before .loop-test .taken) })
+look-around-requires c κs =
+    let told = c .before .before .before in
+    let turn = told .before .before in
+    let l = turn .before .loop in
+    let s = turn .before .before in
+    let from-in : told .index-of .result < 100 = omega (arith, told .index-of .ensures, s .pre .1 .0 .cells-in (l .i) (turn .loop-test .taken)) in
+    (l .inv .1 .0, record { wave-in = s .pre .1 .1 .1 .0; goal-in = s .pre .1 .1 .1 .1; from-in = from-in })
 
 loop-again : tie.Need-loop-again Inv-loop μ-loop
-loop-again c = let s = c .before .before .before .before .before .before .before in let a = s .args in let l = c .before .before .before .before .before .before .loop in
+loop-again c =
+    let told = c .before .before .before .before in
+    let turn = told .before .before in
+    let l = turn .before .loop in
+    let s = turn .before .before in
+    let a = s .args in
+    let line = cornerLine (a .goal) in
     let long : a .size ≤ length (now (a .wavefront)) = omega (arith, s .pre .1 .0 .full, s .pre .1 .0 .count-in) in
-    let s : Sight = sightOf (l .cells) (l .corners) (l .counts .corners) (take (l .counts .queued) (l .next)) in (
+    let held : Sight = sightOf (l .cells) (l .corners) (l .counts .corners) (take (l .counts .queued) (l .next)) in
+    let rest : Sight → Sight = waveLooked line (a .wavefront-cost) (slice (l .i + 1) (a .size) (now (a .wavefront))) in (
       search needs,
       (
         all-ready (c .look-around .ensures),
         l .inv .1 .1
-            ∙ wave-step (cornerLine (a .goal)) (a .wavefront-cost) (now (a .wavefront)) (a .size) (l .i) s (c .before .before .before .before .before .loop-test .taken) long
-            ∙ ap (waveLooked (cornerLine (a .goal)) (a .wavefront-cost) (slice (l .i + 1) (a .size) (now (a .wavefront)))) (sym (held-all (c .look-around .ensures))),
+            ∙ wave-step line (a .wavefront-cost) (now (a .wavefront)) (a .size) (l .i) held (turn .loop-test .taken) long
+            ∙ ap (λ (n : ℕ). rest (lookedAround line (a .wavefront-cost) n orthogonal held)) (sym (told .index-of .ensures))
+            ∙ ap rest (sym (held-all (c .look-around .ensures))),
       ),
     )
 
@@ -58,7 +72,7 @@ returns c = let a = c .before .before .args in let l = c .before .loop in
 pub look-wave-spec : {M : Type 1} → statement M
 look-wave-spec = tie.close (tie.spec
     Inv-loop μ-loop loop-holds
-    (λ c. search needs) (λ c. search needs)
+    (λ c. search needs) (λ c κs. search needs)
     look-around-requires
     (λ c. search needs) (λ c. search needs)
     loop-again returns)

@@ -6,10 +6,10 @@ use Rattle.records.proofs.field_of.Statement.{statement}
 use Rattle.records.proofs.field_of.Tie as tie
 
 abbrev Inv-loop : tie.InvT-loop
-Inv-loop bytes field₀ los-corners₀ i₀ field los-corners i = (i ≤ 100) × (length field ≡ 100)
+Inv-loop bytes field₀ positions₀ los-corners₀ i₀ field positions los-corners i = (i ≤ 100) × (length field ≡ 100)
 
 abbrev μ-loop : tie.MeasureT-loop
-μ-loop bytes field₀ los-corners₀ i₀ field los-corners i = 100 - i
+μ-loop bytes field₀ positions₀ los-corners₀ i₀ field positions los-corners i = 100 - i
 
 loop-holds : tie.Need-loop-holds Inv-loop μ-loop
 loop-holds c = (omega arith, refl)
@@ -25,6 +25,15 @@ mul-field c = omega arith
 
 array-write-field : tie.Need-array-write-field Inv-loop μ-loop
 array-write-field c = omega arith
+
+add-byte-at : tie.Need-add-byte-at Inv-loop μ-loop
+add-byte-at c = omega arith
+
+byte-at-requires : tie.Need-byte-at-requires Inv-loop μ-loop
+byte-at-requires c κs = omega arith
+
+array-write-positions : tie.Need-array-write-positions Inv-loop μ-loop
+array-write-positions c = omega arith
 
 add-size-at : tie.Need-add-size-at Inv-loop μ-loop
 add-size-at c = omega arith
@@ -45,7 +54,7 @@ loop-less : tie.Need-loop-less Inv-loop μ-loop
 loop-less c = omega arith
 
 loop-again : tie.Need-loop-again Inv-loop μ-loop
-loop-again c = (omega arith, simp length-set (c .before .before .before .loop .inv .1))
+loop-again c = (omega arith, simp length-set (c .before .before .before .before .loop .inv .1))
 
 size-at-requires-2 : tie.Need-size-at-requires-2 Inv-loop μ-loop
 size-at-requires-2 c κs = omega arith
@@ -64,6 +73,9 @@ field-of-spec =
     word-at-requires
     mul-field
     array-write-field
+    add-byte-at
+    byte-at-requires
+    array-write-positions
     add-size-at
     size-at-requires
     mul-los-corners

@@ -8,10 +8,10 @@ use Rattle.records.proofs.same_field.Statement.{statement}
 use Rattle.records.proofs.same_field.Tie as tie
 
 abbrev Inv-loop : tie.InvT-loop
-Inv-loop bytes count los-corners cells i₀ i = (i ≤ 100) × SameFirst i los-corners cells bytes
+Inv-loop bytes count positions los-corners cells i₀ i = (i ≤ 100) × SameFirst i positions los-corners cells bytes
 
 abbrev μ-loop : tie.MeasureT-loop
-μ-loop bytes count los-corners cells i₀ i = 100 - i
+μ-loop bytes count positions los-corners cells i₀ i = 100 - i
 
 size-at-requires : tie.Need-size-at-requires Inv-loop μ-loop
 size-at-requires c κs = omega arith
@@ -22,17 +22,14 @@ returns c = λ e. absurd (true≢false (sym e))
 loop-holds : tie.Need-loop-holds Inv-loop μ-loop
 loop-holds c = (omega arith, below-none _)
 
-mul-if2 : tie.Need-mul-if2 Inv-loop μ-loop
-mul-if2 c = omega arith
-
 array-read-if2 : tie.Need-array-read-if2 Inv-loop μ-loop
 array-read-if2 c = omega arith
 
-add-size-at : tie.Need-add-size-at Inv-loop μ-loop
-add-size-at c = omega arith
+add-byte-at : tie.Need-add-byte-at Inv-loop μ-loop
+add-byte-at c = omega arith
 
-size-at-requires-2 : tie.Need-size-at-requires-2 Inv-loop μ-loop
-size-at-requires-2 c κs = omega arith
+byte-at-requires : tie.Need-byte-at-requires Inv-loop μ-loop
+byte-at-requires c κs = omega arith
 
 returns-2 : tie.Need-returns-2 Inv-loop μ-loop
 returns-2 c = λ e. absurd (true≢false (sym e))
@@ -43,6 +40,21 @@ mul-if3 c = omega arith
 array-read-if3 : tie.Need-array-read-if3 Inv-loop μ-loop
 array-read-if3 c = omega arith
 
+add-size-at : tie.Need-add-size-at Inv-loop μ-loop
+add-size-at c = omega arith
+
+size-at-requires-2 : tie.Need-size-at-requires-2 Inv-loop μ-loop
+size-at-requires-2 c κs = omega arith
+
+returns-3 : tie.Need-returns-3 Inv-loop μ-loop
+returns-3 c = λ e. absurd (true≢false (sym e))
+
+mul-if4 : tie.Need-mul-if4 Inv-loop μ-loop
+mul-if4 c = omega arith
+
+array-read-if4 : tie.Need-array-read-if4 Inv-loop μ-loop
+array-read-if4 c = omega arith
+
 mul-word-at : tie.Need-mul-word-at Inv-loop μ-loop
 mul-word-at c = omega arith
 
@@ -52,8 +64,8 @@ add-word-at c = omega arith
 word-at-requires : tie.Need-word-at-requires Inv-loop μ-loop
 word-at-requires c κs = omega arith
 
-returns-3 : tie.Need-returns-3 Inv-loop μ-loop
-returns-3 c = λ e. absurd (true≢false (sym e))
+returns-4 : tie.Need-returns-4 Inv-loop μ-loop
+returns-4 c = λ e. absurd (true≢false (sym e))
 
 add-i : tie.Need-add-i Inv-loop μ-loop
 add-i c = omega arith
@@ -62,12 +74,21 @@ loop-less : tie.Need-loop-less Inv-loop μ-loop
 loop-less c = omega arith
 
 loop-again : tie.Need-loop-again Inv-loop μ-loop
-loop-again c = let l = c .before .before .before .before .before .loop in
-    (omega arith, below-more _ (l .i) (l .inv .1) (omega (arith, c .before .before .before .size-at2 .ensures .0), omega (arith, c .before .word-at .ensures)))
+loop-again c =
+    let word = c .before in
+    let corner = word .before .before in
+    let position = corner .before .before in
+    let l = position .before .before .loop in (
+      omega arith,
+      below-more _ (l .i) (l .inv .1)
+          (omega (arith, position .byte-at .ensures), (omega (arith, corner .size-at2 .ensures .0), omega (arith, word .word-at .ensures))),
+    )
 
-returns-4 : tie.Need-returns-4 Inv-loop μ-loop
-returns-4 c = let k : c .before .loop .i ≡ 100 = omega arith in
-    λ e. (c .before .before .before .before .if1 .left ∙ c .before .before .before .before .before .size-at .ensures .0, rw k at (c .before .loop .inv .1))
+returns-5 : tie.Need-returns-5 Inv-loop μ-loop
+returns-5 c =
+    let counted = c .before .before .before .before .before in
+    let k : c .before .loop .i ≡ 100 = omega arith in
+    λ e. (counted .if1 .left ∙ counted .before .size-at .ensures .0, rw k at (c .before .loop .inv .1))
 
 pub same-field-spec : {M : Type 1} → statement M
 same-field-spec =
@@ -78,18 +99,22 @@ same-field-spec =
     size-at-requires
     returns
     loop-holds
-    mul-if2
     array-read-if2
-    add-size-at
-    size-at-requires-2
+    add-byte-at
+    byte-at-requires
     returns-2
     mul-if3
     array-read-if3
+    add-size-at
+    size-at-requires-2
+    returns-3
+    mul-if4
+    array-read-if4
     mul-word-at
     add-word-at
     word-at-requires
-    returns-3
+    returns-4
     add-i
     loop-less
     loop-again
-    returns-4)
+    returns-5)

@@ -8,7 +8,7 @@ use lib.ListN.{getD}
 use Rattle.integration_field.specs.Word.{isPortal}
 use Rattle.flow_byte.specs.New.{isIn}
 use Rattle.cost_bounds.specs.Bounds.{isSure}
-use Rattle.sure_cells.proofs.Loops.{FilledTo, filled-more, filled-all}
+use Rattle.utilities.proofs.Lists.{FilledTo, filled-more, filled-all}
 use Rattle.sure_cells.proofs.sure_cells.Statement.{statement}
 use Rattle.sure_cells.proofs.sure_cells.Tie as tie
 

@@ -16,6 +16,8 @@ use native.Mathlib.Omega.{arith}
 use native.Mathlib.Decide.{ℕ-discrete, decLt}
 use lib.ListN.{length, getD, set, length-set, length-append, List·getD-append}
 use lib.Seq.{getD-set-same, getD-set-other, getD-append-seam}
+use mir.Val.{boolByte}
+use Rattle.utilities.specs.Count.{bit, count}
 
 -- each entry of a list
 abbrev pub Each : (ℕ → Type 0) → List ℕ → Type 0
@@ -25,17 +27,9 @@ Each Q l = (i : ℕ) → i < length l → Q (getD l i 0)
 abbrev pub Once : List ℕ → Type 0
 Once l = (i j : ℕ) → i < j → j < length l → getD l i 0 ≡ getD l j 0 → ⊥
 
-abbrev pub bit : Bool → ℕ
-bit true = 1
-bit false = 0
-
 pub bit-small : (b : Bool) → bit b ≤ 1
 bit-small true = omega arith
 bit-small false = omega arith
-
-unfoldable pub count : (ℕ → Bool) → List ℕ → ℕ
-count f [] = 0
-count f (x ∷ xs) = bit (f x) + count f xs
 
 module _ (f : ℕ → Bool) where
   pub count-set : (l : List ℕ) (n v : ℕ) → n < length l → count f (set l n v) + bit (f (getD l n 0)) ≡ count f l + bit (f v)
@@ -109,3 +103,8 @@ at-set Q l n v m h same other =
       | yes p ↦ subst Q (sym (ap (λ (k : ℕ). getD (set l n v) k 0) p ∙ getD-set-same l n v 0 h)) (same p)
       | no p ↦ subst Q (sym (getD-set-other l n m v 0 p)) (other p)
     ]
+
+-- a test as a number
+pub bit-few : (b : Bool) → boolByte b ≤ 1
+bit-few true = omega arith
+bit-few false = omega arith

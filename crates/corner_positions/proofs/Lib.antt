@@ -1,0 +1,5 @@
+pub mod Examples
+pub mod Room
+pub mod Spreading
+pub mod Starting
+pub mod Labels
