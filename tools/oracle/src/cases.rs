@@ -164,6 +164,7 @@ impl Case {
             paste(&mut text, "field", &self.field.field, |x| format!("{x:#x}"));
             let listed = &self.field.los_corners[..self.field.count.min(CELLS)];
             let _ = writeln!(text, "let los_corners = {listed:?}; // count {}", self.field.count);
+            paste(&mut text, "positions", &self.field.positions, |x| format!("{x}"));
         }
         if self.previous_lent || !self.previous.is_empty() {
             let _ = writeln!(text, "let has_previous = {};", self.previous_lent);
@@ -219,6 +220,7 @@ impl Outcome {
         differ(&mut found, "field", &self.field.field.map(Hex), &other.field.field.map(Hex));
         differ(&mut found, "corner count", &[self.field.count], &[other.field.count]);
         differ(&mut found, "los_corners", &self.field.los_corners, &other.field.los_corners);
+        differ(&mut found, "position", &self.field.positions, &other.field.positions);
         differ(&mut found, "waves", &[self.waves], &[other.waves]);
         differ(&mut found, "part", &self.part, &other.part);
         let [ours, theirs] = [self, other].map(|outcome| outcome.practice.as_ref());

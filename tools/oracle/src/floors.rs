@@ -308,6 +308,15 @@ pub fn leg_with_a_gap() -> (Vec<u8>, Vec<u8>) {
     (floor, [goal_step(0, 44), window_step(1, 3, 0, 9)].concat())
 }
 
+/// A floor and a step to a window of two cells, 93 and 94, on which the waves come to cell 64 first from 94, and one wave
+/// later from 93, at the same cost. So cells 64 and 65 are walked to from both, and 93 is listed first.
+pub fn two_ways() -> (Costs, Step) {
+    let mut costs = uniform(255);
+    let floor = [(93, 1), (94, 1), (83, 1), (84, 3), (73, 3), (74, 3), (63, 2), (64, 2), (65, 2)];
+    floor.into_iter().for_each(|(cell, cost): (usize, u8)| costs[cell] = cost);
+    (costs, window_step(0, 2, 3, 4))
+}
+
 /// A floor of 64 sectors.
 pub fn any_whole_floor(rng: &mut Rng) -> Vec<u8> {
     (0..64).flat_map(|_| any(rng)).collect()
@@ -347,7 +356,18 @@ pub fn any_field(rng: &mut Rng) -> IntegrationField {
         let beyond = [0, 1, 99, 100, 1 << 40];
         field.los_corners[field.count..].iter_mut().for_each(|place| *place = rng.pick(&beyond));
     }
-    field
+    // Drawn aside, so that what is drawn after a field is what it was.
+    field.with_positions(any_positions(&mut rng.clone()))
+}
+
+/// Positions of a field that is given, which no call reads.
+pub fn any_positions(rng: &mut Rng) -> [u8; CELLS] {
+    match rng.below(4) {
+        0 => [0; CELLS],
+        1 => [NO_POSITION; CELLS],
+        2 => std::array::from_fn(|_| rng.below(CELLS) as u8),
+        _ => std::array::from_fn(|_| rng.draw() as u8),
+    }
 }
 
 /// Old bytes of a sheet.

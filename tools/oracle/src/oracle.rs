@@ -3,7 +3,8 @@
 //! model answers. What diagonals decide, `init`, `build` of a flow field, the sector call and a leg, is the Rust's altered in
 //! these tests alone (02, Job 7); what did not move is the published Rust's. A step whose goal or some window cell is of
 //! cost 255 (02, Job 3) is the table's, and the Rust, which takes it, is not asked. Wave counts come from the counted copy,
-//! whose fields are asserted equal to those of the copy that decides. Each judge is noted where it is asked.
+//! whose fields are asserted equal to those of the copy that decides. Positions (02, Job 10), which the Rust does not have,
+//! are the model's, over the cells that the Rust built. Each judge is noted where it is asked.
 
 use crate::copies::{altered, counted_build, published};
 use crate::judges::{Judge, aside, decides};
@@ -16,9 +17,10 @@ pub struct Oracle;
 /// The judges of a call that the table takes.
 pub fn judges(call: Call) -> &'static [Judge] {
     match call {
-        Call::Init | Call::FlowBuild => &[Judge::Altered],
-        Call::Build => &[Judge::Published, Judge::Counted],
-        Call::Sector => &[Judge::Altered, Judge::Counted],
+        Call::FlowBuild => &[Judge::Altered],
+        Call::Init => &[Judge::Altered, Judge::Model],
+        Call::Build => &[Judge::Published, Judge::Counted, Judge::Model],
+        Call::Sector => &[Judge::Altered, Judge::Counted, Judge::Model],
         Call::Leg => &[Judge::Altered, Judge::Model],
         Call::LegFileWrite | Call::LegFileRead | Call::PracticeFloor | Call::Bounds => &[Judge::Model],
         _ => &[Judge::Published],
@@ -57,6 +59,12 @@ pub fn rust_started(costs: &[u8], step: &[u8]) -> IntegrationField {
 /// The same, built.
 pub fn rust_built(costs: &[u8], step: &[u8]) -> IntegrationField {
     altered::built(costs, &altered::started(costs, step))
+}
+
+/// What a copy of the Rust started or built, with the positions, which the Rust does not have and the model decides.
+fn positioned(field: IntegrationField, positions: [u8; CELLS]) -> IntegrationField {
+    decides(Judge::Model);
+    field.with_positions(positions)
 }
 
 /// The waves of a field, of which a copy of the Rust made these cells.
@@ -150,7 +158,7 @@ impl Subject for Oracle {
             return refused::init(number);
         }
         decides(Judge::Altered);
-        InitAnswer { number, field: altered::started(costs, step) }
+        InitAnswer { number, field: positioned(altered::started(costs, step), Model::PLAIN.started_positions()) }
     }
 
     fn build(&self, costs: &[u8], field: IntegrationField) -> BuildAnswer {
@@ -162,7 +170,9 @@ impl Subject for Oracle {
         decides(Judge::Published);
         let built = published::built(costs, &field);
         decides(Judge::Counted);
-        BuildAnswer { number, field: built, waves: waves_of(costs, &field, &built.field) }
+        let waves = waves_of(costs, &field, &built.field);
+        let positions = Model::PLAIN.positions(costs, &field, &built.field);
+        BuildAnswer { number, field: positioned(built, positions), waves }
     }
 
     fn flow_new(&self, step: &[u8], field: IntegrationField, previous: Previous, sheet: &mut [u8]) -> u8 {
@@ -200,7 +210,10 @@ impl Subject for Oracle {
         let (field, bytes) = altered::planned(costs, step, lent(previous));
         decides(Judge::Counted);
         sheet.copy_from_slice(&bytes);
-        BuildAnswer { number, field, waves: waves_of(costs, &altered::started(costs, step), &field.field) }
+        let started = altered::started(costs, step);
+        let waves = waves_of(costs, &started, &field.field);
+        let positions = Model::PLAIN.positions(costs, &started, &field.field);
+        BuildAnswer { number, field: positioned(field, positions), waves }
     }
 
     fn leg(&self, floor: &[u8], steps: &[u8], sheet: &mut [u8]) -> u8 {

@@ -7,12 +7,12 @@
 //! | line | 16 | source column, source row, target column, target row | number, count, 10 cell indexes |
 //! | line_end | 8 | corner column, corner row, goal column, goal row | number, column, row, 0 |
 //! | readers | 8 | byte | is_pathable, is_goal, is_portal_goal, has_line_of_sight, is_wall, direction, 0 |
-//! | init.altered | 610 | 100 costs, 8 step | number, count, 100 corners, 100 cells of 32 bits |
-//! | build | 1104 | 100 costs, 100 cells of 32 bits, count, 100 corners | number, waves, count, 100 corners, 100 cells of 32 bits |
+//! | init.altered | 710 | 100 costs, 8 step | number, count, 100 positions, 100 corners, 100 cells of 32 bits |
+//! | build | 1304 | 100 costs, 100 cells of 32 bits, count, 100 positions, 100 corners | number, waves, count, 100 positions, 100 corners, 100 cells of 32 bits |
 //! | flow_new | 910 | 8 step, 100 cells of 32 bits, has_previous, 100 previous of 32 bits | number, 100 sheet |
 //! | flow_build.altered | 601 | 100 cells of 32 bits, 100 sheet | number, 100 sheet |
-//! | sector.altered | 1112 | 100 costs, 8 step, has_previous, 100 previous of 32 bits | number, waves, count, 100 corners, 100 cells of 32 bits, 100 sheet |
-//! | init.table, sector.table | 610, 1112 | as init.altered and sector.altered | the same |
+//! | sector.altered | 1212 | 100 costs, 8 step, has_previous, 100 previous of 32 bits | number, waves, count, 100 positions, 100 corners, 100 cells of 32 bits, 100 sheet |
+//! | init.table, sector.table | 710, 1212 | as init.altered and sector.altered | the same |
 //! | leg.altered, leg.model, leg.table | 3330 | step count, 128 steps, 16 times 100 costs | number, 16 times 100 sheet |
 //! | refusals.table | 160 | see below | number, 2 zeros |
 //! | leg_file_write.model | 314 | list length, buffer length, buffer's byte, list in 150 places | number, buffer in 160 places |
@@ -24,7 +24,7 @@
 //! A file whose name has no dot holds answers of the published Rust. Behind a dot stands the judge of a file that has
 //! another: `altered`, the Rust altered in one rule (document 02, Job 7: a diagonal is barred if either cell beside it is a
 //! wall); `table`, the reading of the documents' table of refusals; or `model`, the model of the documents. Wave counts are
-//! those of the counted copy.
+//! those of the counted copy, and positions (document 02, Job 10), which the Rust does not have, those of the model.
 //!
 //! flow_new, flow_build.altered, sector.altered, sector.table: the flow calls do not look at a field's list, so none is
 //! recorded (count 0). The sheet lent to `flow_new` and to the sector call holds 0x55 in every byte, and still does where
@@ -83,12 +83,13 @@ impl Section {
     /// Who decided what is expected, by the name.
     pub fn judges(&self) -> &'static [Judge] {
         match self.name.split_once('.') {
-            Some(("sector", "altered")) => &[Judge::Altered, Judge::Counted],
+            Some(("init", "altered")) => &[Judge::Altered, Judge::Model],
+            Some(("sector", "altered")) => &[Judge::Altered, Judge::Counted, Judge::Model],
             Some((_, "altered")) => &[Judge::Altered],
             Some((_, "table")) => &[Judge::Table],
             Some((_, "model")) => &[Judge::Model],
             Some((_, other)) => panic!("{}: there is no judge `{other}`", self.name),
-            None if self.name == "build" => &[Judge::Published, Judge::Counted],
+            None if self.name == "build" => &[Judge::Published, Judge::Counted, Judge::Model],
             None => &[Judge::Published],
         }
     }
@@ -108,13 +109,13 @@ pub fn sections() -> Vec<Section> {
         Section { name: "line", length: 16, records: lines() },
         Section { name: "line_end", length: 8, records: line_ends() },
         Section { name: "readers", length: 8, records: readers() },
-        Section { name: "init.altered", length: 610, records: inits(rng(), all_open) },
-        Section { name: "init.table", length: 610, records: inits(rng(), inputs_on_walls) },
-        Section { name: "build", length: 1104, records: builds(rng()) },
+        Section { name: "init.altered", length: 710, records: inits(rng(), all_open) },
+        Section { name: "init.table", length: 710, records: inits(rng(), inputs_on_walls) },
+        Section { name: "build", length: 1304, records: builds(rng()) },
         Section { name: "flow_new", length: 910, records: flows_new(rng()) },
         Section { name: "flow_build.altered", length: 601, records: flows_build(rng()) },
-        Section { name: "sector.altered", length: 1112, records: sectors(rng()) },
-        Section { name: "sector.table", length: 1112, records: refused_sectors(rng()) },
+        Section { name: "sector.altered", length: 1212, records: sectors(rng()) },
+        Section { name: "sector.table", length: 1212, records: refused_sectors(rng()) },
         Section { name: "leg.altered", length: 3330, records: legs(rng(), Judge::Altered) },
         Section { name: "leg.model", length: 3330, records: legs(rng(), Judge::Model) },
         Section { name: "leg.table", length: 3330, records: legs(rng(), Judge::Table) },
@@ -132,9 +133,10 @@ fn wide(values: &[u32]) -> impl Iterator<Item = u8> {
     values.iter().flat_map(|value| value.to_le_bytes())
 }
 
-/// Count, then 100 corners of a byte each.
+/// Count, then 100 positions, then 100 corners of a byte each.
 fn list(field: &IntegrationField) -> impl Iterator<Item = u8> {
-    std::iter::once(field.count as u8).chain(field.los_corners.iter().map(|corner| *corner as u8))
+    let corners = field.los_corners.iter().map(|corner| *corner as u8);
+    std::iter::once(field.count as u8).chain(field.positions).chain(corners)
 }
 
 /// Every seventh pair of cells: seven and a hundred share no factor, so all rows and columns meet.
@@ -283,14 +285,21 @@ fn build(costs: Costs, field: IntegrationField) -> Vec<u8> {
 /// A list whose places beyond the count hold 0, each at most 99.
 fn by_hand(rng: &mut Rng) -> IntegrationField {
     let field = floors::any_field(rng);
-    IntegrationField::new(field.field, field.corners())
+    IntegrationField::new(field.field, field.corners()).with_positions(field.positions)
 }
 
-/// Fields that the Rust starts, then others given by hand.
+/// Fields that the Rust starts, then others given by hand, then the floor on which positions carried along the waves are
+/// wrong, and fields that meet each kind of position.
 fn builds(mut rng: Rng) -> Vec<Vec<u8>> {
     let started = inputs(&mut rng).into_iter().skip(1).step_by(4);
     let mut records: Vec<Vec<u8>> = started.map(|(costs, step)| build(costs, rust_started(&costs, &step))).collect();
     records.extend((0..20).map(|_| build(floors::any(&mut rng), by_hand(&mut rng))));
+    let (costs, step) = floors::two_ways();
+    records.push(build(costs, rust_started(&costs, &step)));
+    for kind in groups::position_kinds() {
+        let (costs, field) = groups::field_that_meets(&mut rng, kind);
+        records.push(build(costs, field));
+    }
     records
 }
 
@@ -375,10 +384,12 @@ fn sector(costs: Costs, step: Step, (lent, numbers): (bool, Vec<u32>)) -> Vec<u8
     record
 }
 
-/// Goal 99 and sector 63, then a part of the floors, and those with one wall.
+/// Goal 99 and sector 63, then a part of the floors, those with one wall, and that on which positions carried along the waves
+/// are wrong.
 fn some_open(rng: &mut Rng) -> Vec<(Costs, Step)> {
     let edges = [(floors::one_wall(44), floors::goal_step(0, 99)), (floors::uniform(1), floors::goal_step(63, 44))];
-    edges.into_iter().chain(open_inputs(rng).into_iter().step_by(3)).chain(past_one_wall()).collect()
+    let drawn = open_inputs(rng).into_iter().step_by(3);
+    edges.into_iter().chain(drawn).chain(past_one_wall()).chain([floors::two_ways()]).collect()
 }
 
 /// Goal 99 and sector 63 with a wall under the goal, then a part of the floors with walls there.

@@ -2,7 +2,7 @@
 //! the difference stays.
 
 use crate::cases::Case;
-use crate::subject::CELLS;
+use crate::subject::{CELLS, NO_POSITION};
 
 /// A change that makes an input simpler.
 #[derive(Clone, Copy)]
@@ -21,6 +21,8 @@ enum Change {
     CellLow(usize),
     CellFlags(usize),
     DropCorner(usize),
+    PositionsUnset,
+    PositionUnset(usize),
     NarrowFirst,
     NarrowLast,
     SeedBit(usize),
@@ -46,7 +48,7 @@ pub fn smallest(case: &Case, differs: &dyn Fn(&Case) -> bool) -> Case {
 
 /// Every change that a case may take, the boldest first.
 fn changes(case: &Case) -> Vec<Change> {
-    let mut list = vec![Change::DropStep, Change::NoPrevious, Change::SheetZero];
+    let mut list = vec![Change::DropStep, Change::NoPrevious, Change::SheetZero, Change::PositionsUnset];
     list.extend([Change::NarrowFirst, Change::NarrowLast]);
     list.extend([0, 1, 3, 4, 5].map(Change::StepByteZero));
     list.extend((0..32).rev().map(Change::SeedBit));
@@ -54,6 +56,7 @@ fn changes(case: &Case) -> Vec<Change> {
     list.extend((0..case.field.count.min(CELLS)).rev().map(Change::DropCorner));
     list.extend((0..CELLS).flat_map(|i| [Change::CellTo(i, 65535), Change::CellTo(i, 0)]));
     list.extend((0..CELLS).flat_map(|i| [Change::CellLow(i), Change::CellFlags(i)]));
+    list.extend((0..CELLS).map(Change::PositionUnset));
     list.extend((0..case.costs.len()).filter(|i| case.costs[*i] != 1).map(Change::CostOne));
     list.extend((0..case.high.len().min(case.costs.len())).flat_map(|i| [Change::BothOne(i), Change::HighAsLow(i)]));
     list.extend((0..case.previous.len()).map(Change::PreviousZero));
@@ -94,6 +97,8 @@ fn apply(change: Change, case: &mut Case) {
         Change::CellTo(i, 65535) if is_field => case.field.field[i] = 65535,
         Change::CellTo(i, value) if is_field && case.field.field[i] != 65535 => case.field.field[i] = value,
         Change::SeedBit(k) => case.seed &= !(1 << k),
+        Change::PositionsUnset if is_field => case.field.positions = [NO_POSITION; CELLS],
+        Change::PositionUnset(i) if is_field => case.field.positions[i] = NO_POSITION,
         Change::CellLow(i) => case.field.field[i] &= 0xffff,
         Change::CellFlags(i) if case.field.field[i] != 65535 => case.field.field[i] &= 0xffff_0000,
         Change::DropCorner(k) if case.field.count <= CELLS && k < case.field.count => {

@@ -10,23 +10,36 @@ pub const PORTAL: u32 = 0x80000;
 pub const IMPASSABLE: u32 = 0x2000000;
 pub const CORNER: u32 = 0x4000000;
 
-/// An integration field: cells, corner list, count.
+/// What a cell holds that has no position.
+pub const NO_POSITION: u8 = 255;
+
+/// An integration field: cells, corner list, count, and for each cell a position in that list.
 #[repr(C)]
 #[derive(Clone, Copy, PartialEq, Eq, Debug)]
 pub struct IntegrationField {
     pub field: [u32; CELLS],
     pub los_corners: [usize; CELLS],
     pub count: usize,
+    pub positions: [u8; CELLS],
 }
 
-impl IntegrationField {
-    pub const ZERO: Self = IntegrationField { field: [0; CELLS], los_corners: [0; CELLS], count: 0 };
+// The size that the header tells.
+const _: () = assert!(size_of::<IntegrationField>() == 1312);
 
-    /// A field of these cells with these corners listed, at most 100.
+impl IntegrationField {
+    pub const ZERO: Self =
+        IntegrationField { field: [0; CELLS], los_corners: [0; CELLS], count: 0, positions: [0; CELLS] };
+
+    /// A field of these cells with these corners listed, at most 100, and no positions.
     pub fn new(field: [u32; CELLS], corners: &[usize]) -> Self {
         let mut los_corners = [0; CELLS];
         los_corners[..corners.len()].copy_from_slice(corners);
-        IntegrationField { field, los_corners, count: corners.len() }
+        IntegrationField { field, los_corners, count: corners.len(), positions: [NO_POSITION; CELLS] }
+    }
+
+    /// The same field with these positions.
+    pub fn with_positions(self, positions: [u8; CELLS]) -> Self {
+        IntegrationField { positions, ..self }
     }
 
     /// The listed corners of a field whose count is at most 100.

@@ -1,8 +1,9 @@
 //! A group is held to the judges that it names.
 
-use oracle::groups::{Clean, GROUPS, Group, Met, Place};
+use oracle::groups::{Clean, GROUPS, Group, Met, Place, position_kinds};
 use oracle::judges::Judge;
 use oracle::model::{CLOSED, Model};
+use oracle::subject::Call;
 
 fn names(name: &str) -> Vec<&'static str> {
     Group::named(name).judges().into_iter().map(Judge::name).collect()
@@ -11,12 +12,13 @@ fn names(name: &str) -> Vec<&'static str> {
 #[test]
 fn groups_name_their_judges() {
     assert_eq!(names("line"), ["published Rust"]);
-    assert_eq!(names("init"), ["altered Rust", "table of refusals"]);
-    assert_eq!(names("build started"), ["published Rust", "counted copy"]);
+    assert_eq!(names("init"), ["altered Rust", "table of refusals", "model"]);
+    assert_eq!(names("build started"), ["published Rust", "counted copy", "model"]);
+    assert_eq!(names("build, positions"), ["published Rust", "counted copy", "model"]);
     assert_eq!(names("flow new"), ["published Rust"]);
     assert_eq!(names("flow build"), ["altered Rust"]);
     assert_eq!(names("flow new and build"), ["published Rust", "altered Rust"]);
-    assert_eq!(names("sector"), ["altered Rust", "counted copy", "table of refusals"]);
+    assert_eq!(names("sector"), ["altered Rust", "counted copy", "table of refusals", "model"]);
     assert_eq!(names("leg"), ["altered Rust", "table of refusals", "model"]);
     assert_eq!(names("leg, gaps"), ["altered Rust", "model"]);
     assert_eq!(names("leg, on walls"), ["altered Rust", "table of refusals", "model"]);
@@ -26,7 +28,7 @@ fn groups_name_their_judges() {
     assert_eq!(names("bounds"), ["model"]);
     assert_eq!(names("bounds refusals"), ["table of refusals", "model"]);
     assert_eq!(names("leg refusals"), ["altered Rust", "table of refusals", "model"]);
-    assert_eq!(names("build refusals"), ["published Rust", "counted copy", "table of refusals"]);
+    assert_eq!(names("build refusals"), ["published Rust", "counted copy", "table of refusals", "model"]);
 }
 
 #[test]
@@ -35,13 +37,29 @@ fn the_judges_that_decide_are_those_that_are_named() {
     for group in GROUPS.iter().filter(|group| group.name.ends_with("refusals") || others.contains(&group.name)) {
         let clean = group.run(&Model::PLAIN, 5, 20_000).unwrap_or_else(|_| panic!("{} differs", group.name));
         assert_eq!(group.unmet(&clean), None);
-        // The table, one copy of the Rust or the model decides each input, and never two of them. 15 is the model's.
+        // The table, one copy of the Rust or the model decides each input, and never two of them, but for positions, which
+        // are the model's in every field that the Rust answers. 15 is the model's.
         let judged = |judge: Judge| clean.judged[judge as usize];
-        let apart = [Judge::Published, Judge::Altered, Judge::Table, Judge::Model];
-        assert_eq!(apart.map(judged).iter().sum::<usize>(), clean.inputs);
+        let apart = [Judge::Published, Judge::Altered, Judge::Table].map(judged).iter().sum::<usize>();
+        let fields = [Call::Init, Call::Build, Call::Sector].iter().any(|call| group.needs == [*call]);
+        let alone = if fields { 0 } else { judged(Judge::Model) };
+        assert_eq!(apart + alone, clean.inputs);
+        assert!(!fields || judged(Judge::Model) == clean.numbers[0]);
         let closed = clean.numbers[usize::from(CLOSED)];
         assert_eq!(judged(Judge::Table), clean.inputs - clean.numbers[0] - closed);
         assert!(judged(Judge::Model) >= closed);
+    }
+}
+
+#[test]
+fn fields_with_positions_must_meet_each_kind() {
+    let group = Group::named("build, positions");
+    let whole = group.run(&Model::PLAIN, 7, 8_000).unwrap_or_else(|_| panic!("the model differs from the Rust"));
+    assert_eq!(group.unmet(&whole), None);
+    for met in position_kinds() {
+        let mut clean = whole.clone();
+        clean.met.remove(&met);
+        assert!(group.unmet(&clean).expect("a fault").contains(&format!("did not meet `{met}` in")));
     }
 }
 

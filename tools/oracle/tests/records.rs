@@ -32,8 +32,11 @@ impl<'a> Reader<'a> {
         std::array::from_fn(|_| u32::from_le_bytes(self.bytes(4).try_into().expect("four bytes")))
     }
 
-    fn list(&mut self) -> (usize, [usize; CELLS]) {
-        (usize::from(self.byte()), std::array::from_fn(|_| usize::from(self.byte())))
+    /// Count, positions and corners.
+    fn list(&mut self) -> (usize, [u8; CELLS], [usize; CELLS]) {
+        let count = usize::from(self.byte());
+        let positions = self.bytes(100).try_into().expect("a hundred bytes");
+        (count, positions, std::array::from_fn(|_| usize::from(self.byte())))
     }
 
     fn cell(&mut self) -> FieldCell {
@@ -41,8 +44,11 @@ impl<'a> Reader<'a> {
     }
 }
 
-fn field(cells: [u32; CELLS], (count, los_corners): (usize, [usize; CELLS])) -> IntegrationField {
-    IntegrationField { field: cells, los_corners, count }
+fn field(
+    cells: [u32; CELLS],
+    (count, positions, los_corners): (usize, [u8; CELLS], [usize; CELLS]),
+) -> IntegrationField {
+    IntegrationField { field: cells, los_corners, count, positions }
 }
 
 fn alone(cells: [u32; CELLS]) -> IntegrationField {
@@ -68,6 +74,9 @@ fn each(name: &str, mut check: impl FnMut(&mut Reader)) {
 
 const MODEL: Model = Model::PLAIN;
 
+/// Whether a model answers what a record says.
+type Agrees = fn(&Model, &mut Reader) -> bool;
+
 /// A file that the published Rust does not decide says so in its name.
 #[test]
 fn a_file_with_another_judge_says_so_in_its_name() {
@@ -81,8 +90,12 @@ fn a_file_with_another_judge_says_so_in_its_name() {
     assert_eq!(by(Judge::Table), ["init.table", "sector.table", "leg.table", "refusals.table", "bounds.table"]);
     let files = ["leg_file_write.model", "leg_file_read.model"];
     let floors = ["practice.model", "practice_text.model", "bounds.model"];
-    assert_eq!(by(Judge::Model), [&["leg.model"], &files[..], &floors[..]].concat());
-    let named = |judge: Judge, end: &str| by(judge).iter().all(|name| name.ends_with(end));
+    // Of the first three, whose cells are the Rust's, the positions.
+    let positions = ["init.altered", "build", "sector.altered"];
+    assert_eq!(by(Judge::Model), [&positions[..], &["leg.model"], &files[..], &floors[..]].concat());
+    let named = |judge: Judge, end: &str| {
+        by(judge).iter().all(|name| name.ends_with(end) || (judge == Judge::Model && positions.contains(name)))
+    };
     assert!(named(Judge::Altered, ".altered") && named(Judge::Table, ".table") && named(Judge::Model, ".model"));
     assert!(!by(Judge::Published).iter().any(|name| name.contains('.')));
 }
@@ -128,12 +141,34 @@ fn starts_so(model: &Model, r: &mut Reader) -> (u8, bool) {
 fn fields() {
     each("init.altered", |r| assert_eq!(starts_so(&MODEL, r), (0, true)));
     each("init.table", |r| assert_eq!(starts_so(&MODEL, r), (ON_WALL, true)));
-    each("build", |r| {
-        let (costs, cells, list) = (r.bytes(100), r.cells(), r.list());
-        let answer = MODEL.build(costs, field(cells, list));
-        let (number, waves, list, cells) = (r.byte(), usize::from(r.byte()), r.list(), r.cells());
-        assert_eq!(answer, BuildAnswer { number, field: field(cells, list), waves });
-    });
+    each("build", |r| assert_eq!(builds_so(&MODEL, r), (0, true)));
+}
+
+/// The same of one of `build`.
+fn builds_so(model: &Model, r: &mut Reader) -> (u8, bool) {
+    let (costs, cells, list) = (r.bytes(100), r.cells(), r.list());
+    let answer = model.build(costs, field(cells, list));
+    let (number, waves, list, cells) = (r.byte(), usize::from(r.byte()), r.list(), r.cells());
+    (number, answer == BuildAnswer { number, field: field(cells, list), waves })
+}
+
+/// The model alone made the positions, so the records are also asked to tell them from each wrong one.
+#[test]
+fn positions_show_every_slip() {
+    let files: [(&str, Agrees); 4] = [
+        ("init.altered", |model, r| starts_so(model, r).1),
+        ("init.table", |model, r| starts_so(model, r).1),
+        ("build", |model, r| builds_so(model, r).1),
+        ("sector.altered", |model, r| plans_so(model, r).1),
+    ];
+    let mut slips = 0;
+    for (slip, text) in Slip::ALL.iter().filter(|(slip, _)| format!("{slip:?}").starts_with("Position")) {
+        assert!(files.iter().any(|(name, agrees)| shown(*slip, name, *agrees)), "not shown: {text}");
+        slips += 1;
+    }
+    assert_eq!(slips, 30);
+    let sector = |slip: Slip| shown(slip, "sector.altered", |model, r| plans_so(model, r).1);
+    assert!(sector(Slip::PositionsCarried) && sector(Slip::PositionsCarriedSmaller));
 }
 
 #[test]
@@ -318,7 +353,7 @@ fn leg_files() {
 }
 
 /// The records of a section that a model with a slip does not answer so.
-fn shown(slip: Slip, name: &str, agrees: fn(&Model, &mut Reader) -> bool) -> bool {
+fn shown(slip: Slip, name: &str, agrees: Agrees) -> bool {
     section(name).records.iter().any(|record| !agrees(&Model { slip }, &mut Reader(record)))
 }
 

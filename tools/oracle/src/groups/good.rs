@@ -75,7 +75,12 @@ fn started_case(costs: Costs, step: Step) -> Case {
 
 pub fn builds_started(rng: Rng, inputs: usize) -> Cases {
     let full = in_full().map(|(costs, step)| started_case(costs, step));
-    Box::new(full.chain(drawn(rng, inputs, |rng| started_case(floors::any(rng), floors::any_step(rng)))))
+    Box::new(full.chain(drawn(rng, inputs, |rng| {
+        let mut case = started_case(floors::any(rng), floors::any_step(rng));
+        // Positions that `init` did not leave are not read either.
+        case.field.positions = floors::any_positions(&mut rng.clone());
+        case
+    })))
 }
 
 pub fn builds_by_hand(rng: Rng, inputs: usize) -> Cases {

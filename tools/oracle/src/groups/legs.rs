@@ -73,6 +73,27 @@ pub enum Met {
     ClosedOff,
     /// A cost 0.
     CostZero,
+    /// A cell at whose built cost walks of two corners arrive.
+    EqualWalks,
+    /// A field in which positions carried along the waves are others.
+    CarriedOtherwise,
+    /// A position of two digits.
+    FarPosition,
+    /// A corner that building lowered.
+    LoweredCorner,
+    /// A corner that is listed twice and holds its place, and one of 65535 that does.
+    RepeatedCorner,
+    UnreachedCorner,
+    /// A cell whose position is that of a wall, of a cell in sight, of a goal.
+    FromWall,
+    FromSight,
+    FromGoal,
+    /// One whose walk passes a goal.
+    PastGoal,
+    /// A walk that comes to a cell at the cell's value before building, and is none of its walks.
+    ArrivesAtValue,
+    /// A cell, neither wall nor in sight nor goal, that no walk arrives in.
+    NoWalk,
 }
 
 /// Where a step has its wall.
@@ -117,6 +138,18 @@ impl fmt::Display for Met {
             Met::WindowBarred => write!(f, "not sure beside a window cell that walls bar"),
             Met::ClosedOff => write!(f, "a floor cell that nothing reaches"),
             Met::CostZero => write!(f, "a cost 0"),
+            Met::EqualWalks => write!(f, "equal walks of two corners"),
+            Met::CarriedOtherwise => write!(f, "other positions if carried along the waves"),
+            Met::FarPosition => write!(f, "a position of two digits"),
+            Met::LoweredCorner => write!(f, "a lowered corner"),
+            Met::RepeatedCorner => write!(f, "a repeated corner that stays"),
+            Met::UnreachedCorner => write!(f, "a corner of 65535 that stays"),
+            Met::FromWall => write!(f, "a position of a wall"),
+            Met::FromSight => write!(f, "of a cell in sight"),
+            Met::FromGoal => write!(f, "of a goal"),
+            Met::PastGoal => write!(f, "a walk past a goal"),
+            Met::ArrivesAtValue => write!(f, "a walk that comes to a cell's value before building"),
+            Met::NoWalk => write!(f, "a cell that no walk arrives in"),
         }
     }
 }

@@ -8,6 +8,7 @@ mod good;
 mod journeys;
 mod leg_files;
 mod legs;
+mod positions;
 mod practice;
 
 use std::collections::BTreeMap;
@@ -17,6 +18,7 @@ pub use bounds::{any_floors, floors_that_meet, range_kinds};
 pub use legs::{
     Met, Place, closed_leg, leg_kinds, leg_on_walls_that_meets, leg_that_counts, leg_that_meets, wall_kinds,
 };
+pub use positions::{field_that_meets, position_kinds};
 pub use practice::NAMED;
 
 use crate::between::{Between, Bounded};
@@ -54,6 +56,7 @@ pub const GROUPS: &[Group] = &[
     Group { name: "init", needs: &[Call::Init], cases: good::inits, reaches: &[0, ON_WALL] },
     Group { name: "build started", needs: &[Call::Build], cases: good::builds_started, reaches: &[0] },
     Group { name: "build by hand", needs: &[Call::Build], cases: good::builds_by_hand, reaches: &[0] },
+    Group { name: POSITIONS, needs: &[Call::Build], cases: positions::builds, reaches: &[0] },
     Group { name: "flow new", needs: &[Call::FlowNew], cases: good::flows_new, reaches: &[0] },
     Group { name: "flow build", needs: &[Call::FlowBuild], cases: good::flows_build, reaches: &[0] },
     Group {
@@ -109,6 +112,9 @@ pub const GROUPS: &[Group] = &[
         reaches: &[0, 1, 3, 4, 5, 6, 7, 8, ON_WALL, NO_RANGE],
     },
 ];
+
+/// Fields whose positions are looked for.
+pub const POSITIONS: &str = "build, positions";
 
 /// Legs whose windows face cells that were not reached.
 const GAPS: &str = "leg, gaps";
@@ -242,6 +248,7 @@ impl Group {
     /// What the inputs must have met besides numbers.
     fn meets(&self) -> Vec<Met> {
         match self.name {
+            POSITIONS => positions::position_kinds().to_vec(),
             GAPS => legs::all(),
             ON_WALLS => legs::all_on_walls(),
             JOURNEY => legs::planned_kinds(),
@@ -254,6 +261,7 @@ impl Group {
     /// What of that an input meets.
     fn met(&self, case: &Case) -> Vec<Met> {
         match self.name {
+            POSITIONS => positions::met(case),
             GAPS | JOURNEY => legs::met(case),
             ON_WALLS => legs::met_on_walls(case),
             PRACTICE => practice::met(case),

@@ -19,7 +19,7 @@ fn lent(previous: Previous<'_>) -> Option<&[u32]> {
 }
 
 impl Model {
-    /// The built field, its waves and the flow bytes of a sector.
+    /// The built field, its positions not filled in, its waves and the flow bytes of a sector.
     pub(crate) fn planned(
         &self,
         costs: &[u8],
@@ -42,8 +42,10 @@ impl Model {
 
     fn refused_build(&self, number: u8) -> BuildAnswer {
         let mut answer = refused::build(number);
-        if self.slips(Slip::FieldOfRefusal) && number != 0 {
-            answer.field.field = [65535; CELLS];
+        match self.slip {
+            Slip::FieldOfRefusal if number != 0 => answer.field.field = [65535; CELLS],
+            Slip::PositionsOfRefusal if number != 0 => answer.field.positions = [NO_POSITION; CELLS],
+            _ => {}
         }
         answer
     }
@@ -117,8 +119,9 @@ impl Subject for Model {
         if let Some(number) = self.turned_away(&given, &mut []) {
             return self.refused_build(number);
         }
-        let (field, waves) = self.built(costs, &field);
-        BuildAnswer { number: 0, field, waves }
+        let (built, waves) = self.built(costs, &field);
+        let positions = self.positions(costs, &field, &built.field);
+        BuildAnswer { number: 0, field: built.with_positions(positions), waves }
     }
 
     fn flow_new(&self, step: &[u8], field: IntegrationField, previous: Previous, sheet: &mut [u8]) -> u8 {
@@ -154,7 +157,12 @@ impl Subject for Model {
         }
         let (field, waves, bytes) = self.planned(costs, step, lent(previous));
         sheet.copy_from_slice(&bytes);
-        BuildAnswer { number: 0, field, waves }
+        let started = self.started(costs, step, &window_cells(step));
+        let positions = match self.slip {
+            Slip::PositionsOfSectorUnset => started.positions,
+            _ => self.positions(costs, &started, &field.field),
+        };
+        BuildAnswer { number: 0, field: field.with_positions(positions), waves }
     }
 
     fn leg(&self, floor: &[u8], steps: &[u8], sheet: &mut [u8]) -> u8 {

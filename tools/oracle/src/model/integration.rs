@@ -15,11 +15,11 @@ impl Sight {
     }
 }
 
-fn has(value: u32, flag: u32) -> bool {
+pub(super) fn has(value: u32, flag: u32) -> bool {
     value / flag % 2 == 1
 }
 
-fn low(value: u32) -> u32 {
+pub(super) fn low(value: u32) -> u32 {
     value % 0x10000
 }
 
@@ -55,7 +55,7 @@ impl Model {
         if self.slip != Slip::None {
             sight.corners.truncate(CELLS);
         }
-        IntegrationField::new(sight.cells, &sight.corners)
+        IntegrationField::new(sight.cells, &sight.corners).with_positions(self.started_positions())
     }
 
     /// Waves of sight from the goal.
@@ -162,7 +162,7 @@ impl Model {
         }
     }
 
-    /// The built field and the waves that changed a cell.
+    /// The built field, its positions not filled in, and the waves that changed a cell.
     pub(super) fn built(&self, costs: &[u8], given: &IntegrationField) -> (IntegrationField, usize) {
         let mut field = IntegrationField::new(given.field, given.corners());
         if self.slips(Slip::BeyondCountKept) {

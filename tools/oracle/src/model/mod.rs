@@ -9,6 +9,7 @@ mod leg;
 mod leg_file;
 mod line;
 mod numbers;
+mod positions;
 mod practice;
 mod slips;
 
