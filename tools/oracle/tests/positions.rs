@@ -172,6 +172,34 @@ fn positions_by_building_from_each_corner_alone() {
     }
 }
 
+/// How often positions carried along the waves would be others: on drawn sectors with a window, with a goal, and on fields
+/// given by hand; carried as the first wave writes them, and with the smaller one where offers are equal.
+#[test]
+fn carrying_along_the_waves_is_wrong() {
+    let mut rng = Rng::new(34);
+    let mut wrong = [[0; 2]; 3];
+    let drawn = 5_000;
+    for kind in 0..3 {
+        for _ in 0..drawn {
+            let (costs, before) = loop {
+                let (costs, step) = any_open(&mut rng);
+                match kind {
+                    2 => break (costs, any_field(&mut rng)),
+                    _ if usize::from(step[2]) == 1 - kind => break (costs, Oracle.init(&costs, &step).field),
+                    _ => continue,
+                }
+            };
+            let built = Oracle.build(&costs, before).field;
+            for (k, slip) in [Slip::PositionsCarried, Slip::PositionsCarriedSmaller].into_iter().enumerate() {
+                let carried = Model { slip }.positions(&costs, &before, &built.field);
+                wrong[kind][k] += usize::from(carried != built.positions);
+            }
+        }
+    }
+    println!("of {drawn} windows, goals and fields by hand each: {wrong:?} carried otherwise");
+    assert!(wrong.iter().flatten().all(|count| *count > 10));
+}
+
 /// Every slip of positions is found by the group that looks for them, or by the call that it spoils.
 #[test]
 fn each_slip_is_found() {
