@@ -9,10 +9,13 @@
  * when it is made again, and is planned for its goal. Bounds are accepted of from-to costs and a window alone; no least is
  * above its greatest, walls and window cells have theirs and no mark, and a sure cell is reached; on low, high and a floor
  * between, the sector call builds costs that lie between and meet the bounds, and gives each sure cell one and the same
- * arrow. A fault, and a run in which no call was accepted or none refused, no leg of several steps planned, none refused
- * with 15, no arrow followed, no diagonal one looked at, init, the sector call, a leg or bounds never refused with 16, the
- * sector call never with 17, bounds never with 18, no cell sure, or no practice floor with all three costs, is one line on
- * standard error and exit status 1.
+ * arrow. init leaves every position at 255; of a built field, started or given with any positions, walls, cells in sight and
+ * goals have none, lowered cells have one in the list, and building from that corner alone comes to the cell's cost, from an
+ * earlier one not; the sector call has the same positions. A fault, and a run in which no call was accepted or none refused,
+ * no leg of several steps planned, none refused with 15, no arrow followed, no diagonal one looked at, init, the sector call,
+ * a leg or bounds never refused with 16, the sector call never with 17, bounds never with 18, no cell sure, no position
+ * looked at with and without an earlier corner, or no practice floor with all three costs, is one line on standard error and
+ * exit status 1.
  */
 #define _DEFAULT_SOURCE
 #include <stdio.h>
@@ -134,13 +137,15 @@ static void steps(Fenced *f, int leg)
         step(f->at + i, (int)below(64), (uint8_t)below(2), (uint8_t)below(4), 4);
 }
 
+/* A field given by hand: any words, or most of them 65535 so that walks go far. */
 static HanjolumIntegrationField field(void)
 {
     HanjolumIntegrationField f;
-    int wild = below(4) == 0;
+    int wild = below(4) == 0, far = below(2);
     for (int i = 0; i < 100; i++) {
-        f.field[i] = draw() ^ (draw() << 16);
+        f.field[i] = far && below(8) ? HANJOLUM_FIELD_COST : draw() ^ (draw() << 16);
         f.los_corners[i] = wild ? (size_t)draw() << below(40) : below(100);
+        f.positions[i] = (uint8_t)draw();
     }
     f.count = wild ? below(300) : below(101);
     return f;
@@ -158,8 +163,10 @@ static int zeros(const void *part, size_t length)
 /* How many calls answered 0, and how many a number; how many legs of several steps were planned, and how many had a window
    in which no cell counts; from how many cells arrows were followed; how many diagonal arrows were looked at; how many of
    init, sector calls, legs and bounds had a step on a wall; how many sector calls had a window without a previous field;
-   how many practice floors had all three costs; how many bounds had no from-to or no window, and how many cells were sure. */
-static unsigned long accepted, turned_away, planned, closed, followed, diagonal, on_wall[4], fieldless, practised, unranged, sure;
+   how many practice floors had all three costs; how many bounds had no from-to or no window, and how many cells were sure;
+   how many positions were looked at, and how many of them beside an earlier corner. */
+static unsigned long accepted, turned_away, planned, closed, followed, diagonal, on_wall[4], fieldless, practised, unranged, sure,
+    positioned, earliest;
 
 static void tallied(uint8_t number)
 {
@@ -176,8 +183,68 @@ static void counted(uint8_t number)
 
 static void refused(uint8_t number, HanjolumIntegrationField f, size_t waves)
 {
-    if (number != 0 && !(zeros(f.field, sizeof f.field) && zeros(f.los_corners, sizeof f.los_corners) && f.count == 0 && waves == 0))
+    if (number != 0 && !(zeros(f.field, sizeof f.field) && zeros(f.los_corners, sizeof f.los_corners) && f.count == 0
+                         && zeros(f.positions, sizeof f.positions) && waves == 0))
         fail("a refusal is not zero");
+}
+
+/* The position of a cell that has none. */
+enum { NO_POSITION = 255 };
+
+/* Flags of cells that have none. */
+enum { UNPOSITIONED = HANJOLUM_FIELD_LOS | HANJOLUM_FIELD_GOAL | HANJOLUM_FIELD_IMPASSABLE };
+
+/* What a cell comes to if the field is built from one of its corners alone; one more than any cost if no walk arrives. */
+static uint32_t alone(const uint8_t *costs, HanjolumIntegrationField given, size_t place, size_t cell)
+{
+    size_t corner = given.los_corners[place];
+    given.los_corners[0] = corner;
+    given.count = 1;
+    HanjolumBuildAnswer b = hanjolum_build(costs, 100, given);
+    uint32_t was = given.field[cell] & HANJOLUM_FIELD_COST, is = b.field.field[cell] & HANJOLUM_FIELD_COST;
+    if (b.number != 0)
+        fail("a field is refused with one of its corners");
+    return is < was || cell == corner ? is : HANJOLUM_FIELD_COST + 1;
+}
+
+/* Looks at every position of a field that was built, and at that of one cell by building from corners alone. */
+static void positions(const uint8_t *costs, HanjolumIntegrationField given, HanjolumIntegrationField built)
+{
+    for (int i = 0; i < 100; i++) {
+        uint8_t position = built.positions[i];
+        int lowered = (built.field[i] & HANJOLUM_FIELD_COST) < (given.field[i] & HANJOLUM_FIELD_COST);
+        if ((given.field[i] & UNPOSITIONED) != 0 && position != NO_POSITION)
+            fail("a wall, a cell in sight or a goal has a position");
+        if ((given.field[i] & UNPOSITIONED) == 0 && lowered && position == NO_POSITION)
+            fail("a cell that building lowered has no position");
+        if (position != NO_POSITION && position >= given.count)
+            fail("a position is not in the list");
+    }
+    size_t cell = below(100);
+    uint8_t position = built.positions[cell];
+    uint32_t cost = built.field[cell] & HANJOLUM_FIELD_COST;
+    if (position == NO_POSITION)
+        return;
+    if (alone(costs, given, position, cell) != cost)
+        fail("a position's corner has no walk at the built cost");
+    positioned += 1;
+    if (position > 0 && alone(costs, given, below(position), cell) == cost)
+        fail("an earlier corner has a walk at the built cost");
+    earliest += position > 0;
+}
+
+/* A started field has no positions; built, it has those of the sector call. */
+static void started(const uint8_t *costs, HanjolumIntegrationField given, const HanjolumBuildAnswer *sector)
+{
+    for (int i = 0; i < 100; i++)
+        if (given.positions[i] != NO_POSITION)
+            fail("a started field has a position");
+    HanjolumBuildAnswer b = hanjolum_build(costs, 100, given);
+    if (b.number != 0)
+        fail("a started field is refused");
+    positions(costs, given, b.field);
+    if (sector->number == 0 && memcmp(sector->field.positions, b.field.positions, sizeof b.field.positions) != 0)
+        fail("the sector call has other positions than init and build");
 }
 
 static void line(HanjolumLine l)
@@ -506,9 +573,14 @@ static void round_of_calls(Fenced *costs, Fenced *route, Fenced *previous, Fence
     counted(i.number);
     walls(0, i.number, costs, route);
     refused(i.number, i.field, 0);
-    HanjolumBuildAnswer b = hanjolum_build(costs->at, costs->length, field());
+    if (i.number == 0)
+        started(costs->at, i.field, &a);
+    HanjolumIntegrationField by_hand = field();
+    HanjolumBuildAnswer b = hanjolum_build(costs->at, costs->length, by_hand);
     counted(b.number);
     refused(b.number, b.field, b.waves);
+    if (b.number == 0)
+        positions(costs->at, by_hand, b.field);
     memcpy(before, sheet->at, sheet->length);
     kept(hanjolum_flow_new(route->at, route->length, field(), has, numbers, count, sheet->at, sheet->length), sheet);
     memcpy(before, sheet->at, sheet->length);
@@ -559,12 +631,14 @@ static void report(unsigned long rounds)
         fail("no practice floor had all three costs");
     if (unranged == 0 || sure == 0)
         fail("bounds were never refused with 18, or no cell was sure");
+    if (positioned == 0 || earliest == 0)
+        fail("no position was looked at, or none beside an earlier corner");
     printf("%lu rounds of calls, %lu accepted and %lu refused, %lu legs of several steps planned and %lu refused with 15, "
            "arrows followed from %lu cells to the goal's sector, %lu diagonal arrows looked at, "
            "%lu init, %lu sector calls, %lu legs and %lu bounds refused with 16, %lu sector calls with 17, %lu bounds with 18, "
-           "%lu sure cells, %lu practice floors, nothing found\n",
+           "%lu sure cells, %lu practice floors, %lu positions looked at and %lu of them beside an earlier corner, nothing found\n",
            rounds, accepted, turned_away, planned, closed, followed, diagonal, on_wall[0], on_wall[1], on_wall[2],
-           on_wall[3], fieldless, unranged, sure, practised);
+           on_wall[3], fieldless, unranged, sure, practised, positioned, earliest);
     written();
 }
 
