@@ -179,7 +179,7 @@ fn carrying_along_the_waves_is_wrong() {
     let mut rng = Rng::new(34);
     let mut wrong = [[0; 2]; 3];
     let drawn = 5_000;
-    for kind in 0..3 {
+    for (kind, counts) in wrong.iter_mut().enumerate() {
         for _ in 0..drawn {
             let (costs, before) = loop {
                 let (costs, step) = any_open(&mut rng);
@@ -190,9 +190,9 @@ fn carrying_along_the_waves_is_wrong() {
                 }
             };
             let built = Oracle.build(&costs, before).field;
-            for (k, slip) in [Slip::PositionsCarried, Slip::PositionsCarriedSmaller].into_iter().enumerate() {
+            for (count, slip) in counts.iter_mut().zip([Slip::PositionsCarried, Slip::PositionsCarriedSmaller]) {
                 let carried = Model { slip }.positions(&costs, &before, &built.field);
-                wrong[kind][k] += usize::from(carried != built.positions);
+                *count += usize::from(carried != built.positions);
             }
         }
     }
