@@ -29,12 +29,6 @@ fn both_inside(source: FieldCell, target: FieldCell) -> bool
     false
 }
 
-fn distance(a: usize, b: usize) -> usize
-    ensures { λ r. ⌜ r ≡ apart a b ⌝ }
-{
-    if a <= b { b - a } else { a - b }
-}
-
 // The coordinate that is `offset` from `a` on the way to `b`.
 fn moved(a: usize, b: usize, offset: usize) -> usize
     requires { ⌜ (a < 10) × (b < 10) × (offset ≤ apart a b) ⌝ }
@@ -84,7 +78,7 @@ fn walk(
     ensures { λ r. ⌜ r ≡ answered (listed back (walkCells steep major_0 minor_0 major_1 minor_1)) ⌝ }
 {
     let span = major_1 - major_0;
-    let rise = distance(minor_0, minor_1);
+    let rise = nearest_line::distance(minor_0, minor_1);
     let mut line = empty(0);
     let mut difference = 2 * rise + span;
     let mut offset = 0usize;
@@ -150,7 +144,9 @@ pub fn get_cells_between_points(source: FieldCell, target: FieldCell) -> Line
     let source_row = source.row;
     let target_col = target.column;
     let target_row = target.row;
-    if distance(source_row, target_row) < distance(source_col, target_col) {
+    if nearest_line::distance(source_row, target_row)
+        < nearest_line::distance(source_col, target_col)
+    {
         if source_col <= target_col {
             return walk(false, false, source_col, source_row, target_col, target_row);
         }

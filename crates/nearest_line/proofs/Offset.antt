@@ -9,7 +9,7 @@ use native.Mathlib.Omega.{arith}
 use lib.Dec.{leb}
 use borrow.Author.Tests.{leb-true, leb-false}
 use Rattle.nearest_line.specs.Line.{apart, toward, nearest, offsetAt, minorAt}
-use Rattle.nearest_line.specs.Nearest.{Between}
+use Rattle.nearest_line.specs.Nearest.{Between, NearestTo}
 
 -- q is x / (2 * m), from the two bounds
 quotient : (m q x : ℕ) → 0 < m → 2 * (m * q) ≤ x → x < 2 * (m * q) + 2 * m → q ≡ x / (2 * m)
@@ -45,6 +45,29 @@ bounds d m k p =
     let u : x < 2 * m * (y + 1) = lt-mul-div-succ x q in
     record { lower = omega arith; upper = omega arith }
 
+-- it is the nearest, and no other number is
+pub nearest-is : (d m k : ℕ) → 0 < m → NearestTo d m k (nearest d m k)
+nearest-is d m k p =
+    let b = bounds d m k p in
+    let l = b .lower in
+    let u = b .upper in
+    record { half-at-most = omega arith; half-smaller = λ e. omega arith }
+
+pub nearest-only : (d m k y : ℕ) → 0 < m → NearestTo d m k y → y ≡ nearest d m k
+unfolding nearest
+nearest-only d m k y p n =
+    let h = n .half-at-most in
+    let lower : 2 * (m * y) ≤ 2 * (k * d) + m - 1 = go (leb (m * y) (k * d)) refl in
+    quotient m y (2 * (k * d) + m - 1) p lower (omega arith)
+  where
+    go : (t : Bool) → leb (m * y) (k * d) ≡ t → 2 * (m * y) ≤ 2 * (k * d) + m - 1
+    go true e = let l = leb-true (m * y) (k * d) e in omega arith
+    go false e =
+        let l = leb-false (m * y) (k * d) e in
+        let h = n .half-at-most in
+        let s : 2 * apart (k * d) (m * y) ≡ m → ⊥ = λ e. let z = n .half-smaller e in omega arith in
+        omega (arith, s)
+
 pub nearest-start : (d m : ℕ) → nearest d m 0 ≡ 0
 unfolding nearest
 nearest-start d m =
@@ -71,6 +94,15 @@ nearest-le d (suc m) k h =
     let b = bounds d (suc m) k (omega arith) in
     let p : k * d ≤ suc m * d = mul-le-mul-right d h in
     at-most m (nearest d (suc m) k) d (omega arith)
+
+-- and from the last step on at least that
+pub nearest-ge : (d m k : ℕ) → 0 < m → m ≤ k → d ≤ nearest d m k
+nearest-ge d zero k p h = absurd (omega arith)
+nearest-ge d (suc m) k p h =
+    let b = bounds d (suc m) k p in
+    let u = b .upper in
+    let q : suc m * d ≤ k * d = mul-le-mul-right d h in
+    at-most m d (nearest d (suc m) k) (omega arith)
 
 next : (d k : ℕ) → (k + 1) * d ≡ k * d + d
 next d k = add-mul k 1 d ∙ ap (λ (z : ℕ). k * d + z) (one-mul d)

@@ -11,29 +11,18 @@ use Rattle.fields.specs.declared.FieldCell.{FieldCell}
 use Rattle.fields.specs.Cell.{cell}
 use Rattle.nearest_line.specs.Table.{table}
 use Rattle.nearest_line.specs.Line.{apart, nearest, minorAt, walkAt, shallow, steep}
-use Rattle.nearest_line.specs.Nearest.{Between, Neighbours, NearestCell, Walked, columnOf, rowOf}
+use Rattle.nearest_line.specs.Nearest.{Between, Neighbours, NearestTo, NearestCell, Walked, columnOf, rowOf}
 use Rattle.nearest_line.proofs.Lists.{length-table, getD-table, getD-reverse}
-use Rattle.nearest_line.proofs.Offset.{bounds, minor-between, minor-offset, minor-start, minor-end, minor-next}
+use Rattle.nearest_line.proofs.Offset.{nearest-is, minor-between, minor-offset, minor-start, minor-end, minor-next}
 
-half-at-most : (d m k : ℕ) → k ≤ m → 2 * apart (k * d) (m * nearest d m k) ≤ m
-half-at-most d zero zero h =
+-- up to the last step the offset is the nearest number, also in a line of one cell
+offset-nearest : (d m k : ℕ) → k ≤ m → NearestTo d m k (nearest d m k)
+offset-nearest d zero zero h =
     let p : 0 * d ≡ 0 = zero-mul d in
     let q : 0 * nearest d 0 0 ≡ 0 = zero-mul (nearest d 0 0) in
-    omega arith
-half-at-most d zero (suc k) h = absurd (omega arith)
-half-at-most d (suc m) k h =
-    let b = bounds d (suc m) k (omega arith) in
-    let l = b .lower in
-    let u = b .upper in
-    omega arith
-
-half-nearer : (d m k : ℕ) → k ≤ m → 2 * apart (k * d) (m * nearest d m k) ≡ m → m * nearest d m k ≤ k * d
-half-nearer d zero k h e = let q : 0 * nearest d 0 k ≡ 0 = zero-mul (nearest d 0 k) in omega arith
-half-nearer d (suc m) k h e =
-    let b = bounds d (suc m) k (omega arith) in
-    let l = b .lower in
-    let u = b .upper in
-    omega arith
+    record { half-at-most = omega arith; half-smaller = λ e. omega arith }
+offset-nearest d zero (suc k) h = absurd (omega arith)
+offset-nearest d (suc m) k h = nearest-is d (suc m) k (omega arith)
 
 between-up : (x m k : ℕ) → k ≤ m → Between x (x + m) (x + k)
 between-up x m k h = record { from = omega arith; to = omega arith }
@@ -58,8 +47,7 @@ module _
       record {
         along = rw (ahead, g) (between-up (major a) m k h);
         aside = subst (Between (minor a) (minor b)) (sym (aside k)) (minor-between (minor a) (minor b) m k);
-        half-at-most = rw (p, q, r) (half-at-most d m k h);
-        half-nearer-first = rw (p, q, r) (half-nearer d m k h);
+        nearest-aside = rw (p, q, r) (offset-nearest d m k h);
       }
 
   step-moves : (k : ℕ) → Neighbours (f k) (f (k + 1))

@@ -23,21 +23,17 @@ pub record Spanned (s t c : FieldCell) : Type 0 where
 abbrev pub Neighbours : FieldCell → FieldCell → Type 0
 Neighbours c d = max (apart (c .column) (d .column)) (apart (c .row) (d .row)) ≡ 1
 
--- A walk from a to b is m long in its major coordinate and d wide in its minor one. A cell c of it lies k on and y aside.
--- The exact line lies k * d / m aside there, so that c is |k * d - m * y| parts of m off it.
-module _ (major minor : FieldCell → ℕ) (a b c : FieldCell) where
-  abbrev pub exact : ℕ
-  exact = apart (major a) (major c) * apart (minor a) (minor b)
+-- y is the nearest whole number to k * d / m, from which it is |k * d - m * y| parts of m off; of two equally near it is the smaller
+pub record NearestTo (d m k y : ℕ) : Type 0 where
+  pub half-at-most : 2 * apart (k * d) (m * y) ≤ m
+  pub half-smaller : 2 * apart (k * d) (m * y) ≡ m → m * y ≤ k * d
 
-  abbrev pub taken : ℕ
-  taken = apart (major a) (major b) * apart (minor a) (minor c)
-
-  -- c is the nearest cell to the exact line, and of two equally near the one nearer a, the walk's first cell
-  pub record NearestCell : Type 0 where
-    pub along : Between (major a) (major b) (major c)
-    pub aside : Between (minor a) (minor b) (minor c)
-    pub half-at-most : 2 * apart exact taken ≤ apart (major a) (major b)
-    pub half-nearer-first : 2 * apart exact taken ≡ apart (major a) (major b) → taken ≤ exact
+-- A walk from a to b is m long in its major coordinate and d wide in its minor one, so that the exact line lies k * d / m aside of a where it is
+-- k on. A cell c of the walk lies k on and y aside: it is the nearest cell, and of two equally near the one nearer a, the walk's first cell.
+pub record NearestCell (major minor : FieldCell → ℕ) (a b c : FieldCell) : Type 0 where
+  pub along : Between (major a) (major b) (major c)
+  pub aside : Between (minor a) (minor b) (minor c)
+  pub nearest-aside : NearestTo (apart (minor a) (minor b)) (apart (major a) (major b)) (apart (major a) (major c)) (apart (minor a) (minor c))
 
 -- each cell of l is one of the walk from a to b
 abbrev pub NearestWalk : (FieldCell → ℕ) → (FieldCell → ℕ) → FieldCell → FieldCell → List FieldCell → Type 0
