@@ -1,17 +1,16 @@
--- The starred cases of document 01 (01, "Cases"), one of them a refusal since document 02, and a floor of 02, "Job 10": one table, one proof by
--- computation from the definitions.
+-- The starred cases of document 01 (01, "Cases"), those that document 02 changed as it has them, and a floor of 02, "Job 10": one table, one
+-- proof by computation from the definitions.
 -- Assumes nothing.
 use mathlib.Core.Path.{_≡_, refl}
 use mathlib.Core.Bool.{Bool, true, false, cond}
 use mathlib.Core.List.{List, [], _∷_, _++_, map}
 use Prim.Native.Nat.{ℕ}
-use lib.Ieee.{add, sub, mul, div, neg, ofInt}
 use lib.ListN.{getD, set, replicate}
 use Rattle.fields.specs.declared.FieldCell.{FieldCell}
 use Rattle.fields.specs.Cell.{cell, stepped}
 use Rattle.nearest_line.specs.Table.{table}
 use Rattle.nearest_line.specs.Line.{toward, nearest, shallow, steep, line}
-use Rattle.line_end.specs.LineEnd.{gradient, intercept, floor, rowAt, firstEnding, slantedEnd, endBy, lineEnd}
+use Rattle.line_end.specs.LineEnd.{firstEnding, slantedEnd, endBy, lineEnd}
 use Rattle.route.specs.Window.{onEdge, edge, cellsBetween}
 use Rattle.route.specs.Step.{stepNumberOn}
 use Rattle.route.specs.Target.{targetOf}
@@ -125,13 +124,13 @@ cases =
     ∷ case (coordinates (line (cell 2 1) (cell 0 0))) (2 ∷ 1 ∷ 1 ∷ 0 ∷ 0 ∷ 0 ∷ [])
     -- (0,0) to (3,1): (0,0), (1,0), (2,1), (3,1).
     ∷ case (coordinates (line (cell 0 0) (cell 3 1))) (0 ∷ 0 ∷ 1 ∷ 0 ∷ 2 ∷ 1 ∷ 3 ∷ 1 ∷ [])
-    -- Line end of corner (5,3), goal (4,4): (9,0). Corner (4,3), goal (5,4): (1,0). Corner (9,7), goal (2,9): (9,6).
+    -- Line end of corner (5,3), goal (4,4): (9,0). Since 02, "Job 11", corner (4,3), goal (5,4): (0,0); corner (9,7), goal (2,9): (9,7).
     ∷ case (coordinates (lineEnd (cell 5 3) (cell 4 4) ∷ lineEnd (cell 4 3) (cell 5 4) ∷ lineEnd (cell 9 7) (cell 2 9) ∷ []))
-    (9 ∷ 0 ∷ 1 ∷ 0 ∷ 9 ∷ 6 ∷ [])
+    (9 ∷ 0 ∷ 0 ∷ 0 ∷ 9 ∷ 7 ∷ [])
     -- Byte 0xF3 reads as goal, portal goal and in sight, not wall.
     ∷ case (read 0xF3) (1 ∷ 1 ∷ 1 ∷ 0 ∷ [])
     ∷ []
 
 pub as-expected : map (λ (c : Case). c .given) cases ≡ map (λ (c : Case). c .expected) cases
-unfolding onEdge stepped table toward nearest shallow steep line gradient intercept floor rowAt firstEnding slantedEnd endBy lineEnd add sub mul div neg ofInt edge cellsBetween targetOf passesWall relaxed offeredAround offeredBy changedFrom next total isEmpty settle build firstPosition arrivesFrom walls withPortals withGoal marked lineMarked seen extended sideTried wallMet neighbourLooked lookedAround waveLooked sightAfter cornerLine sightFrom startedFrom startedAt started initNumber stepNumberOn sectorNumber startOf facingBits facingChoice windowBits newByte newBytes look.seen lookAround pointed builtByte flowBuild sectorBytes
+unfolding onEdge stepped table toward nearest shallow steep line firstEnding slantedEnd endBy lineEnd edge cellsBetween targetOf passesWall relaxed offeredAround offeredBy changedFrom next total isEmpty settle build firstPosition arrivesFrom walls withPortals withGoal marked lineMarked seen extended sideTried wallMet neighbourLooked lookedAround waveLooked sightAfter cornerLine sightFrom startedFrom startedAt started initNumber stepNumberOn sectorNumber startOf facingBits facingChoice windowBits newByte newBytes look.seen lookAround pointed builtByte flowBuild sectorBytes
 as-expected = refl

@@ -15,6 +15,8 @@ ghost use Rattle.fields.specs.Cell.{cell};
 ghost use Rattle.nearest_line.specs.Line.{lineCall, shallowCall, steepCall};
 ghost use Rattle.nearest_line.specs.Nearest.{columnOf, rowOf, HoldsNearestLine, HoldsNearestWalk};
 ghost use Rattle.line_end.specs.LineEnd.{lineEndAnswer};
+ghost use Rattle.line_end.specs.Away.{HoldsSlanted};
+ghost use Rattle.line_end.specs.Mirror.{HoldsMirrored};
 ghost use Rattle.route.specs.Target.{targetOf};
 ghost use Rattle.integration_field.specs.Listed.{listOf};
 ghost use Rattle.integration_field.specs.Answer.{buildAnswer};
@@ -210,7 +212,9 @@ pub extern "C" fn hanjolum_line_end(
     goal_column: usize,
     goal_row: usize,
 ) -> LineEnd
-    ensures { λ r. ⌜ r ≡ lineEndAnswer (cell «corner_column» «corner_row») (cell «goal_column» «goal_row») ⌝ }
+    ensures answer { λ r. ⌜ r ≡ lineEndAnswer (cell «corner_column» «corner_row») (cell «goal_column» «goal_row») ⌝ }
+    ensures slanted { λ r. ⌜ HoldsSlanted (cell «corner_column» «corner_row») (cell «goal_column» «goal_row») r ⌝ }
+    ensures mirrored { λ r. ⌜ HoldsMirrored (cell «corner_column» «corner_row») (cell «goal_column» «goal_row») r ⌝ }
 {
     let corner = FieldCell {
         column: corner_column,

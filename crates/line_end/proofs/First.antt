@@ -1,69 +1,252 @@
--- Off the goal's column and row a line ends in the first column that ends it, on the row there.
---     end-slanted     the end, as document 01 says it
+-- Off the goal's column and row a line ends in the first column whose row leaves 0 to 9, or else in the last (02, "Job 11").
+--     end-slanted     the end is as `Slanted` says
+--     slanted-only    and no other cell is
 -- Assumes nothing.
-use mathlib.Core.Path.{_≡_, refl}
+use mathlib.Core.Path.{_≡_, refl, sym, ap, _∙_}
 use mathlib.Core.Bool.{Bool, true, false}
-use Prim.Native.Nat.{ℕ, zero, suc, _+_, _<_, _≤_, min, max}
+use mathlib.Core.Logic.{_⊎_, inl, inr}
+use Prim.Native.Nat.{ℕ, zero, suc, _+_, _-_, _<_, _≤_, min}
 use native.Mathlib.Omega.{arith}
-use lib.Dec.{ltb, eqb}
-use borrow.Author.Tests.{eqb-true, eqb-false, ne-eqb}
+use lib.Dec.{leb, ltb, eqb}
+use borrow.Author.Tests.{ltb-true, ltb-false, leb-true, leb-false, eqb-true, eqb-false, ne-eqb}
 use Rattle.fields.specs.declared.FieldCell.{FieldCell}
 use Rattle.fields.specs.Cell.{Inside}
-use Rattle.line_end.specs.Away.{First, Slanted}
-use Rattle.line_end.specs.LineEnd.{rowOf, endsOn, edge, next, after, firstEnding, lineRow, slantedEnd, endBy, lineEnd}
-use Rattle.line_end.proofs.Walk.{onward, none-after}
+use Rattle.nearest_line.specs.Line.{apart, nearest}
+use Rattle.nearest_line.specs.Nearest.{Between}
+use Rattle.nearest_line.proofs.Offset.{nearest-is, nearest-only}
+use Rattle.line_end.specs.Away.{Slanted, Slants, rightward, downward, rowsBehind}
+use Rattle.line_end.specs.LineEnd.{edge, after, further, leaves, firstEnding, firstLeaving, slantedEnd, endBy, lineEnd}
 
--- the column tried first, where it ends the line or is the last
-here : (ends : ℕ → Bool) (column last : ℕ) → ((column ≡ last → ⊥) → ends column ≡ true) → First ends column last column
-here ends column last e =
+-- ---- the first that ends, of those from j to j + n
+record First (ends : ℕ → Bool) (j n end : ℕ) : Type 0 where
+  from : j ≤ end
+  to : end ≤ j + n
+  none-before : (i : ℕ) → j ≤ i → i < end → ends i ≡ false
+  ends-there : (end ≡ j + n → ⊥) → ends end ≡ true
+
+here : (ends : ℕ → Bool) (j n : ℕ) → ((j ≡ j + n → ⊥) → ends j ≡ true) → First ends j n j
+here ends j n e = record { from = omega arith; to = omega arith; none-before = λ i l m. absurd (omega arith); ends-there = e }
+
+past : (ends : ℕ → Bool) (j n end : ℕ) → ends j ≡ false → First ends (suc j) n end → First ends j (suc n) end
+past ends j n end e f =
     record {
-      tried-from = omega arith;
-      tried-to = omega arith;
-      none-before = λ c l m d. absurd (d (omega arith));
-      ends-there = e;
+      from = omega (arith, f .from);
+      to = omega (arith, f .to);
+      none-before = λ i l m. go i l m (eqb i j) refl;
+      ends-there = λ d. f .ends-there (λ q. d (omega arith));
     }
+  where
+    go : (i : ℕ) → j ≤ i → i < end → (b : Bool) → eqb i j ≡ b → ends i ≡ false
+    go i l m true g = rw (eqb-true i j g) e
+    go i l m false g = f .none-before i (omega (arith, eqb-false i j g)) m
 
--- One more column is tried before the others, and does not end the line either.
-module _ (ends : ℕ → Bool) (column n last end : ℕ) (from : min column last ≤ n) (to : n ≤ max column last) where
-  on-way : min n last ≤ end → end ≤ max n last → (min column end ≤ n) × (n ≤ max column end)
-  on-way p q = (omega arith, omega arith)
+found : (ends : ℕ → Bool) (n j : ℕ) (b : Bool) → ends j ≡ b → First ends j n (firstEnding ends n j b)
+unfolding firstEnding
+found ends zero j b e = here ends j zero (λ d. absurd (d (omega arith)))
+found ends (suc n) j true e = here ends j (suc n) (λ d. e)
+found ends (suc n) j false e = past ends j n _ e (found ends n (suc j) (ends (suc j)) refl)
 
-  past : column ≤ n + 1 → n ≤ column + 1 → ends column ≡ false → First ends n last end → First ends column last end
-  past r s e f =
+-- at most the last column
+pub first-to : (rise span behind columns : ℕ) → firstLeaving rise span behind columns ≤ columns
+first-to rise span behind columns =
+    let ends : ℕ → Bool = λ j. leaves rise span behind (span + j) in
+    omega (arith, found ends columns 0 (ends 0) refl .to)
+
+-- ---- columns behind the corner's, away from the goal
+-- a column c from the corner's on to the one that is j behind it: it is i behind it, and i more than the corner's from the goal's
+record Behind (beyond : Bool) (corner goal c i j : ℕ) : Type 0 where
+  at-most : i ≤ j
+  is-last : i ≡ j → c ≡ further beyond corner j
+  off-goal : apart goal c ≡ apart goal corner + i
+
+-- the corner's column lies beyond the goal's, to the right or to the left
+abbrev Beyond : Bool → ℕ → ℕ → Type 0
+Beyond true goal corner = goal < corner
+Beyond false goal corner = corner < goal
+
+off-right : (corner goal c : ℕ) → goal < corner → corner ≤ c → apart goal c ≡ apart goal corner + apart corner c
+off-right corner goal c g l =
+    let i : apart corner c ≡ c - corner = omega arith in
+    let k : apart goal corner ≡ corner - goal = omega arith in
+    rw (i, k) (omega arith)
+
+off-left : (corner goal c : ℕ) → corner < goal → c ≤ corner → apart goal c ≡ apart goal corner + apart corner c
+off-left corner goal c g l =
+    let i : apart corner c ≡ corner - c = omega arith in
+    let k : apart goal corner ≡ goal - corner = omega arith in
+    rw (i, k) (omega arith)
+
+behind-right : (corner goal c j : ℕ) → goal < corner → corner ≤ c → c ≤ corner + j → Behind true corner goal c (apart corner c) j
+behind-right corner goal c j g l m = record { at-most = omega arith; is-last = λ e. omega arith; off-goal = off-right corner goal c g l }
+
+behind-left : (corner goal c j : ℕ) → corner < goal → c ≤ corner → corner ≤ c + j → Behind false corner goal c (apart corner c) j
+behind-left corner goal c j g l m = record { at-most = omega arith; is-last = λ e. omega arith; off-goal = off-left corner goal c g l }
+
+behind : (beyond : Bool) (corner goal c j : ℕ) → Beyond beyond goal corner → j ≤ after beyond corner
+    → Between corner (further beyond corner j) c → Behind beyond corner goal c (apart corner c) j
+behind true corner goal c j g h b = behind-right corner goal c j g (omega (arith, b .from)) (omega (arith, b .to))
+behind false corner goal c j g h b = behind-left corner goal c j g (omega (arith, b .to)) (omega (arith, b .from))
+
+-- the column that is j behind the corner's is itself such a one
+last-off : (beyond : Bool) (corner goal j : ℕ) → Beyond beyond goal corner → j ≤ after beyond corner
+    → apart goal (further beyond corner j) ≡ apart goal corner + j
+last-off true corner goal j g h = omega arith
+last-off false corner goal j g h = omega arith
+
+tried-to-edge : (beyond : Bool) (corner j : ℕ) → corner < 10 → j ≤ after beyond corner → Between corner (edge beyond) (further beyond corner j)
+tried-to-edge true corner j c h = record { from = omega arith; to = omega arith }
+tried-to-edge false corner j c h = record { from = omega arith; to = omega arith }
+
+all-behind : (beyond : Bool) (x : ℕ) → (beyond ≡ true → x < 10) → further beyond x (after beyond x) ≡ edge beyond
+all-behind true x h = omega (arith, h refl)
+all-behind false x h = omega arith
+
+beyond-of : (goal corner : ℕ) (b : Bool) → (corner ≡ goal → ⊥) → ltb goal corner ≡ b → Beyond b goal corner
+beyond-of goal corner true d e = ltb-true goal corner e
+beyond-of goal corner false d e = omega (arith, d, ltb-false goal corner e)
+
+apart-some : (a b : ℕ) → (b ≡ a → ⊥) → 0 < apart a b
+apart-some a b d = omega (arith, d)
+
+-- ---- the end
+module _ (corner goal : FieldCell) (corner-in : Inside corner) (apart-columns : corner .column ≡ goal .column → ⊥) where
+  abbrev right : Bool
+  right = rightward corner goal
+
+  abbrev down : Bool
+  down = downward corner goal
+
+  abbrev rise : ℕ
+  rise = apart (goal .row) (corner .row)
+
+  abbrev span : ℕ
+  span = apart (goal .column) (corner .column)
+
+  abbrev room : ℕ
+  room = rowsBehind corner goal
+
+  abbrev columns : ℕ
+  columns = after right (corner .column)
+
+  abbrev end : ℕ
+  end = firstLeaving rise span room columns
+
+  abbrev ends : ℕ → Bool
+  ends j = leaves rise span room (span + j)
+
+  side : Beyond right (goal .column) (corner .column)
+  side = beyond-of (goal .column) (corner .column) right apart-columns refl
+
+  first : First ends 0 columns end
+  first = found ends columns 0 (ends 0) refl
+
+  end-to : end ≤ columns
+  end-to = first-to rise span room columns
+
+  -- the row of a column, counted from the goal's
+  abbrev rowIn : ℕ → ℕ
+  rowIn c = nearest rise span (apart (goal .column) c)
+
+  row-there : rowIn (further right (corner .column) end) ≡ nearest rise span (span + end)
+  row-there = ap (nearest rise span) (last-off right (corner .column) (goal .column) end side end-to)
+
+  pub slanted-first : Slanted corner goal (slantedEnd right down corner goal)
+  unfolding slantedEnd
+  slanted-first =
       record {
-        tried-from = omega (arith, f .tried-from, f .tried-to);
-        tried-to = omega (arith, f .tried-from, f .tried-to);
-        none-before = λ c l m d. go c l m d (eqb c column) refl;
-        ends-there = f .ends-there;
+        rows = rowIn;
+        nearest-rows = λ c. nearest-is rise span (apart (goal .column) c) (apart-some (goal .column) (corner .column) apart-columns);
+        tried = tried-to-edge right (corner .column) end (corner-in .column-in) end-to;
+        none-before = λ c b d.
+            let w = behind right (corner .column) (goal .column) c end side end-to b in
+            let a = w .at-most in
+            let n : apart (corner .column) c ≡ end → ⊥ = λ e. d (w .is-last e) in
+            let i : apart (corner .column) c < end = omega (arith, n) in
+            rw (w .off-goal) (ltb-false room _ (first .none-before (apart (corner .column) c) (omega arith) i));
+        leaves-there = λ l.
+            let m : min room (nearest rise span (span + end)) ≡ room = omega (arith, rw row-there at l) in
+            ap (further down (goal .row)) m ∙ all-behind down (goal .row) (λ d. omega (arith, ltb-true (goal .row) (corner .row) d, corner-in .row-in));
+        else-last = λ l.
+            let k = rw row-there at l in
+            let m : min room (nearest rise span (span + end)) ≡ nearest rise span (span + end) = omega (arith, k) in
+            let e : end ≡ columns = last k (eqb end columns) refl in (
+              ap (further right (corner .column)) e ∙ all-behind right (corner .column) (λ d. corner-in .column-in),
+              ap (further down (goal .row)) (m ∙ sym row-there),
+            );
       }
     where
-      nearer : (c : ℕ) → min column end ≤ n → n ≤ max column end → min column end ≤ c → c ≤ max column end → (c ≡ column → ⊥) → (min n end ≤ c) × (c ≤ max n end)
-      nearer c p q l m d = (omega arith, omega arith)
-
-      go : (c : ℕ) → min column end ≤ c → c ≤ max column end → (c ≡ end → ⊥) → (b : Bool) → eqb c column ≡ b → ends c ≡ false
-      go c l m d true g = rw (eqb-true c column g) e
-      go c l m d false g =
-          let w = on-way (f .tried-from) (f .tried-to) in
-          let t = nearer c (w .0) (w .1) l m (eqb-false c column g) in
-          f .none-before c (t .0) (t .1) d
-
-walk-first : (ends : ℕ → Bool) (rightward : Bool) (n column : ℕ) (b : Bool) → after rightward column ≡ n → column < 10 → ends column ≡ b
-    → First ends column (edge rightward) (firstEnding ends (next rightward) n column b)
-unfolding firstEnding
-walk-first ends rightward zero column b l h e = here ends column (edge rightward) (λ d. let o = onward rightward column h d .fewer in absurd (omega arith))
-walk-first ends rightward (suc n) column true l h e = here ends column (edge rightward) (λ d. e)
-walk-first ends rightward (suc n) column false l h e =
-    let o = onward rightward column h (λ d. let z = none-after rightward column d in omega arith) in
-    past ends column (next rightward column) (edge rightward) _ (o .next-from) (o .next-to) (o .near-from) (o .near-to) e
-    (walk-first ends rightward n (next rightward column) (ends (next rightward column)) (omega arith) (o .next-in) refl)
-
-pub slanted-first : (corner goal : FieldCell) → corner .column < 10 → Slanted corner goal (slantedEnd (lineRow corner goal) (corner .column) (ltb (goal .column) (corner .column)))
-unfolding slantedEnd
-slanted-first corner goal h =
-    let rightward = ltb (goal .column) (corner .column) in
-    record { first-ending = walk-first (λ (c : ℕ). endsOn rightward (rowOf (lineRow corner goal c))) rightward (after rightward (corner .column)) (corner .column) _ refl h refl; on-row = refl }
+      last : nearest rise span (span + end) ≤ room → (b : Bool) → eqb end columns ≡ b → end ≡ columns
+      last k true e = eqb-true end columns e
+      last k false e =
+          let t = ltb-true room (nearest rise span (span + end)) (first .ends-there (λ q. eqb-false end columns e (omega arith))) in
+          absurd (omega arith)
 
 pub end-slanted : (corner goal : FieldCell) → Inside corner → (corner .column ≡ goal .column → ⊥) → (corner .row ≡ goal .row → ⊥)
     → Slanted corner goal (lineEnd corner goal)
 unfolding lineEnd endBy
-end-slanted corner goal h p q = rw (ne-eqb (corner .column) (goal .column) p, ne-eqb (corner .row) (goal .row) q) (slanted-first corner goal (h .column-in))
+end-slanted corner goal h p q = rw (ne-eqb (corner .column) (goal .column) p, ne-eqb (corner .row) (goal .row) q) (slanted-first corner goal h p)
+
+-- ---- no other cell is
+-- of two columns on the way to the edge, one lies on the way to the other
+nearer : (corner edge c d : ℕ) → Between corner edge c → Between corner edge d → (b : Bool) → leb corner edge ≡ b
+    → Between corner d c ⊎ Between corner c d
+nearer corner edge c d p q b e = go b (leb c d) e refl
+  where
+    go : (b t : Bool) → leb corner edge ≡ b → leb c d ≡ t → Between corner d c ⊎ Between corner c d
+    go true true e f = inl (record { from = omega (arith, p .from, leb-true corner edge e); to = omega (arith, leb-true c d f) })
+    go true false e f = inr (record { from = omega (arith, q .from, leb-true corner edge e); to = omega (arith, leb-false c d f) })
+    go false true e f = inr (record { from = omega (arith, leb-true c d f); to = omega (arith, q .to, leb-false corner edge e) })
+    go false false e f = inl (record { from = omega (arith, leb-false c d f); to = omega (arith, p .to, leb-false corner edge e) })
+
+-- a column on the way to another, which is on the way to the edge, is not the edge where they differ
+short-of-edge : (corner edge c d : ℕ) → Between corner edge d → Between corner d c → c ≡ edge → c ≡ d
+short-of-edge corner edge c d p q e = omega (arith, p .from, p .to, q .from, q .to, e)
+
+module _ (corner goal : FieldCell) (apart-columns : corner .column ≡ goal .column → ⊥) where
+  abbrev Ends : FieldCell → Type 0
+  Ends = Slanted corner goal
+
+  same-rows : (e f : FieldCell) (p : Ends e) (q : Ends f) (c : ℕ) → p .rows c ≡ q .rows c
+  same-rows e f p q c =
+      let s = apart-some (goal .column) (corner .column) apart-columns in
+      nearest-only _ _ _ _ s (p .nearest-rows c) ∙ sym (nearest-only _ _ _ _ s (q .nearest-rows c))
+
+  -- an end is not before another
+  not-before : (e f : FieldCell) → Ends e → Ends f → Between (corner .column) (f .column) (e .column) → e .column ≡ f .column
+  not-before e f p q b = go (eqb (e .column) (f .column)) refl
+    where
+      go : (t : Bool) → eqb (e .column) (f .column) ≡ t → e .column ≡ f .column
+      go true t = eqb-true (e .column) (f .column) t
+      go false t =
+          let l = q .none-before (e .column) b (eqb-false (e .column) (f .column) t) in
+          let k = p .else-last (rw (same-rows e f p q (e .column)) l) in
+          short-of-edge (corner .column) (edge (rightward corner goal)) (e .column) (f .column) (q .tried) b (k .0)
+
+  same-column : (e f : FieldCell) → Ends e → Ends f → e .column ≡ f .column
+  same-column e f p q = go (nearer (corner .column) (edge (rightward corner goal)) (e .column) (f .column) (p .tried) (q .tried) _ refl)
+    where
+      go : Between (corner .column) (f .column) (e .column) ⊎ Between (corner .column) (e .column) (f .column) → e .column ≡ f .column
+      go (inl b) = not-before e f p q b
+      go (inr b) = sym (not-before f e q p b)
+
+  same-row : (e f : FieldCell) → Ends e → Ends f → e .row ≡ f .row
+  same-row e f p q = go (leb (p .rows (e .column)) (rowsBehind corner goal)) refl
+    where
+      r : p .rows (e .column) ≡ q .rows (f .column)
+      r = same-rows e f p q (e .column) ∙ ap (q .rows) (same-column e f p q)
+
+      go : (t : Bool) → leb (p .rows (e .column)) (rowsBehind corner goal) ≡ t → e .row ≡ f .row
+      go true t =
+          let l = leb-true _ _ t in
+          p .else-last l .1 ∙ ap (further (downward corner goal) (goal .row)) r ∙ sym (q .else-last (rw (← r) l) .1)
+      go false t =
+          let l = leb-false _ _ t in
+          p .leaves-there l ∙ sym (q .leaves-there (rw (← r) l))
+
+  pub slanted-once : (e f : FieldCell) → Ends e → Ends f → e ≡ f
+  slanted-once e f p q = rw (same-column e f p q, same-row e f p q)
+
+pub slanted-only : (corner goal end : FieldCell) → Slants corner goal → Slanted corner goal end → end ≡ lineEnd corner goal
+slanted-only corner goal end s p =
+    slanted-once corner goal (s .columns-differ) end (lineEnd corner goal) p
+    (end-slanted corner goal (s .corner-in) (s .columns-differ) (s .rows-differ))

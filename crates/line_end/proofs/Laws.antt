@@ -1,4 +1,4 @@
--- Where a corner's line ends, as later layers cite it. None of this leans on f32: the columns are tried away from the goal.
+-- Where a corner's line ends, as later layers cite it. None of this leans on which row is the nearest: the columns are tried away from the goal.
 --     end-answered    the call never refuses a corner and a goal of the sector: it answers the end
 --     end-inside      the end lies in the sector
 --     end-away        the end lies at or beyond the corner, away from the goal
@@ -6,16 +6,18 @@
 -- Assumes nothing.
 use mathlib.Core.Path.{_≡_, refl}
 use mathlib.Core.Bool.{Bool, true, false}
-use Prim.Native.Nat.{ℕ, _<_, _≤_}
+use Prim.Native.Nat.{ℕ, _+_, _<_, _≤_, min}
 use native.Mathlib.Omega.{arith}
 use lib.Dec.{ltb, eqb}
-use lib.IntN.{ℤ, pos, negsuc}
 use borrow.Author.Tests.{ltb-true, ltb-false, eqb-true, eqb-false}
 use Rattle.fields.specs.declared.FieldCell.{FieldCell}
 use Rattle.fields.specs.Cell.{Inside}
 use Rattle.fields.proofs.Steps.{true-inside}
-use Rattle.line_end.specs.Away.{Away, Between}
-use Rattle.line_end.specs.LineEnd.{rowOf, edge, lineRow, slantedEnd, endBy, lineEnd, answer, lineEndAnswer}
+use Rattle.nearest_line.specs.Line.{apart}
+use Rattle.nearest_line.specs.Nearest.{Spanned}
+use Rattle.nearest_line.proofs.Offset.{nearest-ge}
+use Rattle.line_end.specs.Away.{Away}
+use Rattle.line_end.specs.LineEnd.{edge, after, further, slantedEnd, endBy, lineEnd, answer, lineEndAnswer}
 use Rattle.line_end.proofs.First.{slanted-first}
 
 pub end-answered : (corner goal : FieldCell) → Inside corner → Inside goal → lineEndAnswer corner goal ≡ answer 0 (lineEnd corner goal)
@@ -23,25 +25,34 @@ unfolding lineEndAnswer
 end-answered corner goal h k = rw (true-inside corner h, true-inside goal k)
 
 -- ---- the end lies in the sector
-row-in : (z : ℤ) → rowOf z .row < 10
-row-in (pos n) = omega arith
-row-in (negsuc n) = omega arith
+-- the row of a slanted line's end: at least as far from the goal's as the corner's is
+row-in : (corner goal rows : ℕ) (b : Bool) → ltb goal corner ≡ b → corner < 10 → apart goal corner ≤ rows
+    → further b goal (min (after b goal) rows) < 10
+row-in corner goal rows true e h l = omega (arith, ltb-true goal corner e)
+row-in corner goal rows false e h l = omega (arith, ltb-false goal corner e)
 
 edge-in : (b : Bool) → edge b < 10
 edge-in true = omega arith
 edge-in false = omega arith
 
-by-inside : (p q : Bool) (corner goal : FieldCell) → Inside corner → Inside (endBy p q corner goal)
+by-inside : (p q : Bool) (corner goal : FieldCell) → Inside corner → eqb (corner .column) (goal .column) ≡ p → Inside (endBy p q corner goal)
 unfolding endBy slantedEnd
-by-inside true q corner goal h = record { column-in = h .column-in; row-in = edge-in (ltb (goal .row) (corner .row)) }
-by-inside false true corner goal h = record { column-in = edge-in (ltb (goal .column) (corner .column)); row-in = h .row-in }
-by-inside false false corner goal h =
-    let s = slanted-first corner goal (h .column-in) .first-ending in
-    record { column-in = omega (arith, s .tried-to, h .column-in, edge-in (ltb (goal .column) (corner .column))); row-in = row-in (lineRow corner goal _) }
+by-inside true q corner goal h e = record { column-in = h .column-in; row-in = edge-in (ltb (goal .row) (corner .row)) }
+by-inside false true corner goal h e = record { column-in = edge-in (ltb (goal .column) (corner .column)); row-in = h .row-in }
+by-inside false false corner goal h e =
+    let d = eqb-false (corner .column) (goal .column) e in
+    let s = slanted-first corner goal h d in
+    let t = s .tried .to in
+    let span = apart (goal .column) (corner .column) in
+    record {
+      column-in = omega (arith, t, h .column-in, edge-in (ltb (goal .column) (corner .column)));
+      row-in = row-in (corner .row) (goal .row) _ (ltb (goal .row) (corner .row)) refl (h .row-in)
+          (nearest-ge _ span (span + _) (omega (arith, d)) (omega arith));
+    }
 
 pub end-inside : (corner goal : FieldCell) → Inside corner → Inside (lineEnd corner goal)
 unfolding lineEnd
-end-inside corner goal h = by-inside (eqb (corner .column) (goal .column)) (eqb (corner .row) (goal .row)) corner goal h
+end-inside corner goal h = by-inside (eqb (corner .column) (goal .column)) (eqb (corner .row) (goal .row)) corner goal h refl
 
 -- ---- the end lies away from the goal
 -- the edge away from the goal, of a column or a row
@@ -87,11 +98,11 @@ by-away false true corner goal h e f =
     }
 by-away false false corner goal h e f =
     let k : corner .column ≡ goal .column → ⊥ = eqb-false (corner .column) (goal .column) e in
-    let s = slanted-first corner goal (h .column-in) .first-ending in
+    let s = slanted-first corner goal h k .tried in
     let w = edge-away (corner .column) (goal .column) (h .column-in) in
     record {
-      right = λ l. omega (arith, s .tried-from, w .beyond l);
-      left = λ l. omega (arith, s .tried-to, w .back (omega arith));
+      right = λ l. omega (arith, s .from, w .beyond l);
+      left = λ l. omega (arith, s .to, w .back (omega arith));
       in-column = λ l. absurd (k l);
       down = λ l. absurd (k l);
       up = λ l. absurd (k l);
@@ -106,7 +117,7 @@ end-away corner goal h = by-away (eqb (corner .column) (goal .column)) (eqb (cor
 same-cell : (a b : FieldCell) → a .column ≡ b .column → a .row ≡ b .row → a ≡ b
 same-cell a b p q = rw (p, q)
 
-away-misses : (corner goal end : FieldCell) → Away corner goal end → (corner ≡ goal → ⊥) → Between corner end goal → ⊥
+away-misses : (corner goal end : FieldCell) → Away corner goal end → (corner ≡ goal → ⊥) → Spanned corner end goal → ⊥
 away-misses corner goal end a d b =
     columns (ltb (goal .column) (corner .column)) (ltb (corner .column) (goal .column)) refl refl
   where
@@ -114,11 +125,11 @@ away-misses corner goal end a d b =
     rows true q k e f =
         let l = ltb-true (goal .row) (corner .row) e in
         let z = a .down k l in
-        omega (arith, b .row-from)
+        omega (arith, b .rows .from)
     rows false true k e f =
         let l = ltb-true (corner .row) (goal .row) f in
         let z = a .up k (omega arith) in
-        omega (arith, b .row-to)
+        omega (arith, b .rows .to)
     rows false false k e f =
         let l = ltb-false (goal .row) (corner .row) e in
         let m = ltb-false (corner .row) (goal .row) f in
@@ -128,15 +139,15 @@ away-misses corner goal end a d b =
     columns true q e f =
         let l = ltb-true (goal .column) (corner .column) e in
         let z = a .right l in
-        omega (arith, b .column-from)
+        omega (arith, b .columns .from)
     columns false true e f =
         let l = ltb-true (corner .column) (goal .column) f in
         let z = a .left l in
-        omega (arith, b .column-to)
+        omega (arith, b .columns .to)
     columns false false e f =
         let l = ltb-false (goal .column) (corner .column) e in
         let m = ltb-false (corner .column) (goal .column) f in
         rows (ltb (goal .row) (corner .row)) (ltb (corner .row) (goal .row)) (omega arith) refl refl
 
-pub misses-goal : (corner goal n : FieldCell) → Inside corner → (corner ≡ goal → ⊥) → Between corner (lineEnd corner goal) n → n ≡ goal → ⊥
+pub misses-goal : (corner goal n : FieldCell) → Inside corner → (corner ≡ goal → ⊥) → Spanned corner (lineEnd corner goal) n → n ≡ goal → ⊥
 misses-goal corner goal n h d b e = away-misses corner goal (lineEnd corner goal) (end-away corner goal h) d (rw e at b)

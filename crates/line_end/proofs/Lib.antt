@@ -1,4 +1,4 @@
-pub mod Floor
-pub mod Walk
 pub mod First
 pub mod Laws
+pub mod Mirror
+pub mod Promise

@@ -1,11 +1,15 @@
--- What the laws of a line's end speak of: where the end lies, and what lies between the corner and it.
+-- What is promised of a line's end, and what its laws speak of: where the end lies, apart from how it is worked out.
 -- Assumes nothing.
 use mathlib.Core.Path.{_≡_}
-use mathlib.Core.Bool.{Bool, true, false}
-use Prim.Native.Nat.{ℕ, _<_, _≤_, min, max}
+use mathlib.Core.Bool.{Bool}
+use Prim.Native.Nat.{ℕ, _<_, _≤_}
 use lib.Dec.{ltb}
 use Rattle.fields.specs.declared.FieldCell.{FieldCell}
-use Rattle.line_end.specs.LineEnd.{rowOf, endsOn, edge, lineRow}
+use Rattle.fields.specs.Cell.{Inside}
+use Rattle.nearest_line.specs.Line.{apart}
+use Rattle.nearest_line.specs.Nearest.{Between, NearestTo}
+use Rattle.line_end.specs.declared.LineEnd.{LineEnd}
+use Rattle.line_end.specs.LineEnd.{edge, after, further}
 
 -- A cell that lies at or beyond the corner, away from the goal. In the goal's column and in its row it lies on the line through both;
 -- up the column, and where the corner is the goal, on row 0.
@@ -17,23 +21,37 @@ pub record Away (corner goal end : FieldCell) : Type 0 where
   pub up : corner .column ≡ goal .column → corner .row ≤ goal .row → end .row ≡ 0
   pub in-row : (corner .column ≡ goal .column → ⊥) → corner .row ≡ goal .row → end .row ≡ corner .row
 
--- `end` is the first column that ends the line, of those tried from `column` on to `last`: none before it does, and it does itself or is the last.
-pub record First (ends : ℕ → Bool) (column last end : ℕ) : Type 0 where
-  pub tried-from : min column last ≤ end
-  pub tried-to : end ≤ max column last
-  pub none-before : (c : ℕ) → min column end ≤ c → c ≤ max column end → (c ≡ end → ⊥) → ends c ≡ false
-  pub ends-there : (end ≡ last → ⊥) → ends end ≡ true
+-- The end where the corner lies in neither the goal's column nor its row (02, "Job 11"). Rows are counted from the goal's, toward the corner's side:
+-- a row leaves 0 to 9 where it is further off than the rows that are behind the goal's there.
+module _ (corner goal : FieldCell) where
+  abbrev pub rightward : Bool
+  rightward = ltb (goal .column) (corner .column)
 
--- The end where the corner lies in neither the goal's column nor its row (01, "Integration: init": "the first whose row ..", "the first column at ..").
-pub record Slanted (corner goal end : FieldCell) : Type 0 where
-  pub first-ending :
-      let rightward = ltb (goal .column) (corner .column) in
-      First (λ (c : ℕ). endsOn rightward (rowOf (lineRow corner goal c))) (corner .column) (edge rightward) (end .column)
-  pub on-row : end .row ≡ rowOf (lineRow corner goal (end .column)) .row
+  abbrev pub downward : Bool
+  downward = ltb (goal .row) (corner .row)
 
--- a cell in the rectangle that two cells span
-pub record Between (a b n : FieldCell) : Type 0 where
-  pub column-from : min (a .column) (b .column) ≤ n .column
-  pub column-to : n .column ≤ max (a .column) (b .column)
-  pub row-from : min (a .row) (b .row) ≤ n .row
-  pub row-to : n .row ≤ max (a .row) (b .row)
+  abbrev pub rowsBehind : ℕ
+  rowsBehind = after downward (goal .row)
+
+  pub record Slanted (end : FieldCell) : Type 0 where
+    -- the nearest row of each column to the exact ray from goal through corner, and of two equally near the one nearer the goal's
+    pub rows : ℕ → ℕ
+    pub nearest-rows : (c : ℕ)
+        → NearestTo (apart (goal .row) (corner .row)) (apart (goal .column) (corner .column)) (apart (goal .column) c) (rows c)
+    -- the first column whose row leaves, of those from the corner's own to the edge column away from the goal
+    pub tried : Between (corner .column) (edge rightward) (end .column)
+    pub none-before : (c : ℕ) → Between (corner .column) (end .column) c → (c ≡ end .column → ⊥) → rows c ≤ rowsBehind
+    -- it ends the line on that edge row; where none leaves, the edge column ends it, on its row
+    pub leaves-there : rowsBehind < rows (end .column) → end .row ≡ edge downward
+    pub else-last : rows (end .column) ≤ rowsBehind → (end .column ≡ edge rightward) × (end .row ≡ further downward (goal .row) (rows (end .column)))
+
+-- a pair of the sector, of unequal columns and unequal rows
+pub record Slants (corner goal : FieldCell) : Type 0 where
+  pub corner-in : Inside corner
+  pub goal-in : Inside goal
+  pub columns-differ : corner .column ≡ goal .column → ⊥
+  pub rows-differ : corner .row ≡ goal .row → ⊥
+
+-- what the call promises of such a pair's end
+abbrev pub HoldsSlanted : FieldCell → FieldCell → LineEnd → Type 0
+HoldsSlanted corner goal r = Slants corner goal → Slanted corner goal (r .cell)

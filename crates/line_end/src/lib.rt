@@ -1,59 +1,19 @@
 // Where the line of a corner ends: on the edge of the sector, away from the goal.
 use fields::FieldCell;
 ghost use mathlib.Core.Path.{_≡_};
-ghost use mathlib.Core.Bool.{_||_};
-ghost use Prim.Native.Nat.{_<_};
-ghost use lib.Dec.{eqb};
+ghost use Prim.Native.Nat.{_<_, _≤_, min};
+ghost use lib.Dec.{ltb};
 ghost use Rattle.fields.specs.Cell.{Inside};
-ghost use Rattle.line_end.specs.LineEnd.{floor, rowAt, rowOf, endsOn, edge, next, after, slantedEnd, lineEnd, lineEndAnswer};
+ghost use Rattle.nearest_line.specs.Line.{nearest};
+ghost use Rattle.line_end.specs.LineEnd.{edge, after, further, firstLeaving, slantedEnd, lineEnd, lineEndAnswer};
+ghost use Rattle.line_end.specs.Away.{HoldsSlanted};
+ghost use Rattle.line_end.specs.Mirror.{HoldsMirrored};
 
 // What the call answers: 0 and the cell that the line ends in, or the number of a refusal.
 #[repr(C)]
 pub struct LineEnd {
     pub number: u8,
     pub cell: FieldCell,
-}
-
-// A row of the line: whether it lies outside 0 to 9, and the row itself or else the edge row on that side.
-struct Row {
-    outside: bool,
-    row: usize,
-}
-
-// The greatest whole number that is not above x, by counting: the program's own floor.
-fn floor_row(x: f32) -> Row
-    ensures { λ r. ⌜ r ≡ rowOf (floor x) ⌝ }
-{
-    if x < 0.0 {
-        return Row {
-            outside: true,
-            row: 0,
-        };
-    }
-    let mut row: u8 = 0;
-    while row < 10 {
-        let next = row + 1;
-        if next as f32 <= x {
-            row = next;
-        } else {
-            return Row {
-                outside: false,
-                row: row as usize,
-            };
-        }
-    }
-    Row {
-        outside: true,
-        row: 9,
-    }
-}
-
-// The row of the line at a column.
-fn row_at(gradient: f32, intercept: f32, column: usize) -> Row
-    requires { ⌜ column < 10 ⌝ }
-    ensures { λ r. ⌜ r ≡ rowOf (rowAt gradient intercept column) ⌝ }
-{
-    floor_row(gradient * (column as f32) + intercept)
 }
 
 // The edge away from the goal, of a column or row: 9 where it lies beyond the goal's, else 0.
@@ -63,44 +23,66 @@ fn edge(beyond: bool) -> usize
     if beyond { 9 } else { 0 }
 }
 
-// Whether the line ends in a column, on its row there: the last column ends it on any row.
-fn is_end(rightward: bool, column: usize, row: Row) -> bool
-    ensures { λ r. ⌜ r ≡ (endsOn rightward row || eqb column (edge rightward)) ⌝ }
+// How many columns or rows are behind one, up to 9 or down to 0.
+fn after(beyond: bool, x: usize) -> usize
+    requires { ⌜ x < 10 ⌝ }
+    ensures { λ r. ⌜ (r ≡ after beyond x) × (r < 10) ⌝ }
 {
-    if row.outside {
-        return true;
-    }
-    if rightward {
-        return column == 9;
-    }
-    if row.row == 0 {
-        return true;
-    }
-    column == 0
+    if beyond { 9 - x } else { x }
 }
 
-// The column tried after a column that is not the last.
-fn next_column(rightward: bool, column: usize) -> usize
-    requires { ⌜ (column < 10) × (0 < after rightward column) ⌝ }
-    ensures { λ r. ⌜ r ≡ next rightward column ⌝ }
+// The column or row that is `d` behind one.
+fn further(beyond: bool, x: usize, d: usize) -> usize
+    requires { ⌜ (x < 10) × (d ≤ after beyond x) ⌝ }
+    ensures { λ r. ⌜ r ≡ further beyond x d ⌝ }
 {
-    if rightward { column + 1 } else { column - 1 }
+    if beyond { x + d } else { x - d }
 }
 
-// Tries the columns from `column` on, away from the goal, until one ends the line.
-fn slanted_end(gradient: f32, intercept: f32, column: usize, rightward: bool) -> FieldCell
-    requires { ⌜ column < 10 ⌝ }
-    ensures { λ r. ⌜ r ≡ slantedEnd (rowAt gradient intercept) column rightward ⌝ }
+fn smaller(a: usize, b: usize) -> usize
+    ensures { λ r. ⌜ r ≡ min a b ⌝ }
 {
-    let mut end_col = column;
-    let mut end_row = row_at(gradient, intercept, column);
-    while !is_end(rightward, end_col, end_row) {
-        end_col = next_column(rightward, end_col);
-        end_row = row_at(gradient, intercept, end_col);
+    if a <= b { a } else { b }
+}
+
+// The nearest whole number to k * rise / span, and of two equally near the smaller.
+fn nearest_row(rise: usize, span: usize, k: usize) -> usize
+    requires { ⌜ (rise < 10) × (0 < span) × (span < 10) × (k < 20) ⌝ }
+    ensures { λ r. ⌜ r ≡ nearest rise span k ⌝ }
+{
+    (2 * (k * rise) + span - 1) / (2 * span)
+}
+
+// The first column, counted from the corner's own, whose row leaves 0 to 9, or else the last: `behind` rows are behind the goal's, and
+// `columns` columns behind the corner's.
+fn first_leaving(rise: usize, span: usize, behind: usize, columns: usize) -> usize
+    requires { ⌜ (rise < 10) × (0 < span) × (span < 10) × (columns < 10) ⌝ }
+    ensures { λ r. ⌜ (r ≡ firstLeaving rise span behind columns) × (r ≤ columns) ⌝ }
+{
+    let mut j = 0;
+    while j < columns {
+        let k = span + j;
+        if nearest_row(rise, span, k) > behind {
+            return j;
+        }
+        j += 1;
     }
+    j
+}
+
+// The end of a line off the goal's column and row. The two tests say whether the corner lies right of the goal and below it.
+fn slanted_end(rightward: bool, downward: bool, corner: FieldCell, goal: FieldCell) -> FieldCell
+    requires { ⌜ Inside corner × Inside goal × (corner .column ≡ goal .column → ⊥) ⌝ }
+    ensures { λ r. ⌜ r ≡ slantedEnd rightward downward corner goal ⌝ }
+{
+    let rise = nearest_line::distance(goal.row, corner.row);
+    let span = nearest_line::distance(goal.column, corner.column);
+    let behind = after(downward, goal.row);
+    let j = first_leaving(rise, span, behind, after(rightward, corner.column));
+    let rows = smaller(behind, nearest_row(rise, span, span + j));
     FieldCell {
-        column: end_col,
-        row: end_row.row,
+        column: further(rightward, corner.column, j),
+        row: further(downward, goal.row, rows),
     }
 }
 
@@ -111,29 +93,24 @@ fn corner_line_end(corner: FieldCell, goal: FieldCell) -> FieldCell
 {
     let column = corner.column;
     let row = corner.row;
-    let goal_column = goal.column;
-    let goal_row = goal.row;
-    if column == goal_column {
-        let row = edge(row > goal_row);
+    let rightward = column > goal.column;
+    let downward = row > goal.row;
+    if column == goal.column {
+        let row = edge(downward);
         return FieldCell { column, row };
     }
-    if row == goal_row {
-        let column = edge(column > goal_column);
+    if row == goal.row {
+        let column = edge(rightward);
         return FieldCell { column, row };
     }
-    let delta_column = column as f32 - goal_column as f32;
-    let delta_row = row as f32 - goal_row as f32;
-    let gradient = delta_row / delta_column;
-    let intercept = -gradient * (column as f32) + row as f32;
-    if column > goal_column {
-        return slanted_end(gradient, intercept, column, true);
-    }
-    slanted_end(gradient, intercept, column, false)
+    slanted_end(rightward, downward, corner, goal)
 }
 
 // Where the line of a corner ends, or 13 for a column or row outside 0 to 9.
 pub fn check_los_corner_propagation(corner: FieldCell, goal: FieldCell) -> LineEnd
-    ensures { λ r. ⌜ r ≡ lineEndAnswer corner goal ⌝ }
+    ensures answer { λ r. ⌜ r ≡ lineEndAnswer corner goal ⌝ }
+    ensures slanted { λ r. ⌜ HoldsSlanted corner goal r ⌝ }
+    ensures mirrored { λ r. ⌜ HoldsMirrored corner goal r ⌝ }
 {
     if corner.is_inside() {
         if goal.is_inside() {

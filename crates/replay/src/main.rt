@@ -92,7 +92,7 @@ fn replay(section: u8, name: &[u8], length: usize) {
 
 fn main() {
     replay(0, b"line", 16);
-    replay(1, b"line_end", 8);
+    replay(1, b"line_end.altered", 8);
     replay(2, b"readers", 8);
     replay(3, b"init.altered", 710);
     replay(3, b"init.table", 710);

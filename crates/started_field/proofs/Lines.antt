@@ -45,10 +45,9 @@ module _ (goal corner : ℕ) (corner-in : corner < 100) where
 
   passes : (corner ≡ goal → ⊥) → (i : ℕ) → i < length (cornerLine goal corner) → getD (cornerLine goal corner) i 0 ≡ goal → ⊥
   passes apart i h e =
-      let p = line-spanned (cellAt corner) end i (omega (arith, as-long)) in
       misses-goal (cellAt corner) (cellAt goal) (getD cells i (cell 0 0)) from-inside
       (λ q. apart (sym (index-of-cell corner) ∙ ap indexOf q ∙ index-of-cell goal))
-      (record { column-from = p .columns .from; column-to = p .columns .to; row-from = p .rows .from; row-to = p .rows .to })
+      (line-spanned (cellAt corner) end i (omega (arith, as-long)))
       (sym (cell-of-index (getD cells i (cell 0 0)) (inside-at i h)) ∙ ap cellAt (sym (at i) ∙ e))
 
 pub corner-lines : (goal : ℕ) → Lines goal (cornerLine goal)

@@ -31,7 +31,7 @@ goal-inside c = subst Inside (sym (c .before .from-index2 .ensures)) (cell-insid
 
 -- the call answers number 0 and the end
 answered : (c : Ended) → c .check-los-corner-propagation .result ≡ answer 0 (lineEnd (c .before .before .from-index .result) (c .before .from-index2 .result))
-answered c = c .check-los-corner-propagation .ensures ∙ end-answered _ _ (from-inside c) (goal-inside c)
+answered c = c .check-los-corner-propagation .ensures .0 ∙ end-answered _ _ (from-inside c) (goal-inside c)
 
 -- the end lies in the sector, and is the definition's
 end-within : (c : Ended) → Inside (c .check-los-corner-propagation .result .cell)
