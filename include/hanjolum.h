@@ -17,8 +17,6 @@
  * one 1,328, and the compiler copies them to the stack. Padding between and behind the parts of an answer is not set:
  * compare its parts, not its bytes.
  *
- * Floating point.  Sight uses single precision, rounded to nearest: leave the processor's mode as a C program starts.
- *
  * Cells.  A sector is ten by ten cells; the cell at a column and a row has the index row * 10 + column, row 0 is north.
  * A cost field is 100 cost bytes by index; 255 is a wall, and no goal and no window cell may stand on one (16). A sheet of
  * a sector is 100 flow bytes by index.
@@ -339,7 +337,8 @@ HanjolumLine hanjolum_walk_bresenham_shallow(size_t col_0, size_t row_0, size_t 
 HanjolumLine hanjolum_walk_bresenham_steep(size_t col_0, size_t row_0, size_t col_1, size_t row_1);
 
 /*
- * The cell at the edge of the sector in which the line of a corner, away from the goal, ends.
+ * The cell at the edge of the sector in which the line of a corner, away from the goal, ends. A pair with unequal columns
+ * and unequal rows, mirrored left to right or top to bottom, ends mirrored.
  * Number 13.
  */
 HanjolumLineEnd hanjolum_line_end(size_t corner_column, size_t corner_row, size_t goal_column, size_t goal_row);
