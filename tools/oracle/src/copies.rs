@@ -131,8 +131,8 @@ copy_of_the_rust! {
 }
 
 copy_of_the_rust! {
-    /// The same with the one rule altered that document 02, Job 7 asks for.
-    altered, either_wall
+    /// The same with two rules altered, those that document 02 asks for: of diagonals (Job 7) and of line ends (Job 11).
+    altered, altered
 }
 
 copy_of_the_rust! {

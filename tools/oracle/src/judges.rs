@@ -7,7 +7,7 @@ use std::cell::Cell;
 pub enum Judge {
     /// The Rust's nine files as they are.
     Published,
-    /// The copy of them with the rule of diagonals that document 02, Job 7 asks for.
+    /// The copy of them with the rules of diagonals and of line ends that document 02, Jobs 7 and 11 ask for.
     Altered,
     /// The copy of them with one line more: the wave count, beside the copy that decides the cells.
     Counted,

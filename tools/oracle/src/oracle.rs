@@ -1,7 +1,7 @@
 //! The oracle: refusal numbers by the table of documents 01 and 02, everything else by the Rust, but for what has no Rust,
 //! leg files, legs in which some window cell does not count, practice floors and bounds (02, Jobs 1, 2, 6 and 9), which the
-//! model answers. What diagonals decide, `init`, `build` of a flow field, the sector call and a leg, is the Rust's altered in
-//! these tests alone (02, Job 7); what did not move is the published Rust's. A step whose goal or some window cell is of
+//! model answers. What diagonals and line ends decide, `init`, `build` of a flow field, the sector call, a leg and the line end
+//! itself, is the Rust's altered in these rules alone (02, Jobs 7 and 11); what did not move is the published Rust's. A step whose goal or some window cell is of
 //! cost 255 (02, Job 3) is the table's, and the Rust, which takes it, is not asked. Wave counts come from the counted copy,
 //! whose fields are asserted equal to those of the copy that decides. Positions (02, Job 10), which the Rust does not have,
 //! are the model's, over the cells that the Rust built. Each judge is noted where it is asked.
@@ -17,7 +17,7 @@ pub struct Oracle;
 /// The judges of a call that the table takes.
 pub fn judges(call: Call) -> &'static [Judge] {
     match call {
-        Call::FlowBuild => &[Judge::Altered],
+        Call::LineEnd | Call::FlowBuild => &[Judge::Altered],
         Call::Init => &[Judge::Altered, Judge::Model],
         Call::Build => &[Judge::Published, Judge::Counted, Judge::Model],
         Call::Sector => &[Judge::Altered, Judge::Counted, Judge::Model],
@@ -142,8 +142,8 @@ impl Subject for Oracle {
         if number != 0 {
             return refused::line_end(number);
         }
-        decides(Judge::Published);
-        LineEnd { number: 0, cell: published::line_end(corner, goal) }
+        decides(Judge::Altered);
+        LineEnd { number: 0, cell: altered::line_end(corner, goal) }
     }
 
     fn readings(&self, byte: u8) -> Readings {

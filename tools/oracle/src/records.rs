@@ -5,7 +5,7 @@
 //! | file | bytes | input | expected |
 //! |---|---|---|---|
 //! | line | 16 | source column, source row, target column, target row | number, count, 10 cell indexes |
-//! | line_end | 8 | corner column, corner row, goal column, goal row | number, column, row, 0 |
+//! | line_end.altered | 8 | corner column, corner row, goal column, goal row | number, column, row, 0 |
 //! | readers | 8 | byte | is_pathable, is_goal, is_portal_goal, has_line_of_sight, is_wall, direction, 0 |
 //! | init.altered | 710 | 100 costs, 8 step | number, count, 100 positions, 100 corners, 100 cells of 32 bits |
 //! | build | 1304 | 100 costs, 100 cells of 32 bits, count, 100 positions, 100 corners | number, waves, count, 100 positions, 100 corners, 100 cells of 32 bits |
@@ -22,8 +22,8 @@
 //! | bounds.model, bounds.table | 1115 | lengths of low, high and step, low in 101 places, high in 101, step in 9 | number, 100 least of 32 bits, 100 greatest of 32 bits, 100 marks |
 //!
 //! A file whose name has no dot holds answers of the published Rust. Behind a dot stands the judge of a file that has
-//! another: `altered`, the Rust altered in one rule (document 02, Job 7: a diagonal is barred if either cell beside it is a
-//! wall); `table`, the reading of the documents' table of refusals; or `model`, the model of the documents. Wave counts are
+//! another: `altered`, the Rust altered in two rules (document 02, Job 7: a diagonal is barred if either cell beside it is a
+//! wall; Job 11: a corner's line ends where the nearest rows of the exact ray leave the sector); `table`, the reading of the documents' table of refusals; or `model`, the model of the documents. Wave counts are
 //! those of the counted copy, and positions (document 02, Job 10), which the Rust does not have, those of the model.
 //!
 //! flow_new, flow_build.altered, sector.altered, sector.table: the flow calls do not look at a field's list, so none is
@@ -107,7 +107,7 @@ pub fn sections() -> Vec<Section> {
     let rng = || Rng::new(SEED);
     vec![
         Section { name: "line", length: 16, records: lines() },
-        Section { name: "line_end", length: 8, records: line_ends() },
+        Section { name: "line_end.altered", length: 8, records: line_ends() },
         Section { name: "readers", length: 8, records: readers() },
         Section { name: "init.altered", length: 710, records: inits(rng(), all_open) },
         Section { name: "init.table", length: 710, records: inits(rng(), inputs_on_walls) },
@@ -173,13 +173,14 @@ fn line_end([corner, goal]: [FieldCell; 2]) -> Vec<u8> {
     record
 }
 
-/// The ends that an exact floor would put elsewhere, then a seventh of all.
+/// The ends that document 02, Job 11 names, a quarter of those that an exact half decides, then a seventh of all.
 fn line_ends() -> Vec<Vec<u8>> {
-    let exact = Model { slip: Slip::ExactFloor };
-    let rounded = (0..CELLS * CELLS)
+    let named = [pair(3445), pair(7992), pair(3544)];
+    let otherwise = Model { slip: Slip::RayHalfAway };
+    let halves = (0..CELLS * CELLS)
         .map(pair)
-        .filter(|[corner, goal]| Oracle.line_end(*corner, *goal) != exact.line_end(*corner, *goal));
-    rounded.chain(some_pairs()).map(line_end).collect()
+        .filter(|[corner, goal]| Oracle.line_end(*corner, *goal) != otherwise.line_end(*corner, *goal));
+    named.into_iter().chain(halves.step_by(4)).chain(some_pairs()).map(line_end).collect()
 }
 
 fn readers() -> Vec<Vec<u8>> {

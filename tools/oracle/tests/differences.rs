@@ -113,43 +113,104 @@ fn the_paper_as_told() {
     assert_eq!(differing[0], (FieldCell { column: 0, row: 0 }, FieldCell { column: 2, row: 1 }));
 }
 
-/// How many of the 10,000 pairs a slip changes.
-fn changed(slip: Slip, ends: bool) -> usize {
+/// How many of the 10,000 lines a slip changes.
+fn changed(slip: Slip) -> usize {
     let model = Model { slip };
     let cells = (0..CELLS * CELLS).map(|k| (FieldCell::from_index(k / CELLS), FieldCell::from_index(k % CELLS)));
-    let differs = |(a, b): &(FieldCell, FieldCell)| {
-        if ends { model.line_end(*a, *b) != Oracle.line_end(*a, *b) } else { model.line(*a, *b) != Oracle.line(*a, *b) }
+    cells.filter(|(a, b)| model.line(*a, *b) != Oracle.line(*a, *b)).count()
+}
+
+/// What a line's end was before document 02, Job 11, with the row at a column worked out so: rightward the first column whose
+/// row is above 9 or below 0; leftward also the first at row 0; else the edge column.
+fn old_end(corner: FieldCell, goal: FieldCell, row_at: impl Fn([i32; 4], i32) -> i32) -> FieldCell {
+    let at @ [column, row, toward_column, toward_row] =
+        [corner.column, corner.row, goal.column, goal.row].map(|x| x as i32);
+    if column == toward_column || row == toward_row {
+        return altered::line_end(corner, goal);
+    }
+    let (away, edge) = if column > toward_column { (1, 9) } else { (-1, 0) };
+    let ends = |x: &i32| {
+        let row = row_at(at, *x);
+        *x == edge || !(0..10).contains(&row) || (away < 0 && row == 0)
     };
-    cells.filter(differs).count()
+    let end = (0..10).map(|k| column + away * k).find(ends).expect("an edge column");
+    FieldCell { column: end as usize, row: row_at(at, end).clamp(0, 9) as usize }
+}
+
+/// The row in f32, floored; the exact row, floored; the nearest one, an exact half nearer the goal's.
+fn float_row([column, row, goal_column, goal_row]: [i32; 4], x: i32) -> i32 {
+    let gradient = (row - goal_row) as f32 / (column - goal_column) as f32;
+    (gradient * x as f32 + (-gradient * column as f32 + row as f32)).floor() as i32
+}
+
+fn floor_row([column, row, goal_column, goal_row]: [i32; 4], x: i32) -> i32 {
+    let run = column - goal_column;
+    goal_row + ((row - goal_row) * (x - goal_column) * run.signum()).div_euclid(run.abs())
+}
+
+fn nearest_row([column, row, goal_column, goal_row]: [i32; 4], x: i32) -> i32 {
+    let (rise, run) = ((row - goal_row).abs(), (column - goal_column).abs());
+    goal_row + (row - goal_row).signum() * ((2 * rise * (x - goal_column).abs() + run - 1) / (2 * run))
+}
+
+/// What the published Rust's rule for line ends is made of, and how many of the 10,000 ends each part moves: the rounding of
+/// f32, the floor, and the row 0 that ends a line leftward.
+#[test]
+fn numbers_of_line_ends() {
+    let cells = (0..CELLS * CELLS).map(|k| (FieldCell::from_index(k / CELLS), FieldCell::from_index(k % CELLS)));
+    let (mut moved, mut by_float) = ([0; 4], Vec::new());
+    for (corner, goal) in cells {
+        let rounded = old_end(corner, goal, float_row);
+        let floored = old_end(corner, goal, floor_row);
+        let nearest = old_end(corner, goal, nearest_row);
+        let due = altered::line_end(corner, goal);
+        assert_eq!(published::line_end(corner, goal), rounded);
+        assert!(nearest == due || corner.column < goal.column);
+        // From the goal's column on, no column before the corner's own would end the line.
+        let at = [corner.column, corner.row, goal.column, goal.row].map(|x| x as i32);
+        let between = at[0].min(at[2])..=at[0].max(at[2]);
+        assert!(at[0] == at[2] || between.into_iter().all(|x| (0..10).contains(&nearest_row(at, x))));
+        let parts = [rounded != floored, floored != nearest, nearest != due, rounded != due];
+        moved.iter_mut().zip(parts).for_each(|(count, part)| *count += usize::from(part));
+        if rounded != floored {
+            by_float.push((corner, goal));
+        }
+    }
+    println!("line ends moved: by an exact floor, then by the nearest row, then leftward, in all: {moved:?}");
+    println!("the first that an exact floor moves: {:?}", by_float[0]);
+    assert_eq!(moved, [16, 1208, 613, 1795]);
 }
 
 #[test]
-fn numbers_of_line_ends_and_lines() {
-    let counts = [Slip::ExactFloor, Slip::FusedMultiplyAdd, Slip::DoubleFloat].map(|slip| changed(slip, true));
-    println!("line ends changed by an exact floor, a fused multiply-add, f64: {counts:?}");
-    assert_eq!(counts, [16, 137, 31]);
-    let counts = [Slip::WalkedFromCorner, Slip::HalfOtherWay].map(|slip| changed(slip, false));
+fn numbers_of_lines() {
+    let counts = [Slip::WalkedFromCorner, Slip::HalfOtherWay].map(changed);
     println!("lines changed by walking from the corner, by the other half: {counts:?}");
     assert_eq!(counts, [1536, 3072]);
 }
 
-/// Each of the sixteen line ends that an exact floor changes is drawn by `init` on a floor of one wall.
+/// How many floors of one wall with a goal are started otherwise, and have another sheet, than with line ends in f32 and the
+/// same rule of diagonals; and that the altered Rust starts them as the model does.
 #[test]
-fn sixteen_line_ends_are_drawn() {
-    let exact = Model { slip: Slip::ExactFloor };
-    let pairs = (0..CELLS * CELLS).map(|k| (k / CELLS, k % CELLS)).filter(|(corner, goal)| {
-        let cells = [*corner, *goal].map(FieldCell::from_index);
-        exact.line_end(cells[0], cells[1]) != Oracle.line_end(cells[0], cells[1])
-    });
-    for (corner, goal) in pairs {
-        let drawn = (0..CELLS).find(|wall| {
-            let (costs, step) = (one_wall(*wall), goal_step(0, goal));
-            let field = Oracle.init(&costs, &step).field;
-            field != exact.init(&costs, &step).field && field.corners().contains(&corner)
-        });
-        println!("corner {corner}, goal {goal}, wall {drawn:?}");
-        assert!(drawn.is_some());
+fn floors_that_line_ends_change() {
+    let floats = Model { slip: Slip::FloatRays };
+    let (mut started, mut sheets, mut first) = (0, 0, None);
+    for (wall, goal) in (0..CELLS * CELLS).map(|k| (k / CELLS, k % CELLS)).filter(|(wall, goal)| wall != goal) {
+        let (costs, step) = (one_wall(wall), goal_step(0, goal));
+        let field = altered::started(&costs, &step);
+        assert_eq!(field, Model::PLAIN.init(&costs, &step).field);
+        let none = Previous { lent: false, numbers: &[] };
+        let mut bytes = [[0; CELLS]; 2];
+        Oracle.sector(&costs, &step, none, &mut bytes[0]);
+        floats.sector(&costs, &step, none, &mut bytes[1]);
+        sheets += usize::from(bytes[0] != bytes[1]);
+        if field != floats.init(&costs, &step).field {
+            started += 1;
+            first = first.or(Some((wall, goal)));
+        }
     }
+    println!("of 9900 floors of one wall and a goal {started} start otherwise and {sheets} have another sheet");
+    println!("the first: {first:?}");
+    assert!(started > 0 && sheets > 0);
 }
 
 /// `walk_sector_boundary` builds whole runs of cells open on both sides, toward a sector that exists.
@@ -271,11 +332,11 @@ fn arrows_that_turn_about() {
 
 #[test]
 fn traps() {
-    // The live field read within a wave: wall 1, goal 10, six waves become two.
+    // The live field read within a wave: wall 1, goal 10, five waves become two.
     let waves = |side: &dyn Subject| {
         side.sector(&one_wall(1), &goal_step(0, 10), Previous { lent: false, numbers: &[] }, &mut [0; CELLS]).waves
     };
-    assert_eq!((waves(&Oracle), waves(&Model { slip: Slip::LiveField })), (6, 2));
+    assert_eq!((waves(&Oracle), waves(&Model { slip: Slip::LiveField })), (5, 2));
     // Build lowers a listed corner and drops its flags: goal 20, wall 1.
     let started = Oracle.init(&one_wall(1), &goal_step(0, 20)).field;
     let built = Oracle.build(&one_wall(1), started).field;

@@ -104,8 +104,9 @@ fn lines_and_line_ends() {
         assert_eq!(side.line(at(2, 1), at(0, 0)).cells[1], at(1, 0));
         assert_eq!(side.line(at(0, 0), at(3, 1)).cells[..4], [at(0, 0), at(1, 0), at(2, 1), at(3, 1)]);
         assert_eq!(side.line_end(at(5, 3), at(4, 4)).cell, at(9, 0));
-        assert_eq!(side.line_end(at(4, 3), at(5, 4)).cell, at(1, 0));
-        assert_eq!(side.line_end(at(9, 7), at(2, 9)).cell, at(9, 6));
+        // The two that document 02, Job 11 moved.
+        assert_eq!(side.line_end(at(4, 3), at(5, 4)).cell, at(0, 0));
+        assert_eq!(side.line_end(at(9, 7), at(2, 9)).cell, at(9, 7));
     }
 }
 

@@ -12,6 +12,7 @@ fn names(name: &str) -> Vec<&'static str> {
 #[test]
 fn groups_name_their_judges() {
     assert_eq!(names("line"), ["published Rust"]);
+    assert_eq!(names("line end"), ["altered Rust"]);
     assert_eq!(names("init"), ["altered Rust", "table of refusals", "model"]);
     assert_eq!(names("build started"), ["published Rust", "counted copy", "model"]);
     assert_eq!(names("build, positions"), ["published Rust", "counted copy", "model"]);

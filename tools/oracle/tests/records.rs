@@ -84,8 +84,9 @@ fn a_file_with_another_judge_says_so_in_its_name() {
         let named = SAMPLE.iter().filter(|section| section.judges().contains(&judge));
         named.map(|section| section.name).collect::<Vec<&str>>()
     };
-    assert_eq!(by(Judge::Published), ["line", "line_end", "readers", "build", "flow_new"]);
-    assert_eq!(by(Judge::Altered), ["init.altered", "flow_build.altered", "sector.altered", "leg.altered"]);
+    assert_eq!(by(Judge::Published), ["line", "readers", "build", "flow_new"]);
+    let altered = ["line_end.altered", "init.altered", "flow_build.altered", "sector.altered", "leg.altered"];
+    assert_eq!(by(Judge::Altered), altered);
     assert_eq!(by(Judge::Counted), ["build", "sector.altered"]);
     assert_eq!(by(Judge::Table), ["init.table", "sector.table", "leg.table", "refusals.table", "bounds.table"]);
     let files = ["leg_file_write.model", "leg_file_read.model"];
@@ -115,10 +116,22 @@ fn lines() {
         let indexes: Vec<u8> = line.cells.iter().map(|cell| (cell.row * 10 + cell.column) as u8).collect();
         assert_eq!((line.number, line.count as u8, &indexes[..]), (r.byte(), r.byte(), r.bytes(10)));
     });
-    each("line_end", |r| {
-        let end = MODEL.line_end(r.cell(), r.cell());
-        assert_eq!((end.number, end.cell), (r.byte(), r.cell()));
-    });
+    each("line_end.altered", |r| assert!(ends_so(&MODEL, r)));
+}
+
+/// Whether a model answers what a record of a line's end says.
+fn ends_so(model: &Model, r: &mut Reader) -> bool {
+    let end = model.line_end(r.cell(), r.cell());
+    (end.number, end.cell) == (r.byte(), r.cell())
+}
+
+#[test]
+fn line_ends_show_every_slip() {
+    let slips = slips_of("line end: ");
+    assert_eq!(slips.len(), 15);
+    for (slip, text) in slips {
+        assert!(shown(*slip, "line_end.altered", ends_so), "not shown: {text}");
+    }
 }
 
 #[test]
@@ -265,10 +278,10 @@ fn goes_so(model: &Model, r: &mut Reader) -> (u8, bool) {
     (leg.number, model.leg(&leg.floor, leg.steps, &mut sheet) == leg.number && sheet == leg.sheet)
 }
 
-/// The rule of document 02, Job 7 decides some records of each file that it moves: a model that needs both walls beside a
-/// diagonal, in lines or in looks, answers them otherwise.
+/// The rules of document 02, Jobs 7 and 11 decide some records of each file that they move: a model that needs both walls
+/// beside a diagonal, in lines or in looks, answers them otherwise, and so does one with line ends in f32.
 #[test]
-fn one_wall_decides_records_of_each_file() {
+fn altered_rules_decide_records_of_each_file() {
     type Answers = fn(&Model, &mut Reader) -> (u8, bool);
     let told = |slip: Slip, name: &str, answers: Answers| {
         let section = section(name);
@@ -277,12 +290,14 @@ fn one_wall_decides_records_of_each_file() {
         assert!(wrong > 0);
     };
     told(Slip::TwoWallsStopLine, "init.altered", starts_so);
+    told(Slip::FloatRays, "init.altered", starts_so);
     told(Slip::TwoWallsBar, "flow_build.altered", looks_so);
     let planned: [(&str, Answers); 3] =
         [("sector.altered", plans_so), ("leg.altered", goes_so), ("leg.model", goes_so)];
     for (name, answers) in planned {
         told(Slip::TwoWallsStopLine, name, answers);
         told(Slip::TwoWallsBar, name, answers);
+        told(Slip::FloatRays, name, answers);
     }
 }
 

@@ -1,17 +1,17 @@
 //! Speed: our sector call against the Rust's `init`, `build`, `new`, `build` on the same inputs, from the same driver, in
 //! one run; and our leg against its sector calls, where every window cell counts, and by itself, where some do not. The Rust
-//! is the copy altered as document 02, Job 7 asks, which writes the same bytes. A few inputs are timed at once, and of many
+//! is the copy altered as document 02, Jobs 7 and 11 ask, which writes the same bytes. A few inputs are timed at once, and of many
 //! rounds the least time counts: another program that runs adds to a time and never takes from it.
 
 use std::hint::black_box;
 use std::process::ExitCode;
 use std::time::Instant;
 
-use either_wall::flowfields::fields::Field;
-use either_wall::flowfields::fields::cost_field::CostField;
-use either_wall::flowfields::fields::flow_field::FlowField;
-use either_wall::flowfields::fields::integration_field::IntegrationField as RustField;
-use either_wall::flowfields::route::RouteStep;
+use altered::flowfields::fields::Field;
+use altered::flowfields::fields::cost_field::CostField;
+use altered::flowfields::fields::flow_field::FlowField;
+use altered::flowfields::fields::integration_field::IntegrationField as RustField;
+use altered::flowfields::route::RouteStep;
 use oracle::command;
 use oracle::copies::altered::{cost_field, route_step};
 use oracle::floors::{self, Rng, Step};
@@ -201,7 +201,7 @@ fn measure_alone(legs: &[Leg]) -> f64 {
 fn sectors() {
     println!("nanoseconds a sector: {INPUTS} inputs, {AT_ONCE} timed at once, the least of {ROUNDS} rounds");
     println!(
-        "Rust: init, build, new, build of the copy that decides, altered as 02's Job 7 asks, from its own types made"
+        "Rust: init, build, new, build of the copy that decides, altered as 02's Jobs 7 and 11 ask, from its own types made"
     );
     println!("before; its flow field is new each time");
     println!("ours: the sector call, from bytes, refusals and answer by value included; `left` the sheet as the");

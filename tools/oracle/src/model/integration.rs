@@ -156,7 +156,7 @@ impl Model {
         let [in_row, in_column] = walls_beside_move(from, to, |cell| sight.wall(cell));
         match self.slip {
             Slip::DiagonalStopDropped => false,
-            Slip::TwoWallsStopLine => in_row && in_column,
+            Slip::TwoWallsStopLine | Slip::PublishedSight => in_row && in_column,
             Slip::LineSeesColumn => in_column,
             _ => in_row || in_column,
         }

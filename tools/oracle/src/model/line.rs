@@ -1,4 +1,4 @@
-//! Lines and their ends (01, "Line" and "Integration: init").
+//! Lines and their ends (01, "Line" and "Integration: init"; 02, Job 11).
 
 use super::{Model, Slip};
 
@@ -43,7 +43,7 @@ impl Model {
         (0..=steps).map(|k| (first.0 + toward * k, first.1 + aside * offset(k))).collect()
     }
 
-    /// The end of a corner's line.
+    /// The end of a corner's line: straight rays as 01 has them, others by 02, Job 11.
     pub(super) fn end_of_line(&self, corner: Place, goal: Place) -> Place {
         if corner.0 == goal.0 {
             let row_nine = corner.1 > goal.1 || (corner == goal && self.slips(Slip::CornerAtGoalRowNine));
@@ -52,51 +52,84 @@ impl Model {
         if corner.1 == goal.1 {
             return (if corner.0 > goal.0 { 9 } else { 0 }, corner.1);
         }
-        if corner.0 > goal.0 { self.end_rightward(corner, goal) } else { self.end_leftward(corner, goal) }
-    }
-
-    fn end_rightward(&self, corner: Place, goal: Place) -> Place {
-        for column in corner.0..9 {
-            match self.row_at(corner, goal, column) {
-                row if row > 9 => return (column, 9),
-                row if row < 0 && !self.slips(Slip::RightwardBelowZeroRunsOn) => return (column, 0),
-                _ => {}
-            }
-        }
-        (9, self.row_at(corner, goal, 9).clamp(0, 9))
-    }
-
-    fn end_leftward(&self, corner: Place, goal: Place) -> Place {
-        for column in (1..=corner.0).rev() {
-            match self.row_at(corner, goal, column) {
-                row if row > 9 => return (column, 9),
-                row if row <= 0 && !self.slips(Slip::LeftwardRowZeroRunsOn) => return (column, 0),
-                _ => {}
-            }
-        }
-        (0, self.row_at(corner, goal, 0).clamp(0, 9))
-    }
-
-    /// The row of the line at a column: gradient, intercept and row in f32, then floor.
-    fn row_at(&self, corner: Place, goal: Place, column: i32) -> i32 {
-        let (rise, run) = (corner.1 - goal.1, corner.0 - goal.0);
+        let steep = (corner.1 - goal.1).abs() > (corner.0 - goal.0).abs();
+        let turned = |(column, row): Place| (row, column);
         match self.slip {
-            Slip::ExactFloor => corner.1 + (rise * (column - corner.0) * run.signum()).div_euclid(run.abs()),
-            Slip::DoubleFloat => {
-                let gradient = f64::from(rise) / f64::from(run);
-                let intercept = -gradient * f64::from(corner.0) + f64::from(corner.1);
-                (gradient * f64::from(column) + intercept).floor() as i32
-            }
-            slip => {
-                let gradient = rise as f32 / run as f32;
-                let intercept = -gradient * corner.0 as f32 + corner.1 as f32;
-                let row = if slip == Slip::FusedMultiplyAdd {
-                    gradient.mul_add(column as f32, (-gradient).mul_add(corner.0 as f32, corner.1 as f32))
-                } else {
-                    gradient * column as f32 + intercept
-                };
-                row.floor() as i32
-            }
+            Slip::FloatRays | Slip::PublishedSight => float_end(corner, goal),
+            Slip::FloatRaysLeftward if corner.0 < goal.0 => float_end(corner, goal),
+            Slip::SteepRaysByRows if steep => turned(self.ray_end(turned(corner), turned(goal))),
+            _ => self.ray_end(corner, goal),
         }
     }
+
+    /// "Column by column from the corner's own, away from the goal", "the first column whose row leaves 0 to 9 ends there on
+    /// that edge row; otherwise the edge column ends it".
+    fn ray_end(&self, corner: Place, goal: Place) -> Place {
+        let away = if self.slips(Slip::RayTowardGoal) { goal.0 - corner.0 } else { corner.0 - goal.0 }.signum();
+        let edge = if away > 0 { 9 } else { 0 };
+        let mut before = corner;
+        for column in (0..10).map(|k| corner.0 + away * k) {
+            let row = self.ray_row(corner, goal, column);
+            if self.leaves(row, away) {
+                return if self.slips(Slip::RayEndsBefore) { before } else { (column, row.clamp(0, 9)) };
+            }
+            if column == edge {
+                return (column, row.clamp(0, 9));
+            }
+            before = (column, row);
+        }
+        unreachable!("an edge column is at most nine columns away")
+    }
+
+    /// Whether a row ends a ray before the edge column.
+    fn leaves(&self, row: i32, away: i32) -> bool {
+        match self.slip {
+            Slip::RayEdgeColumnFirst => false,
+            Slip::RayLeavesLate => !(-1..=10).contains(&row),
+            Slip::RayRowZeroLeftward if away < 0 => !(1..10).contains(&row),
+            _ => !(0..10).contains(&row),
+        }
+    }
+
+    /// "The nearest whole row to the exact ray from goal through corner; an exact half goes to the row nearer the goal's."
+    /// Every row is tried. Its distance from the ray is taken as many times as goal and corner are columns apart, which makes
+    /// it whole.
+    fn ray_row(&self, corner: Place, goal: Place, column: i32) -> i32 {
+        let (rise, run) = (corner.1 - goal.1, corner.0 - goal.0);
+        let distance = |row: i32| ((row - goal.1) * run - rise * (column - goal.0)).abs();
+        let rows = -90..100;
+        let nearest = rows.min_by_key(|row| {
+            let aside = match self.slip {
+                Slip::RayHalfAway => -(row - goal.1).abs(),
+                Slip::RayHalfNorth => *row,
+                Slip::RayHalfSouth => -row,
+                _ => (row - goal.1).abs(),
+            };
+            (distance(*row), aside)
+        });
+        let nearest = nearest.expect("rows are tried");
+        let (rows, columns) = (rise * run.signum() * (column - goal.0), run.abs());
+        match self.slip {
+            Slip::RayFloor => goal.1 + rows.div_euclid(columns),
+            Slip::RayCut => goal.1 + rows / columns,
+            Slip::RayColumnsFromGoal => nearest + rise,
+            _ => nearest,
+        }
+    }
+}
+
+/// The end that the published Rust gives, as 01 tells it: gradient, intercept and row in f32, then floor; leftward a row
+/// below 0 counts as 0, and the first column at row 0 ends the line.
+fn float_end(corner: Place, goal: Place) -> Place {
+    let gradient = (corner.1 - goal.1) as f32 / (corner.0 - goal.0) as f32;
+    let intercept = -gradient * corner.0 as f32 + corner.1 as f32;
+    let row_at = |column: i32| (gradient * column as f32 + intercept).floor() as i32;
+    let (away, edge) = if corner.0 > goal.0 { (1, 9) } else { (-1, 0) };
+    let columns = (0..10).map(|k| corner.0 + away * k).take_while(|column| *column != edge);
+    let ends = |column: &i32| {
+        let row = row_at(*column);
+        !(0..10).contains(&row) || (away < 0 && row == 0)
+    };
+    let column = columns.into_iter().find(ends).unwrap_or(edge);
+    (column, row_at(column).clamp(0, 9))
 }
