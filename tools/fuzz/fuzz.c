@@ -11,7 +11,8 @@
  * between, the sector call builds costs that lie between and meet the bounds, and gives each sure cell one and the same
  * arrow. init leaves every position at 255; of a built field, started or given with any positions, walls, cells in sight and
  * goals have none, lowered cells have one in the list, and building from that corner alone comes to the cell's cost, from an
- * earlier one not; the sector call has the same positions. A fault, and a run in which no call was accepted or none refused,
+ * earlier one not; the sector call has the same positions. A line's end is on the edge, and that of a corner and a goal in
+ * unequal columns and rows is mirrored where these are, left to right and top to bottom. A fault, and a run in which no call was accepted or none refused,
  * no leg of several steps planned, none refused with 15, no arrow followed, no diagonal one looked at, init, the sector call,
  * a leg or bounds never refused with 16, the sector call never with 17, bounds never with 18, no cell sure, no position
  * looked at with and without an earlier corner, or no practice floor with all three costs, is one line on standard error and
@@ -253,6 +254,29 @@ static void line(HanjolumLine l)
         fail("a refused line has cells");
     if (l.count > 10)
         fail("a line has more than ten cells");
+}
+
+/* The end of a corner's line, both cells mirrored left to right, or top to bottom, before and after. */
+static HanjolumFieldCell end_of(const size_t at[4], bool columns, bool rows)
+{
+    size_t c = columns ? 9 : 0, r = rows ? 9 : 0;
+    HanjolumLineEnd e = hanjolum_line_end(columns ? c - at[0] : at[0], rows ? r - at[1] : at[1], columns ? c - at[2] : at[2],
+                                          rows ? r - at[3] : at[3]);
+    if (e.number != 0)
+        fail("a line end of two cells is refused");
+    if (e.cell.column > 9 || e.cell.row > 9 || (e.cell.column % 9 != 0 && e.cell.row % 9 != 0))
+        fail("a line ends off the edge");
+    return (HanjolumFieldCell){columns ? c - e.cell.column : e.cell.column, rows ? r - e.cell.row : e.cell.row};
+}
+
+/* Ends of a slanted pair and of its mirror images. */
+static void mirrored(void)
+{
+    size_t at[4] = {below(10), below(10), below(10), below(10)};
+    HanjolumFieldCell e = end_of(at, false, false), turned[2] = {end_of(at, true, false), end_of(at, false, true)};
+    for (int k = 0; k < 2; k++)
+        if (at[0] != at[2] && at[1] != at[3] && (e.column != turned[k].column || e.row != turned[k].row))
+            fail("a mirrored pair does not end mirrored");
 }
 
 /* A wall under the goal or a window cell of the step at a place, as far as there are costs, or NULL. The costs of a leg's
@@ -589,6 +613,7 @@ static void round_of_calls(Fenced *costs, Fenced *route, Fenced *previous, Fence
     line(hanjolum_walk_bresenham_shallow(below(12), below(12), (size_t)draw() << below(40), below(12)));
     line(hanjolum_walk_bresenham_steep(below(12), (size_t)draw() << below(40), below(12), below(12)));
     hanjolum_line_end(below(12), below(12), (size_t)draw() << below(40), below(12));
+    mirrored();
 }
 
 /* A whole number of at most 18 digits, so that no seed makes the state 0, which would stay 0. */
