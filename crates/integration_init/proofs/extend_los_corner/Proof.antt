@@ -1,14 +1,14 @@
--- `integration_init::extend_los_corner` meets its contract: corner and goal lie in the sector, so the line end is not refused (number 13 is
--- never met), and the end and the line are the definition's and lie in the sector.
+-- `integration_init::extend_los_corner` meets its contract: the end that the table holds is the definition's and lies in the sector, and so the
+-- line is the definition's.
 -- Assumes nothing.
 use mathlib.Core.Path.{_≡_, sym, ap, ap₂, subst, _∙_}
 use borrow.Author.Needs.{needs}
 use lib.ListN.{take}
+use Rattle.fields.specs.declared.FieldCell.{FieldCell}
 use Rattle.fields.specs.Cell.{Inside, cellAt}
-use Rattle.fields.proofs.Steps.{cell-inside}
-use Rattle.line_end.specs.declared.LineEnd.{LineEnd}
-use Rattle.line_end.specs.LineEnd.{lineEnd, answer}
-use Rattle.line_end.proofs.Laws.{end-answered, end-inside}
+use Rattle.fields.proofs.Steps.{cell-inside, cell-of-index}
+use Rattle.line_end.specs.LineEnd.{lineEnd}
+use Rattle.line_end.proofs.Laws.{end-inside}
 use Rattle.nearest_line.specs.Line.{line}
 use Rattle.started_field.specs.Sight.{extended}
 use Rattle.started_field.specs.CornerLine.{cornerLine}
@@ -16,55 +16,60 @@ use Rattle.integration_init.proofs.Lines.{line-list, line-drawn}
 use Rattle.integration_init.proofs.extend_los_corner.Statement.{statement}
 use Rattle.integration_init.proofs.extend_los_corner.Tie as tie
 
--- the places: the call, the corner, the goal and the end
+-- the places: where corner and end are known as cells, and what the function is given
 abbrev Ended : Type 0
-Ended = tie.After-check-los-corner-propagation
+Ended = tie.After-from-index2
 
 abbrev start : Ended → tie.Start
-start c = c .before .before .before
+start c = c .before .before .before .before
 
-from-inside : (c : Ended) → Inside (c .before .before .from-index .result)
+abbrev from : Ended → FieldCell
+from c = c .before .before .from-index .result
+
+abbrev end : Ended → FieldCell
+end c = c .from-index2 .result
+
+-- the end by the definition
+abbrev defined : Ended → FieldCell
+defined c = lineEnd (cellAt (start c .args .corner)) (cellAt (start c .args .goal))
+
+from-inside : (c : Ended) → Inside (from c)
 from-inside c = subst Inside (sym (c .before .before .from-index .ensures)) (cell-inside (start c .args .corner) (start c .pre .1 .from-in))
 
-goal-inside : (c : Ended) → Inside (c .before .from-index2 .result)
-goal-inside c = subst Inside (sym (c .before .from-index2 .ensures)) (cell-inside (start c .args .goal) (start c .pre .1 .goal-in))
+defined-inside : (c : Ended) → Inside (defined c)
+defined-inside c = end-inside _ (cellAt (start c .args .goal)) (cell-inside (start c .args .corner) (start c .pre .1 .from-in))
 
--- the call answers number 0 and the end
-answered : (c : Ended) → c .check-los-corner-propagation .result ≡ answer 0 (lineEnd (c .before .before .from-index .result) (c .before .from-index2 .result))
-answered c = c .check-los-corner-propagation .ensures .0 ∙ end-answered _ _ (from-inside c) (goal-inside c)
+end-is : (c : Ended) → end c ≡ defined c
+end-is c = c .from-index2 .ensures ∙ ap cellAt (c .before .read-end .ensures) ∙ cell-of-index (defined c) (defined-inside c)
 
--- the end lies in the sector, and is the definition's
-end-within : (c : Ended) → Inside (c .check-los-corner-propagation .result .cell)
-end-within c = rw (answered c) (end-inside (c .before .before .from-index .result) (c .before .from-index2 .result) (from-inside c))
+end-within : (c : Ended) → Inside (end c)
+end-within c = subst Inside (sym (end-is c)) (defined-inside c)
 
-end-is : (c : Ended) → c .check-los-corner-propagation .result .cell ≡ lineEnd (cellAt (start c .args .corner)) (cellAt (start c .args .goal))
-end-is c = ap (λ (x : LineEnd). x .cell) (answered c) ∙ ap₂ lineEnd (c .before .before .from-index .ensures) (c .before .from-index2 .ensures)
+read-end-requires : tie.Need-read-end-requires
+read-end-requires c κs = let w = c .before .before .pre .1 in (w .table, w .from-in, w .goal-in)
 
 mark-line-requires : tie.Need-mark-line-requires
 mark-line-requires c κs =
     let b = c .before .before in
     let e = b .before in
-    let s = start e in (
-      s .pre .0,
-      (
-        line-drawn (e .before .before .from-index .result) (e .check-los-corner-propagation .result .cell) (from-inside e) (end-within e) (b .get-cells-between-points .result) (b .get-cells-between-points .ensures .0),
-        (s .pre .1 .from-in, s .pre .1 .wave-in),
-      ),
-    )
+    let s = start e in
+    let l = b .get-cells-between-points in
+    (s .pre .0, (line-drawn (from e) (end e) (from-inside e) (end-within e) (l .result) (l .ensures .0), (s .pre .1 .from-in, s .pre .1 .wave-in)))
 
 returns : tie.Need-returns
 unfolding extended cornerLine
 returns c =
     let b = c .before .before .before in
     let e = b .before in
-    let a = start e .args in
-    let l = b .get-cells-between-points .result in
-    let drawn : take (l .count) (l .cells) ≡ line (cellAt (a .corner)) (lineEnd (cellAt (a .corner)) (cellAt (a .goal))) =
-    line-list (e .before .before .from-index .result) (e .check-los-corner-propagation .result .cell) (from-inside e) (end-within e) l (b .get-cells-between-points .ensures .0)
+    let l = b .get-cells-between-points in
+    let drawn : take (l .result .count) (l .result .cells) ≡ line (cellAt (start e .args .corner)) (defined e) =
+    line-list (from e) (end e) (from-inside e) (end-within e) (l .result) (l .ensures .0)
     ∙ ap₂ line (e .before .before .from-index .ensures) (end-is e) in
     rw (← drawn) (c .mark-line .ensures)
 
 pub extend-los-corner-spec : {M : Type 1} → statement M
 extend-los-corner-spec = tie.close (tie.spec
-    (λ c κs. search needs) (λ c κs. search needs) (λ c κs. search needs) (λ c κs. search needs)
+    (λ c κs. search needs)
+    read-end-requires
+    (λ c κs. search needs) (λ c κs. search needs)
     mark-line-requires returns)

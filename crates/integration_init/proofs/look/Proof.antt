@@ -13,14 +13,14 @@ returns : tie.Need-returns
 returns c =
     let step = c .before .before in
     let cell = step .before in
-    let s = cell .before in
+    let s = cell .before .before in
     let e : stepped (cellAt (s .args .from)) (s .args .dir) ≡ Outside =
     step-told _ _ (cell .from-index .ensures) (step .get-in-compass-direction .ensures .0) (c .enum-told .given .1) in
     rw e (s .pre .0)
 
 -- what the function is given
 abbrev start : tie.After-known-told → tie.Start
-start c = c .before .before .before .before .before
+start c = c .before .before .before .before .before .before
 
 arrives : (c : tie.After-known-told) → stepped (cellAt (start c .args .from)) (start c .args .dir) ≡ Cell (c .before .neighbour .given .0 .0)
 arrives c =
@@ -31,7 +31,7 @@ index : (c : tie.After-as-1d-index) → let i = c .as-1d-index .result in (i ≡
 index c = index-told (stepped-cell _ _ _ (arrives (c .before)) .within) (c .as-1d-index .ensures)
 
 look-at-requires : tie.Need-look-at-requires
-look-at-requires c κs = let s = c .before .before .before .before .before .before .before .before .before in
+look-at-requires c κs = let s = c .before .before .before .before .before .before .before .before .before .before in
     (s .pre .0, (s .pre .1, index (c .before .before .before) .1))
 
 returns-2 : tie.Need-returns-2

@@ -11,42 +11,49 @@ use lib.Seq.{slice}
 use Rattle.utilities.specs.Compass.{orthogonal}
 use Rattle.started_field.specs.Sight.{Sight, lookedAround, waveLooked}
 use Rattle.started_field.specs.CornerLine.{cornerLine}
-use Rattle.integration_init.specs.Held.{sightOf, ReadyAll}
+use Rattle.integration_init.specs.Held.{sightOf, ReadyAll, Lent}
 use Rattle.integration_init.proofs.Held.{held-all, all-ready}
 use Rattle.integration_init.proofs.Looks.{wave-step, wave-end}
+use Rattle.integration_init.proofs.Walls.{lent-around}
 use Rattle.integration_init.proofs.look_wave.Statement.{statement}
 use Rattle.integration_init.proofs.look_wave.Tie as tie
 
 abbrev Inv-loop : tie.InvT-loop
-Inv-loop cells₀ corners₀ count wavefront size next₀ goal wavefront-cost counts₀ i₀ cells corners next counts i =
+Inv-loop cells₀ corners₀ count wavefront size next₀ goal wavefront-cost ends counts₀ i₀ cells corners next counts i =
     (i ≤ size)
     × (ReadyAll cells corners (counts .corners) next (counts .queued)
     × (waveLooked (cornerLine goal) wavefront-cost (take size wavefront) (sightOf cells₀ corners₀ count [])
-    ≡ waveLooked (cornerLine goal) wavefront-cost (slice i size wavefront) (sightOf cells corners (counts .corners) (take (counts .queued) next))))
+    ≡ waveLooked (cornerLine goal) wavefront-cost (slice i size wavefront) (sightOf cells corners (counts .corners) (take (counts .queued) next)))
+    × Lent ends cells)
 
 abbrev μ-loop : tie.MeasureT-loop
-μ-loop cells₀ corners₀ count wavefront size next₀ goal wavefront-cost counts₀ i₀ cells corners next counts i = size - i
+μ-loop cells₀ corners₀ count wavefront size next₀ goal wavefront-cost ends counts₀ i₀ cells corners next counts i = size - i
 
 loop-holds : tie.Need-loop-holds Inv-loop μ-loop
-loop-holds c = let a = c .args in
-    (search needs, (record { room = c .pre .0 .room; held = c .pre .0 .held; full = c .pre .1 .1 .0; queue-held = refl; queued-held = refl }, refl))
+loop-holds c =
+    let p = c .before .pre in (
+      search needs,
+      (record { room = p .0 .room; held = p .0 .held; full = p .1 .1 .0; queue-held = refl; queued-held = refl }, refl, p .1 .1 .1 .table),
+    )
 
 look-around-requires : tie.Need-look-around-requires Inv-loop μ-loop
 look-around-requires c κs =
     let told = c .before .before .before in
     let turn = told .before .before in
     let l = turn .before .loop in
-    let s = turn .before .before in
+    let s = turn .before .before .before in
+    let w = s .pre .1 .1 .1 in
     let from-in : told .index-of .result < 100 = omega (arith, told .index-of .ensures, s .pre .1 .0 .cells-in (l .i) (turn .loop-test .taken)) in
-    (l .inv .1 .0, record { wave-in = s .pre .1 .1 .1 .0; goal-in = s .pre .1 .1 .1 .1; from-in = from-in })
+    (l .inv .1 .0, record { wave-in = w .wave-in; goal-in = w .goal-in; from-in = from-in; table = l .inv .1 .2 })
 
 loop-again : tie.Need-loop-again Inv-loop μ-loop
 loop-again c =
     let told = c .before .before .before .before in
     let turn = told .before .before in
     let l = turn .before .loop in
-    let s = turn .before .before in
+    let s = turn .before .before .before in
     let a = s .args in
+    let w = s .pre .1 .1 .1 in
     let line = cornerLine (a .goal) in
     let long : a .size ≤ length (now (a .wavefront)) = omega (arith, s .pre .1 .0 .full, s .pre .1 .0 .count-in) in
     let held : Sight = sightOf (l .cells) (l .corners) (l .counts .corners) (take (l .counts .queued) (l .next)) in
@@ -58,11 +65,13 @@ loop-again c =
             ∙ wave-step line (a .wavefront-cost) (now (a .wavefront)) (a .size) (l .i) held (turn .loop-test .taken) long
             ∙ ap (λ (n : ℕ). rest (lookedAround line (a .wavefront-cost) n orthogonal held)) (sym (told .index-of .ensures))
             ∙ ap rest (sym (held-all (c .look-around .ensures))),
+        rw (c .look-around .ensures .held .cells-held)
+            (lent-around line (a .wavefront-cost) (w .wave-in) _ held _ _ (l .inv .1 .2)),
       ),
     )
 
 returns : tie.Need-returns Inv-loop μ-loop
-returns c = let a = c .before .before .args in let l = c .before .loop in
+returns c = let a = c .before .before .before .args in let l = c .before .loop in
     let s : Sight = sightOf (l .cells) (l .corners) (l .counts .corners) (take (l .counts .queued) (l .next)) in
     let e : l .i ≡ a .size = omega arith in
     rw (l .inv .1 .1

@@ -17,14 +17,14 @@ tried s side = let a = s .args in sideTried (cornerLine (a .goal)) (a .wavefront
 try-side-requires-2 : tie.Need-try-side-requires-2
 try-side-requires-2 c κs =
     let first = c .before .before .before .before .before .before in
-    let s = first .before in
+    let s = first .before .before in
     (applied-ready (s .pre .0) (tried s (first .lower-side .result)) (c .before .before .before .try-side .ensures), s .pre .1)
 
 returns : tie.Need-returns
 unfolding wallMet
 returns c =
     let first = c .before .before .before .before .before .before .before in
-    let s = first .before in
+    let s = first .before .before in
     let second = c .before in
     let e : first .lower-side .result ≡ lowerSide (s .args .dir) = first .lower-side .ensures in
     let f : second .inverse .result ≡ opposite (lowerSide (s .args .dir)) = second .inverse .ensures ∙ ap opposite e in
