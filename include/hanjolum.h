@@ -42,7 +42,8 @@
  * those that its function names, writes not one byte of what it is lent, and has every other part of its answer zero.
  *     1   cost bytes not 100 (leg: 6,400)
  *     2   sheet not 100 bytes (leg: 6,400)
- *     3   step not 8 bytes (leg: none, over 128, or no multiple of 8)
+ *     3   step not 8 bytes (leg: none, over 128, or no multiple of 8; window costs: no multiple of 8)
+ *     19  window costs: fewer than 2 or more than 8 steps, none among them; after 3
  *     4   sector over 63, mark over 1, or byte 6 or 7 not 0
  *     5   mark 0: goal over 99
  *     6   mark 1: a window cell over 99, or boundary over 3
@@ -58,13 +59,15 @@
  *     14  leg file: mark, version, count or length wrong
  *     15  leg: a window with no counting cell, found when its step is planned, after 10
  *     18  bounds: a step without window, low above high somewhere, or 255 in only one of the two; after 16
+ *     20  window costs: a step without window, or in another sector than the first's; after 16 for the same step
  * In a leg 4 to 8 and 16 are judged for one step before the next, 16 on the costs of the step's own sector, and for every
  * cell of a window, also for one that would not count. The writer of a leg file judges 3 as a leg does, and then 2 for a
- * buffer that is not exactly as long as the file. The call for bounds judges 1 for either floor, and 16 on both.
+ * buffer that is not exactly as long as the file. The call for bounds judges 1 for either floor, and 16 on both. The call
+ * for window costs judges 4 to 8, 16 and 20 for one step before the next.
  *
  * Time and stack.  Every call ends, on all input. Each wave is one call on the stack, of 576 bytes in the compiled
  * archive, and there are at most 101 at a time: no call needs as much as 80,000 bytes (read off the archive, not proved).
- * Give a thread that calls sector, leg, bounds, init or build 256 KB.
+ * Give a thread that calls sector, leg, bounds, window costs, init or build 256 KB.
  */
 #ifndef HANJOLUM_H
 #define HANJOLUM_H
@@ -85,6 +88,7 @@ enum {
     HANJOLUM_CELLS = 100,      /* cells of a sector: its cost bytes, and the bytes of its sheet */
     HANJOLUM_STEP = 8,         /* bytes of a step */
     HANJOLUM_STEPS = 16,       /* steps of a leg, at most */
+    HANJOLUM_WINDOWS = 8,      /* steps of a call for window costs, at most */
     HANJOLUM_SECTORS = 64,     /* sectors of a floor */
     HANJOLUM_FLOOR = 6400,     /* bytes of a floor, and of its sheet */
     HANJOLUM_FILE_HEAD = 6,    /* bytes of a leg file before its steps */
@@ -186,6 +190,17 @@ typedef struct {
     bool sure[100];
 } HanjolumBounds;
 
+/* From one window to each of eight, in their places. */
+typedef struct {
+    uint32_t costs[8];
+} HanjolumWindowRow;
+
+/* A square of costs: from window i to window j in rows[i].costs[j]. */
+typedef struct {
+    uint8_t number;
+    HanjolumWindowRow rows[8];
+} HanjolumWindowCosts;
+
 /*
  * Plans one sector: starts the field of a step on 100 cost bytes, builds it, and writes its 100 flow bytes to the sheet,
  * whatever they were before. Answers the built field, with each cell's position, and its wave count.
@@ -226,6 +241,20 @@ HanjolumBounds hanjolum_bounds(
     const uint8_t *low, size_t low_length,
     const uint8_t *high, size_t high_length,
     const uint8_t *step, size_t step_length);
+
+/*
+ * Costs from window to window inside one sector: 100 cost bytes, and 2 to 8 steps with a window, one after the other, all
+ * of the same sector. Windows are numbered from 0 as listed.
+ * rows[i].costs[j] is the cost from window i to window j: the least cost of a cell of window i after building for window j
+ * alone, from all of j's cells. Some walk that begins in a cell of window j at 0 and ends in a cell of window i, each move to
+ * an orthogonal neighbour that is no wall and at that cell's cost, comes to it, and none comes to less. The cell of i is
+ * paid, and that of j is not: so i to j need not cost what j to i does. A window to itself costs 0, and so do windows that
+ * share a cell. 65535 says that no walk leads there, and stands in the rows and places beyond the last window.
+ * Writes nothing. Numbers 1, 3, 19, and of one step before the next 4 to 8, 16, 20.
+ */
+HanjolumWindowCosts hanjolum_window_costs(
+    const uint8_t *costs, size_t costs_length,
+    const uint8_t *steps, size_t steps_length);
 
 /*
  * Plans a leg of 1 to 16 steps over a floor, from the goal back: the first step has the goal, each later one a window
