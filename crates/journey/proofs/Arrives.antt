@@ -26,9 +26,11 @@ use Rattle.arrows.specs.Arrows.{Reached, arrow, Leads, ends, moves}
 use Rattle.arrows.specs.Promise.{WindowSector}
 use Rattle.arrows.proofs.Lead.{window-flow}
 use Rattle.counting.specs.Counting.{countingCells}
-use Rattle.leg_plan.specs.Leg.{part, stepsOf, planned}
-use Rattle.leg_plan.specs.Promise.{stepOf, sectorAt, portalAt, costsAt, builtAt, targetAt, LegPlanned}
-use Rattle.leg_plan.proofs.Steps.{steps-count}
+use Rattle.step_list.specs.Steps.{stepsOf}
+use Rattle.leg_plan.specs.Leg.{part, planned}
+use Rattle.step_list.specs.Steps.{stepOf}
+use Rattle.leg_plan.specs.Promise.{sectorAt, portalAt, costsAt, builtAt, targetAt, LegPlanned}
+use Rattle.step_list.proofs.Steps.{steps-count}
 use Rattle.leg_plan.proofs.Numbers.{Judged, ready}
 use Rattle.leg_plan.proofs.Planned as plan
 use Rattle.journey.specs.Place.{Place, placeOf, cellIn, FloorMove, Points}

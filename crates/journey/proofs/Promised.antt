@@ -4,7 +4,8 @@ use mathlib.Core.Path.{_≡_, sym, subst}
 use mathlib.Core.List.{List}
 use Prim.Native.Nat.{ℕ, _≤_}
 use lib.ListN.{getD}
-use Rattle.leg_plan.specs.Leg.{stepsOf, legNumber, planned, legSheet}
+use Rattle.step_list.specs.Steps.{stepsOf}
+use Rattle.leg_plan.specs.Leg.{legNumber, planned, legSheet}
 use Rattle.leg_plan.specs.Promise.{LegPlanned}
 use Rattle.leg_plan.proofs.Numbers.{accepted}
 use Rattle.leg_plan.proofs.Planned as plan

@@ -28,9 +28,11 @@ use Rattle.route.proofs.Targets.{held-listed, listed-held}
 use Rattle.sector.specs.Sector.{sectorField, sectorBytes}
 use Rattle.counting.specs.Counting.{legTarget, isClosed}
 use Rattle.counting.specs.Inner.{routeLegTarget}
-use Rattle.leg_plan.specs.Leg.{part, stepsOf, stepField, stepBytes, closedFrom, someClosed, withPart, plannedFrom, planned}
-use Rattle.leg_plan.specs.Inner.{stepAt, LegReady, copied}
-use Rattle.leg_plan.proofs.Steps.{stepsFrom, from-start, from-here, from-done}
+use Rattle.step_list.specs.Steps.{stepsOf}
+use Rattle.leg_plan.specs.Leg.{part, stepField, stepBytes, closedFrom, someClosed, withPart, plannedFrom, planned}
+use Rattle.step_list.specs.Inner.{stepAt}
+use Rattle.leg_plan.specs.Inner.{LegReady, copied}
+use Rattle.step_list.proofs.Steps.{stepsFrom, from-start, from-here, from-done}
 use Rattle.leg_plan.proofs.Sheet.{from-none, closed-from-none, copied-planned}
 use Rattle.leg_plan.proofs.Planned.{fits}
 use Rattle.counting.proofs.Counting.{leg-target-in, made-is, closed-listed}

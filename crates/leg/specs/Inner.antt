@@ -7,8 +7,9 @@ use Prim.Native.Nat.{ℕ, _/_, _<_}
 use lib.ListN.{length}
 use Rattle.route.specs.Step.{sectorOf, stepNumber}
 use Rattle.counting.specs.Counting.{legTarget, isClosed}
-use Rattle.leg_plan.specs.Leg.{stepsOf, stepField, stepBytes, someClosed, withPart, planned}
-use Rattle.leg_plan.specs.Inner.{stepAt}
+use Rattle.step_list.specs.Steps.{stepsOf}
+use Rattle.leg_plan.specs.Leg.{stepField, stepBytes, someClosed, withPart, planned}
+use Rattle.step_list.specs.Inner.{stepAt}
 use Rattle.leg.specs.declared.PlannedStep.{PlannedStep}
 
 -- a step that is not refused before it is planned, on a floor and a sheet of 64 sectors

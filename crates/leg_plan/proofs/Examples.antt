@@ -8,7 +8,8 @@ use Rattle.route.specs.Table.{firstNumber}
 use Rattle.route.specs.Window.{onEdge, edge, cellsBetween}
 use Rattle.route.specs.Step.{eachStepOn, noStepList}
 use Rattle.sectors.specs.Floor.{across}
-use Rattle.leg_plan.specs.Leg.{stepsIn, judgedRows}
+use Rattle.step_list.specs.Steps.{stepsIn}
+use Rattle.leg_plan.specs.Leg.{judgedRows}
 
 -- a floor of ones, and the number before a step is planned; on that floor, and with one wall on it
 abbrev ones : List ℕ

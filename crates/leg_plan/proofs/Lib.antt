@@ -1,5 +1,4 @@
 pub mod Examples
-pub mod Steps
 pub mod Numbers
 pub mod Walls
 pub mod Sheet

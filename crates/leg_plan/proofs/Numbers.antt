@@ -17,9 +17,11 @@ use borrow.Author.Tests.{eqb-true, eqb-false, eq-eqb}
 use Rattle.route.specs.Table.{Row, row, firstNumber}
 use Rattle.route.specs.Step.{isWindow, noStepList}
 use Rattle.route.proofs.Walls.{each-step-on, accepted-on}
-use Rattle.leg_plan.specs.Leg.{stepsOf, namesTwice, someGoal, outOfOrder, apart, floorNumber, eachRows, someClosed, judgedRows, legNumber}
-use Rattle.leg_plan.specs.Inner.{stepAt, LegReady}
-use Rattle.leg_plan.proofs.Steps.{neither, steps-count, step-of, step-long}
+use Rattle.step_list.specs.Steps.{stepsOf}
+use Rattle.leg_plan.specs.Leg.{namesTwice, someGoal, outOfOrder, apart, floorNumber, eachRows, someClosed, judgedRows, legNumber}
+use Rattle.step_list.specs.Inner.{stepAt}
+use Rattle.leg_plan.specs.Inner.{LegReady}
+use Rattle.step_list.proofs.Steps.{neither, steps-count, step-of, step-long}
 
 -- a number that is not 0 stays the first
 rows-first : (a b : List Row) → (firstNumber a ≡ 0 → ⊥) → firstNumber (a ++ b) ≡ firstNumber a

@@ -18,10 +18,12 @@ use Rattle.started_field.specs.Started.{started}
 use Rattle.sector.specs.Sector.{sectorField}
 use Rattle.sector.specs.Promise as sector
 use Rattle.sector.proofs.Planned.{sector-planned}
-use Rattle.leg_plan.specs.Leg.{part, stepsOf, legNumber, plannedFrom, planned, legSheet}
+use Rattle.step_list.specs.Steps.{stepsOf}
+use Rattle.leg_plan.specs.Leg.{part, legNumber, plannedFrom, planned, legSheet}
 use Rattle.leg_plan.specs.Inner.{LegReady}
-use Rattle.leg_plan.specs.Promise.{stepOf, sectorAt, targetAt, portalAt, hasBefore, costsAt, builtAt, builtBefore, LegPlanned}
-use Rattle.leg_plan.proofs.Steps.{steps-count, step-of}
+use Rattle.step_list.specs.Steps.{stepOf}
+use Rattle.leg_plan.specs.Promise.{sectorAt, targetAt, portalAt, hasBefore, costsAt, builtAt, builtBefore, LegPlanned}
+use Rattle.step_list.proofs.Steps.{steps-count, step-of}
 use Rattle.leg_plan.proofs.Numbers.{accepted, ready}
 use Rattle.counting.proofs.Counting.{leg-target-in, leg-target-on}
 use Rattle.leg_plan.proofs.Sheet.{Fits, full-after, kept, written, built-is}

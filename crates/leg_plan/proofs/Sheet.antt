@@ -21,9 +21,11 @@ use Rattle.sector.specs.Sector.{sectorField, sectorBytes}
 use Rattle.sector.proofs.Planned.{bytes-hundred, none-read}
 use Rattle.counting.specs.Counting.{legTarget}
 use Rattle.leg_plan.specs.Leg.{part, names, namesTwice, stepField, stepBytes, closedFrom, withPart, plannedFrom}
-use Rattle.leg_plan.specs.Inner.{stepAt, copied}
-use Rattle.leg_plan.proofs.Steps.{neither, stepsFrom, from-here}
-use Rattle.leg_plan.specs.Promise.{stepOf, sectorAt, targetAt, portalAt, costsAt, builtAt, hasBefore, builtBefore}
+use Rattle.step_list.specs.Inner.{stepAt}
+use Rattle.leg_plan.specs.Inner.{copied}
+use Rattle.step_list.proofs.Steps.{neither, stepsFrom, from-here}
+use Rattle.step_list.specs.Steps.{stepOf}
+use Rattle.leg_plan.specs.Promise.{sectorAt, targetAt, portalAt, costsAt, builtAt, hasBefore, builtBefore}
 
 -- the k elements from m on, cut the other way round
 part-of-front : (l : List ℕ) (m k : ℕ) → m ≤ length l → take k (drop m l) ≡ drop m (take (m + k) l)

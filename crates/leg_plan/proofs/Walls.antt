@@ -19,9 +19,10 @@ use Rattle.route.specs.Target as target
 use Rattle.route.specs.Target.{StepGoal, StepOnWall}
 use Rattle.route.proofs.Accepted.{accepted-goal}
 use Rattle.route.proofs.Walls.{each-step-on, sixteen-told}
-use Rattle.leg_plan.specs.Leg.{part, stepsOf, floorNumber, eachRows, outOfOrder, apart, someClosed, judgedRows, legNumber}
+use Rattle.step_list.specs.Steps.{stepsOf}
+use Rattle.leg_plan.specs.Leg.{part, floorNumber, eachRows, outOfOrder, apart, someClosed, judgedRows, legNumber}
 use Rattle.leg_plan.specs.Walls.{FloorWall, goal-on, window-on, LegOnWall}
-use Rattle.leg_plan.proofs.Steps.{steps-count, step-of, step-long}
+use Rattle.step_list.proofs.Steps.{steps-count, step-of, step-long}
 
 pub part-at : (bytes : List ℕ) (sector x : ℕ) → x < 100 → getD (part bytes sector) x 0 ≡ getD bytes (sector * 100 + x) 0
 part-at bytes sector x h = rw (getD-take, getD-drop)

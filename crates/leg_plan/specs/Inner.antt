@@ -3,14 +3,12 @@
 use mathlib.Core.Path.{_≡_}
 use mathlib.Core.Bool.{false}
 use mathlib.Core.List.{List, [], _∷_}
-use Prim.Native.Nat.{ℕ, _*_, _/_, _<_}
-use lib.ListN.{length, take, drop}
+use Prim.Native.Nat.{ℕ, _/_, _<_}
+use lib.ListN.{length}
 use Rattle.route.specs.Step.{sectorOf, stepNumber}
-use Rattle.leg_plan.specs.Leg.{part, stepsOf, namesTwice, withPart}
-
--- the step at place k of a list of bytes
-abbrev pub stepAt : List ℕ → ℕ → List ℕ
-stepAt steps k = take 8 (drop (k * 8) steps)
+use Rattle.step_list.specs.Steps.{stepsOf}
+use Rattle.step_list.specs.Inner.{stepAt}
+use Rattle.leg_plan.specs.Leg.{part, namesTwice, withPart}
 
 -- a leg of which nothing is refused before a step is planned
 pub record LegReady (floor steps : List ℕ) : Type 0 where

@@ -2,11 +2,12 @@
 -- Assumes nothing.
 use mathlib.Core.Bool.{Bool, true, false, cond, not, _||_}
 use mathlib.Core.List.{List, [], _∷_, _++_}
-use Prim.Native.Nat.{ℕ, zero, suc, _+_, _*_, _/_}
+use Prim.Native.Nat.{ℕ, _+_, _*_}
 use lib.Dec.{eqb}
 use lib.ListN.{length, take, drop}
 use Rattle.route.specs.Table.{Row, row, firstNumber}
 use Rattle.route.specs.Step.{sectorOf, isWindow, boundaryOf, portalOf, eachStepOn, noStepList}
+use Rattle.step_list.specs.Steps.{stepsOf}
 use Rattle.sectors.specs.declared.Across.{Across}
 use Rattle.sectors.specs.declared.Across.the-variants.{Sector, OffFloor}
 use Rattle.sectors.specs.Floor.{across}
@@ -16,15 +17,6 @@ use Rattle.counting.specs.Counting.{legTarget, isClosed}
 -- a sector's own 100 bytes, of a floor or of a sheet
 abbrev pub part : List ℕ → ℕ → List ℕ
 part bytes sector = take 100 (drop (sector * 100) bytes)
-
--- the first n steps of a list of bytes, 8 bytes each
-unfoldable pub stepsIn : ℕ → List ℕ → List (List ℕ)
-stepsIn zero bytes = []
-stepsIn (suc n) bytes = take 8 bytes ∷ stepsIn n (drop 8 bytes)
-
--- a list of bytes as its steps
-abbrev pub stepsOf : List ℕ → List (List ℕ)
-stepsOf bytes = stepsIn (length bytes / 8) bytes
 
 -- ---- the table, "each step" and "whole leg"
 

@@ -4,20 +4,17 @@ use mathlib.Core.Path.{_≡_}
 use mathlib.Core.Bool.{Bool, true, false}
 use mathlib.Core.List.{List, []}
 use Prim.Native.Nat.{ℕ, zero, suc, _<_}
-use lib.ListN.{length, getD}
+use lib.ListN.{length}
 use Rattle.route.specs.declared.PortalWindow.{PortalWindow}
 use Rattle.route.specs.Step.{sectorOf, portalOf}
 use Rattle.route.specs.Target.{Target}
+use Rattle.step_list.specs.Steps.{stepOf}
 use Rattle.integration_field.specs.Built.{waveCount}
 use Rattle.started_field.specs.Started.{started}
 use Rattle.sector.specs.Sector.{sectorField, sectorBytes}
 use Rattle.sector.specs.Promise.{Planned}
 use Rattle.counting.specs.Counting.{legTarget}
 use Rattle.leg_plan.specs.Leg.{part, names}
-
--- the step at a place of the list
-abbrev pub stepOf : List (List ℕ) → ℕ → List ℕ
-stepOf steps k = getD steps k []
 
 -- the sector that it names
 abbrev pub sectorAt : List (List ℕ) → ℕ → ℕ

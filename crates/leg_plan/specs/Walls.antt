@@ -7,7 +7,8 @@ use Prim.Native.Nat.{ℕ, _+_, _*_, _<_}
 use lib.ListN.{length, getD}
 use Rattle.route.specs.Step.{sectorOf, stepNumber, noStepList}
 use Rattle.route.specs.Target.{StepGoal, StepWindow}
-use Rattle.leg_plan.specs.Leg.{stepsOf, floorNumber}
+use Rattle.step_list.specs.Steps.{stepsOf}
+use Rattle.leg_plan.specs.Leg.{floorNumber}
 
 -- The goal, or a window cell, of a step has cost 255: cell x of sector s stands at s * 100 + x. That a step of a leg is refused with 16 exactly
 -- then, where 4 to 8 are not due, is `floor-told`, `proofs/Walls.antt`.

@@ -13,8 +13,8 @@ use native.Mathlib.Omega.{arith}
 use lib.ListN.{length, getD, take, drop, length-take, length-drop}
 use lib.Seq.{drop-drop, take-all, getD-take, getD-drop}
 use Rattle.route.specs.Step.{sectorOf, markOf, boundaryByte}
-use Rattle.leg_plan.specs.Leg.{stepsIn, stepsOf}
-use Rattle.leg_plan.specs.Inner.{stepAt}
+use Rattle.step_list.specs.Steps.{stepsIn, stepsOf}
+use Rattle.step_list.specs.Inner.{stepAt}
 
 pub neither : (a b : Bool) → (a || b) ≡ false → (a ≡ false) × (b ≡ false)
 neither true b e = absurd (true≢false e)

@@ -8,9 +8,10 @@ use denote.Ref.{now}
 use borrow.Author.Needs.{needs}
 use lib.ListN.{length, length-take, length-drop}
 use Rattle.route.specs.Step.{sectorOf}
-use Rattle.leg_plan.specs.Leg.{stepsOf}
-use Rattle.leg_plan.specs.Inner.{copied, stepAt}
-use Rattle.leg_plan.proofs.Steps.{stepsFrom, from-start, from-done, sector-at}
+use Rattle.step_list.specs.Steps.{stepsOf}
+use Rattle.step_list.specs.Inner.{stepAt}
+use Rattle.leg_plan.specs.Inner.{copied}
+use Rattle.step_list.proofs.Steps.{stepsFrom, from-start, from-done, sector-at}
 use Rattle.leg_plan.proofs.Sheet.{copied-more}
 use Rattle.leg.proofs.copy_parts.Statement.{statement}
 use Rattle.leg.proofs.copy_parts.Tie as tie

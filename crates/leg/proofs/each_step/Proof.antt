@@ -7,10 +7,11 @@ use native.Mathlib.Omega.{arith}
 use denote.Ref.{now}
 use lib.ListN.{length}
 use Rattle.route.specs.Table.{firstNumber}
-use Rattle.leg_plan.specs.Leg.{stepsOf, floorNumber, eachRows}
-use Rattle.leg_plan.specs.Inner.{stepAt}
+use Rattle.step_list.specs.Steps.{stepsOf}
+use Rattle.leg_plan.specs.Leg.{floorNumber, eachRows}
+use Rattle.step_list.specs.Inner.{stepAt}
 use Rattle.route.proofs.Rows.{tests}
-use Rattle.leg_plan.proofs.Steps.{stepsFrom, from-start, from-here, from-done, lent-step, step-long}
+use Rattle.step_list.proofs.Steps.{stepsFrom, from-start, from-here, from-done, lent-step, step-long}
 use Rattle.leg.proofs.each_step.Statement.{statement}
 use Rattle.leg.proofs.each_step.Tie as tie
 

@@ -4,9 +4,10 @@ use mathlib.Core.Path.{_≡_}
 use Prim.Native.Nat.{_-_, _/_, _≤_}
 use native.Mathlib.Omega.{arith}
 use lib.ListN.{length}
-use Rattle.leg_plan.specs.Leg.{stepsOf, someGoal}
+use Rattle.step_list.specs.Steps.{stepsOf}
+use Rattle.leg_plan.specs.Leg.{someGoal}
 use Rattle.route.proofs.Rows.{tests}
-use Rattle.leg_plan.proofs.Steps.{stepsFrom, from-start, from-here, from-done, mark-at}
+use Rattle.step_list.proofs.Steps.{stepsFrom, from-start, from-here, from-done, mark-at}
 use Rattle.leg.proofs.has_goal.Statement.{statement}
 use Rattle.leg.proofs.has_goal.Tie as tie
 

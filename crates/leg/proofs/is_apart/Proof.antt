@@ -8,9 +8,10 @@ use native.Mathlib.Omega.{arith}
 use borrow.Author.Needs.{needs}
 use denote.Ref.{now}
 use lib.ListN.{length}
-use Rattle.leg_plan.specs.Leg.{stepsOf, apartFrom, apart}
-use Rattle.leg_plan.specs.Inner.{stepAt}
-use Rattle.leg_plan.proofs.Steps.{stepsFrom, first-step, from-here, from-done, sector-at, boundary-at, before-at}
+use Rattle.step_list.specs.Steps.{stepsOf}
+use Rattle.leg_plan.specs.Leg.{apartFrom, apart}
+use Rattle.step_list.specs.Inner.{stepAt}
+use Rattle.step_list.proofs.Steps.{stepsFrom, first-step, from-here, from-done, sector-at, boundary-at, before-at}
 use Rattle.leg.proofs.is_apart.Statement.{statement}
 use Rattle.leg.proofs.is_apart.Tie as tie
 

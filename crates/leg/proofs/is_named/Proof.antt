@@ -4,9 +4,10 @@ use mathlib.Core.Path.{_≡_}
 use Prim.Native.Nat.{_-_, _/_, _≤_}
 use native.Mathlib.Omega.{arith}
 use lib.ListN.{length}
-use Rattle.leg_plan.specs.Leg.{stepsOf, names}
+use Rattle.step_list.specs.Steps.{stepsOf}
+use Rattle.leg_plan.specs.Leg.{names}
 use Rattle.route.proofs.Rows.{tests}
-use Rattle.leg_plan.proofs.Steps.{stepsFrom, from-start, from-here, from-done, sector-at}
+use Rattle.step_list.proofs.Steps.{stepsFrom, from-start, from-here, from-done, sector-at}
 use Rattle.leg.proofs.is_named.Statement.{statement}
 use Rattle.leg.proofs.is_named.Tie as tie
 

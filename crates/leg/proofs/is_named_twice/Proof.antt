@@ -6,8 +6,9 @@ use native.Mathlib.Omega.{arith}
 use borrow.Author.Needs.{needs}
 use denote.Ref.{now}
 use lib.ListN.{length}
-use Rattle.leg_plan.specs.Leg.{stepsOf, names, namesTwice}
-use Rattle.leg_plan.proofs.Steps.{stepsFrom, from-start, from-here, from-done, behind, sector-at}
+use Rattle.step_list.specs.Steps.{stepsOf}
+use Rattle.leg_plan.specs.Leg.{names, namesTwice}
+use Rattle.step_list.proofs.Steps.{stepsFrom, from-start, from-here, from-done, behind, sector-at}
 use Rattle.leg.proofs.is_named_twice.Statement.{statement}
 use Rattle.leg.proofs.is_named_twice.Tie as tie
 

@@ -6,7 +6,7 @@ use denote.Ref.{now}
 use Rattle.leg_plan.specs.Leg.{someGoal}
 use borrow.Author.Needs.{needs}
 use Rattle.route.proofs.Rows.{tests}
-use Rattle.leg_plan.proofs.Steps.{first-step, behind, mark-at}
+use Rattle.step_list.proofs.Steps.{first-step, behind, mark-at}
 use Rattle.leg.proofs.is_out_of_order.Statement.{statement}
 use Rattle.leg.proofs.is_out_of_order.Tie as tie
 

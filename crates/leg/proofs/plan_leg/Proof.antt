@@ -7,7 +7,8 @@ use native.Mathlib.Omega.{arith}
 use lib.ListN.{getD}
 use denote.Ref.{now}
 use Rattle.route.specs.Table.{firstNumber}
-use Rattle.leg_plan.specs.Leg.{stepsOf, judgedRows}
+use Rattle.step_list.specs.Steps.{stepsOf}
+use Rattle.leg_plan.specs.Leg.{judgedRows}
 use Rattle.leg_plan.specs.Inner.{copied}
 use Rattle.leg_plan.proofs.Numbers.{Judged, judged, judged-first, closed-15, open-0, ready}
 use Rattle.journey.proofs.Promised.{refuses, plans}

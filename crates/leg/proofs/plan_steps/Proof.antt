@@ -10,8 +10,9 @@ use denote.Ref.{now}
 use lib.ListN.{length, take, drop}
 use lib.Dec.{ltb}
 use Rattle.route.specs.Step.{stepNumber}
-use Rattle.leg_plan.specs.Leg.{stepsOf, closedFrom, someClosed, plannedFrom, planned}
-use Rattle.leg_plan.proofs.Steps.{stepsFrom, lent-step}
+use Rattle.step_list.specs.Steps.{stepsOf}
+use Rattle.leg_plan.specs.Leg.{closedFrom, someClosed, plannedFrom, planned}
+use Rattle.step_list.proofs.Steps.{stepsFrom, lent-step}
 use Rattle.leg.specs.Inner.{StepPlanned}
 use Rattle.leg.proofs.Step.{from-first, from-more, from-last, shut-first, shut-here, shut-more, shut-last}
 use Rattle.leg.proofs.plan_steps.Statement.{statement}
