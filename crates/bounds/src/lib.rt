@@ -9,8 +9,7 @@ ghost use lib.Dec.{ltb, eqb};
 ghost use lib.ListN.{length};
 ghost use Rattle.utilities.specs.Lists.{below};
 ghost use Rattle.route.specs.Target.{targetOf};
-ghost use Rattle.route.specs.Inner.{heldTarget, TargetHeld};
-ghost use Rattle.arrows.specs.Promise.{builtCells};
+ghost use Rattle.route.specs.Inner.{heldTarget};
 ghost use Rattle.cost_bounds.specs.Bounds.{someOf, noRange, boundsNumber, refusedBounds, acceptedBounds, boundsAnswer};
 ghost use Rattle.cost_bounds.specs.Promise.{CostBounds, SureMarks};
 ghost use Rattle.bounds.specs.Inner.{FloorsReady};
@@ -71,17 +70,6 @@ fn bounds_number(low: &[u8], high: &[u8], step: &[u8]) -> u8
     0
 }
 
-// A floor's field, started from a target and built: its cells.
-fn built_on(costs: &[u8], target: Target) -> [u32; 100]
-    requires { ⌜ (length (now costs) ≡ 100) × (TargetHeld target) ⌝ }
-    ensures { λ r. ⌜ r ≡ builtCells (now (costs .entry)) (heldTarget target) ⌝ }
-{
-    let field = integration_init::start(costs, target);
-    let answer = integration_build::build(costs, field);
-    let built = answer.field;
-    built.field
-}
-
 // A refused answer: its number, and every other part zero.
 fn refused(number: u8) -> Bounds
     ensures { λ r. ⌜ r ≡ refusedBounds number ⌝ }
@@ -99,9 +87,9 @@ fn run(low: &[u8], high: &[u8], target: Target) -> Bounds
     requires { ⌜ FloorsReady (now low) (now high) target ⌝ }
     ensures { λ r. ⌜ r ≡ acceptedBounds (now (low .entry)) (now (high .entry)) (heldTarget target) ⌝ }
 {
-    let cells = built_on(low, target);
+    let cells = built_cells::built_on(low, target);
     let least = sure_cells::costs_of(&cells);
-    let other = built_on(high, target);
+    let other = built_cells::built_on(high, target);
     let greatest = sure_cells::costs_of(&other);
     let sure = sure_cells::sure_cells(&cells, &least, &greatest);
     Bounds {

@@ -1,4 +1,4 @@
--- `bounds::built_on` meets its contract: the started field is one that `build` takes.
+-- `built_cells::built_on` meets its contract: the started field is one that `build` takes.
 -- Assumes nothing.
 use mathlib.Core.Path.{ap, _∙_}
 use denote.Ref.{now}
@@ -7,8 +7,8 @@ use Rattle.route.specs.Inner.{heldTarget}
 use Rattle.route.proofs.Targets.{held-in}
 use Rattle.least_walks.proofs.Promise.{built}
 use borrow.Author.Needs.{needs}
-use Rattle.bounds.proofs.built_on.Statement.{statement}
-use Rattle.bounds.proofs.built_on.Tie as tie
+use Rattle.built_cells.proofs.built_on.Statement.{statement}
+use Rattle.built_cells.proofs.built_on.Tie as tie
 
 start-requires : tie.Need-start-requires
 start-requires c κs = search needs
