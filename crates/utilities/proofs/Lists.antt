@@ -1,7 +1,7 @@
 -- Tables: a rule's value for each number below n.
 --     below-length, below-at    the numbers themselves
 --     table-length, table-at    a rule's values
---     filled-more, filled-all   a table of all cells, filled from the first on
+--     filled-more, filled-all   an array that is filled from the first place on
 -- Assumes nothing.
 use mathlib.Core.Path.{_≡_, refl, sym, ap, _∙_}
 use mathlib.Core.List.{List, [], _∷_, _++_, map, map-append}
@@ -37,20 +37,20 @@ module _ {A : Type 0} (f : ℕ → A) where
   pub table-at : (none : A) (n i : ℕ) → i < n → getD (map f (below n)) i none ≡ f i
   table-at none n i h = map-at none (below n) i (omega (arith, below-length n)) ∙ ap f (below-at n i h)
 
--- an array of 100 places, of which those below i are filled
-pub record FilledTo {A : Type 0} (f : ℕ → A) (i : ℕ) (table : List A) : Type 0 where
-  pub full : length table ≡ 100
+-- an array of so many places, of which those below i are filled
+pub record FilledTo {A : Type 0} (places : ℕ) (f : ℕ → A) (i : ℕ) (table : List A) : Type 0 where
+  pub full : length table ≡ places
   pub first : take i table ≡ map f (below i)
 
-module _ {A : Type 0} (f : ℕ → A) where
-  pub filled-more : (i : ℕ) (table : List A) (a : A) → i < 100 → a ≡ f i → FilledTo f i table → FilledTo f (i + 1) (set table i a)
+module _ {A : Type 0} (places : ℕ) (f : ℕ → A) where
+  pub filled-more : (i : ℕ) (table : List A) (a : A) → i < places → a ≡ f i → FilledTo places f i table → FilledTo places f (i + 1) (set table i a)
   filled-more i table a h e t = record {
     full = length-set table i a ∙ t .full;
     first = rw (add-one i) (take-suc-set table i a (omega (arith, t .full)) ∙ rw (t .first, e) (sym (map-append f (below i) (i ∷ []))));
   }
 
-  pub filled-all : (table : List A) → FilledTo f 100 table → table ≡ map f (below 100)
-  filled-all table t = sym (take-whole table 100 (t .full)) ∙ t .first
+  pub filled-all : (table : List A) → FilledTo places f places table → table ≡ map f (below places)
+  filled-all table t = sym (take-whole table places (t .full)) ∙ t .first
     where
       take-whole : (l : List A) (n : ℕ) → length l ≡ n → take n l ≡ l
       take-whole [] n e = rw (← e)

@@ -15,7 +15,7 @@ abbrev rule : List ℕ → List ℕ → List ℕ → ℕ → ℕ
 rule costs before built x = enteredFrom (getD costs x 0) (getD before x 0) (getD built x 0)
 
 abbrev Inv-loop : tie.InvT-loop
-Inv-loop costs before built entered₀ i₀ entered i = (i ≤ 100) × FilledTo (rule costs before built) i entered
+Inv-loop costs before built entered₀ i₀ entered i = (i ≤ 100) × FilledTo 100 (rule costs before built) i entered
 
 abbrev μ-loop : tie.MeasureT-loop
 μ-loop costs before built entered₀ i₀ entered i = 100 - i
@@ -61,14 +61,14 @@ loop-again c =
     let l = turn .loop in
     let a = turn .before .before .args in
     let by = rule (now (a .costs)) (now (a .before)) (now (a .built)) in
-    (omega arith, filled-more by (l .i) (l .entered) _ (omega arith) (c .entered-at .ensures) (l .inv .1))
+    (omega arith, filled-more 100 by (l .i) (l .entered) _ (omega arith) (c .entered-at .ensures) (l .inv .1))
 
 returns : tie.Need-returns Inv-loop μ-loop
 returns c =
     let l = c .before .loop in
     let a = c .before .before .before .args in
     let e : l .i ≡ 100 = omega arith in
-    filled-all (rule (now (a .costs)) (now (a .before)) (now (a .built))) (l .entered) (rw e at (l .inv .1))
+    filled-all 100 (rule (now (a .costs)) (now (a .before)) (now (a .built))) (l .entered) (rw e at (l .inv .1))
 
 pub entered-from-spec : {M : Type 1} → statement M
 entered-from-spec =

@@ -16,7 +16,7 @@ abbrev rule : List ℕ → List ℕ → ℕ → ℕ
 rule before positions x = keptOf (getD before x 0) (getD positions x 0)
 
 abbrev Inv-loop : tie.InvT-loop
-Inv-loop before positions left₀ i₀ left i = (i ≤ 100) × FilledTo (rule before positions) i left
+Inv-loop before positions left₀ i₀ left i = (i ≤ 100) × FilledTo 100 (rule before positions) i left
 
 abbrev μ-loop : tie.MeasureT-loop
 μ-loop before positions left₀ i₀ left i = 100 - i
@@ -47,14 +47,14 @@ loop-again c =
     let turn = c .before .before .before .before in
     let l = turn .loop in
     let a = turn .before .args in
-    (omega arith, filled-more (rule (now (a .before)) (now (a .positions))) (l .i) (l .left) _ (omega arith) (c .kept .ensures) (l .inv .1))
+    (omega arith, filled-more 100 (rule (now (a .before)) (now (a .positions))) (l .i) (l .left) _ (omega arith) (c .kept .ensures) (l .inv .1))
 
 returns : tie.Need-returns Inv-loop μ-loop
 returns c =
     let l = c .before .loop in
     let a = c .before .before .args in
     let e : l .i ≡ 100 = omega arith in
-    filled-all (rule (now (a .before)) (now (a .positions))) (l .left) (rw e at (l .inv .1))
+    filled-all 100 (rule (now (a .before)) (now (a .positions))) (l .left) (rw e at (l .inv .1))
 
 pub keep-spec : {M : Type 1} → statement M
 keep-spec =

@@ -11,7 +11,7 @@ use Rattle.sure_cells.proofs.costs_of.Statement.{statement}
 use Rattle.sure_cells.proofs.costs_of.Tie as tie
 
 abbrev Inv-loop : tie.InvT-loop
-Inv-loop cells costs₀ i₀ costs i = (i ≤ 100) × FilledTo (builtCost cells) i costs
+Inv-loop cells costs₀ i₀ costs i = (i ≤ 100) × FilledTo 100 (builtCost cells) i costs
 
 abbrev μ-loop : tie.MeasureT-loop
 μ-loop cells costs₀ i₀ costs i = 100 - i
@@ -45,14 +45,14 @@ loop-again c =
     let turn = c .before .before in
     let l = turn .before .loop in
     let cells = now (turn .before .before .args .cells) in
-    (omega arith, filled-more (builtCost cells) (l .i) (l .costs) _ (omega arith) (c .low-bits .ensures) (l .inv .1))
+    (omega arith, filled-more 100 (builtCost cells) (l .i) (l .costs) _ (omega arith) (c .low-bits .ensures) (l .inv .1))
 
 returns : tie.Need-returns Inv-loop μ-loop
 returns c =
     let l = c .before .loop in
     let cells = now (c .before .before .args .cells) in
     let e : l .i ≡ 100 = omega arith in
-    filled-all (builtCost cells) (l .costs) (rw e at (l .inv .1))
+    filled-all 100 (builtCost cells) (l .costs) (rw e at (l .inv .1))
 
 pub costs-of-spec : {M : Type 1} → statement M
 costs-of-spec =

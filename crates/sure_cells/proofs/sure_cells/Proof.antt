@@ -15,7 +15,7 @@ use Rattle.sure_cells.proofs.sure_cells.Tie as tie
 -- whichever window has the cells that are flagged as portals
 abbrev Inv-loop : tie.InvT-loop
 Inv-loop cells least greatest sure₀ i₀ sure i =
-    (i ≤ 100) × ((window : List ℕ) → ((n : ℕ) → n < 100 → isPortal (getD cells n 0) ≡ isIn n window) → FilledTo (isSure cells window least greatest) i sure)
+    (i ≤ 100) × ((window : List ℕ) → ((n : ℕ) → n < 100 → isPortal (getD cells n 0) ≡ isIn n window) → FilledTo 100 (isSure cells window least greatest) i sure)
 
 abbrev μ-loop : tie.MeasureT-loop
 μ-loop cells least greatest sure₀ i₀ sure i = 100 - i
@@ -38,13 +38,13 @@ loop-less c = omega arith
 loop-again : tie.Need-loop-again Inv-loop μ-loop
 loop-again c =
     let l = c .before .before .loop in
-    (omega arith, λ window portals. filled-more _ (l .i) (l .sure) _ (omega arith) (c .is-sure .ensures window portals) (l .inv .1 window portals))
+    (omega arith, λ window portals. filled-more 100 _ (l .i) (l .sure) _ (omega arith) (c .is-sure .ensures window portals) (l .inv .1 window portals))
 
 returns : tie.Need-returns Inv-loop μ-loop
 returns c window portals =
     let l = c .before .loop in
     let e : l .i ≡ 100 = omega arith in
-    filled-all _ (l .sure) (rw e at (l .inv .1 window portals))
+    filled-all 100 _ (l .sure) (rw e at (l .inv .1 window portals))
 
 pub sure-cells-spec : {M : Type 1} → statement M
 sure-cells-spec =
