@@ -1,0 +1,5 @@
+pub mod Examples
+pub mod Least
+pub mod Walked
+pub mod Numbers
+pub mod Promise

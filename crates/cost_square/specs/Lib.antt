@@ -1,0 +1,3 @@
+pub mod Square
+pub mod Promise
+pub mod Inner
