@@ -3,3 +3,5 @@ pub mod Least
 pub mod Walked
 pub mod Numbers
 pub mod Promise
+pub mod Columns
+pub mod Calls

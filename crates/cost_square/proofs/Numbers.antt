@@ -109,9 +109,10 @@ module _ (costs steps : List ℕ) where
           ∙ each-good costs _ (stepsOf steps) e k (omega arith)) in
           record {
             costs-hundred = eqb-true (length costs) 100 p;
-            whole = eqb-true (length steps % 8) 0 q;
             some = omega (arith, n, ltb-false (length (stepsOf steps)) 2 r);
             few = omega (arith, n, ltb-false 8 (length (stepsOf steps)) s);
-            accepted = λ k h. accepted-on costs (stepAt steps k) (each-step-on costs (stepAt steps k) (step-long steps k h) ∙ good k h .0);
-            windows = λ k h. good k h .1;
+            each = record {
+              accepted = λ k h. accepted-on costs (stepAt steps k) (each-step-on costs (stepAt steps k) (step-long steps k h) ∙ good k h .0);
+              windows = λ k h. good k h .1;
+            };
           }

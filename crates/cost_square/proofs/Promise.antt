@@ -139,14 +139,14 @@ module _ (costs : List ℕ) (steps : List (List ℕ)) where
   row-long i h =
       ap length (table-at (λ (i : ℕ). map (squareEntry costs steps i) (below 8)) [] 8 i h) ∙ table-length (squareEntry costs steps i) 8
 
-  rows-eight : length (costSquare costs steps) ≡ 8
+  pub rows-eight : length (costSquare costs steps) ≡ 8
   unfolding costSquare
   rows-eight = table-length (λ (i : ℕ). map (squareEntry costs steps i) (below 8)) 8
 
   pub entry-used : (i j : ℕ) → i < length steps → j < length steps → squareEntry costs steps i j ≡ windowCost costs (stepOf steps i) (stepOf steps j)
   entry-used i j h k = rw (lt-ltb i (length steps) h, lt-ltb j (length steps) k)
 
-  entry-unused : (i j : ℕ) → (length steps ≤ i) ⊎ (length steps ≤ j) → squareEntry costs steps i j ≡ 65535
+  pub entry-unused : (i j : ℕ) → (length steps ≤ i) ⊎ (length steps ≤ j) → squareEntry costs steps i j ≡ 65535
   entry-unused i j (inl h) = rw (le-ltb i (length steps) h)
   entry-unused i j (inr h) = rw (le-ltb j (length steps) h) (none (ltb i (length steps)))
     where
@@ -167,7 +167,7 @@ square-told costs steps byte r = record {
     good : (k : ℕ) → k < length (stepsOf steps) → GoodWindow (stepOf (stepsOf steps) k)
     good k h =
         let l : k < length steps / 8 = omega (arith, steps-count steps) in
-        rw (step-of steps k l) (record { good = r .accepted k l; window = r .windows k l })
+        rw (step-of steps k l) (record { good = r .each .accepted k l; window = r .each .windows k l })
 
     used : (i j : ℕ) → i < length (stepsOf steps) → j < length (stepsOf steps)
         → costAt (costSquare costs (stepsOf steps)) i j ≡ windowCost costs (stepOf (stepsOf steps) i) (stepOf (stepsOf steps) j)

@@ -1,0 +1,71 @@
+-- `window_columns::row_of` meets its contract. The loop's invariant: the first j places are filled.
+-- Assumes nothing.
+use mathlib.Core.Path.{_≡_, refl}
+use Prim.Native.Nat.{_≤_, _-_}
+use native.Mathlib.Omega.{arith}
+use Rattle.utilities.proofs.Lists.{FilledTo, filled-more, filled-all}
+use Rattle.cost_square.specs.Promise.{costAt}
+use Rattle.window_columns.proofs.row_of.Statement.{statement}
+use Rattle.window_columns.proofs.row_of.Tie as tie
+
+abbrev Inv-loop : tie.InvT-loop
+Inv-loop i columns row₀ j₀ row j = (j ≤ 8) × FilledTo 8 (λ j. costAt columns j i) j row
+
+abbrev μ-loop : tie.MeasureT-loop
+μ-loop i columns row₀ j₀ row j = 8 - j
+
+loop-holds : tie.Need-loop-holds Inv-loop μ-loop
+loop-holds c = (omega arith, record { full = refl; first = refl })
+
+mul-row : tie.Need-mul-row Inv-loop μ-loop
+mul-row c = omega arith
+
+mul-row-2 : tie.Need-mul-row-2 Inv-loop μ-loop
+mul-row-2 c = omega arith
+
+index-1-row : tie.Need-index-1-row Inv-loop μ-loop
+index-1-row c = omega arith
+
+index-2-row : tie.Need-index-2-row Inv-loop μ-loop
+index-2-row c = omega arith
+
+mul-row-3 : tie.Need-mul-row-3 Inv-loop μ-loop
+mul-row-3 c = omega arith
+
+array-write-row : tie.Need-array-write-row Inv-loop μ-loop
+array-write-row c = omega arith
+
+add-j : tie.Need-add-j Inv-loop μ-loop
+add-j c = omega arith
+
+loop-less : tie.Need-loop-less Inv-loop μ-loop
+loop-less c = omega arith
+
+loop-again : tie.Need-loop-again Inv-loop μ-loop
+loop-again c =
+    let l = c .before .before .loop in
+    (omega arith, filled-more 8 _ (l .j) (l .row) _ (omega arith) refl (l .inv .1))
+
+returns : tie.Need-returns Inv-loop μ-loop
+returns c =
+    let l = c .before .loop in
+    let e : l .j ≡ 8 = omega arith in
+    filled-all 8 _ (l .row) (rw e at (l .inv .1))
+
+pub row-of-spec : {M : Type 1} → statement M
+row-of-spec =
+    tie.close
+    (tie.spec
+    Inv-loop
+    μ-loop
+    loop-holds
+    mul-row
+    mul-row-2
+    index-1-row
+    index-2-row
+    mul-row-3
+    array-write-row
+    add-j
+    loop-less
+    loop-again
+    returns)

@@ -1,0 +1,57 @@
+-- `window_columns::target_at` meets its contract: the step, as it is lent, is the one at that place.
+-- Assumes nothing.
+use mathlib.Core.Path.{_≡_, ap, _∙_}
+use borrow.Author.Needs.{needs}
+use denote.Ref.{now}
+use Rattle.route.specs.Step.{routeStep}
+use Rattle.route.proofs.Targets.{made-target, made-held}
+use Rattle.step_list.specs.Inner.{stepAt}
+use Rattle.step_list.proofs.Steps.{lent-step}
+use Rattle.window_columns.proofs.target_at.Statement.{statement}
+use Rattle.window_columns.proofs.target_at.Tie as tie
+
+mul-at : tie.Need-mul-at
+mul-at c = search needs
+
+add-new : tie.Need-add-new
+add-new c = search needs
+
+sub-new : tie.Need-sub-new
+sub-new c = search needs
+
+part-new-start : tie.Need-part-new-start
+part-new-start c = search needs
+
+part-new-end : tie.Need-part-new-end
+part-new-end c = search needs
+
+new-requires : tie.Need-new-requires
+new-requires c κs = search needs
+
+as-target-requires : tie.Need-as-target-requires
+as-target-requires c κs = search needs
+
+returns : tie.Need-returns
+returns c =
+    let n = c .before in
+    let s = n .before .before .before in
+    let steps = now (s .args .steps) in
+    let k = s .args .k in
+    let apart : n .new .result ≡ routeStep (stepAt steps k) = n .new .ensures ∙ ap routeStep (lent-step steps k) in
+    let made = c .as-target .ensures in (
+      made-held (stepAt steps k) (n .new .result) _ apart made (s .pre .0 .accepted k (s .pre .1)),
+      made-target (stepAt steps k) (n .new .result) _ apart made,
+    )
+
+pub target-at-spec : {M : Type 1} → statement M
+target-at-spec =
+    tie.close
+    (tie.spec
+    mul-at
+    add-new
+    sub-new
+    part-new-start
+    part-new-end
+    new-requires
+    as-target-requires
+    returns)

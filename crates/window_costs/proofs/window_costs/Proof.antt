@@ -1,0 +1,64 @@
+-- `window_costs::window_costs` meets its contract: refused by its number, or the rows of its square.
+-- Assumes nothing.
+use mathlib.Core.Path.{_≡_, refl, sym, _∙_}
+use mathlib.Core.List.{List}
+use Prim.Native.Nat.{ℕ, _≤_, _<_}
+use native.Mathlib.Omega.{arith}
+use borrow.Author.Needs.{needs}
+use denote.Ref.{now}
+use lib.ListN.{getD}
+use Rattle.cost_square.specs.Square.{windowCostsNumber}
+use Rattle.cost_square.proofs.Numbers.{ready}
+use Rattle.cost_square.proofs.Calls.{refuses, accepts}
+use Rattle.window_costs.proofs.window_costs.Statement.{statement}
+use Rattle.window_costs.proofs.window_costs.Tie as tie
+
+window-costs-number-requires : tie.Need-window-costs-number-requires
+window-costs-number-requires c κs = search needs
+
+refused-requires : tie.Need-refused-requires
+refused-requires c κs = search needs
+
+returns : tie.Need-returns
+returns c =
+    let i = c .before in
+    let n = i .before in
+    let a = n .before .before .before .args in
+    refuses (now (a .costs)) (now (a .steps)) _ (n .window-costs-number .ensures) (i .if1 .taken) _ (c .refused .ensures)
+
+-- the call is not refused
+module _ (m : tie.Else1) where
+  abbrev costs : List ℕ
+  costs = now (m .before .before .before .before .args .costs)
+
+  abbrev steps : List ℕ
+  steps = now (m .before .before .before .before .args .steps)
+
+  number : windowCostsNumber costs steps ≡ 0
+  number = sym (m .before .window-costs-number .ensures) ∙ m .if1 .left
+
+  byte : (x : ℕ) → x < 100 → getD costs x 0 ≤ 255
+  byte x h = omega (arith, m .before .before .before .shared-slice-known .given x)
+
+window-square-requires : tie.Need-window-square-requires
+window-square-requires c κs = ready (costs c) (steps c) (number c)
+
+rows-of-requires : tie.Need-rows-of-requires
+rows-of-requires c κs = search needs
+
+returns-2 : tie.Need-returns-2
+returns-2 c =
+    let q = c .before in
+    let m = q .before in
+    accepts (costs m) (steps m) (byte m) (number m) _ _ (q .window-square .ensures) (c .rows-of .ensures) _ refl
+
+pub window-costs-spec : {M : Type 1} → statement M
+window-costs-spec =
+    tie.close
+    (tie.spec
+    window-costs-number-requires
+    refused-requires
+    returns
+    window-square-requires
+    rows-of-requires
+    returns-2)
