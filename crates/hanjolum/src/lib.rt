@@ -1,5 +1,6 @@
 // The library that others link. Each export hands on to the call of its name, and promises the same.
 use cost_bounds::Bounds;
+use cost_square::WindowCosts;
 use fields::FieldCell;
 use integration_field::BuildAnswer;
 use integration_field::IntegrationField;
@@ -32,6 +33,8 @@ ghost use Rattle.sector.specs.Promise.{Planned};
 ghost use Rattle.cost_bounds.specs.Bounds.{boundsAnswer};
 ghost use Rattle.cost_bounds.specs.Promise.{CostBounds, SureMarks};
 ghost use Rattle.bounds.specs.Promise.{floorBytes};
+ghost use Rattle.cost_square.specs.Square.{squareIn, windowCostsAnswer};
+ghost use Rattle.cost_square.specs.Promise.{WindowSquare};
 ghost use Rattle.step_list.specs.Steps.{stepsOf};
 ghost use Rattle.leg_plan.specs.Leg.{legNumber, legSheet};
 ghost use Rattle.leg_plan.specs.Promise.{LegPlanned};
@@ -66,6 +69,15 @@ pub extern "C" fn hanjolum_bounds(low: &[u8], high: &[u8], step: &[u8]) -> Bound
     ensures sure { λ r. ⌜ (r .number ≡ 0 → SureMarks (now (low .entry)) (now (high .entry)) (targetOf (now (step .entry))) (floorBytes (now (step .entry))) (r .least) (r .greatest) (r .sure)) ⌝ }
 {
     bounds::bounds(low, high, step)
+}
+
+// The square of costs from window to window inside one sector, or number 1, 3, 19, or of one step before the next 4 to 8, 16, or 20.
+#[no_mangle]
+pub extern "C" fn hanjolum_window_costs(costs: &[u8], steps: &[u8]) -> WindowCosts
+    ensures answer { λ r. ⌜ r ≡ windowCostsAnswer (now (costs .entry)) (now (steps .entry)) ⌝ }
+    ensures least { λ r. ⌜ (r .number ≡ 0 → WindowSquare (now (costs .entry)) (stepsOf (now (steps .entry))) (squareIn (r .rows))) ⌝ }
+{
+    window_costs::window_costs(costs, steps)
 }
 
 // A leg of one to sixteen steps, planned onto the sheet of a floor: 0, or number 1 to 10, 15, or 16.
