@@ -38,7 +38,8 @@ module _ (costs : List ℕ) (steps : List (List ℕ)) where
       same true x = refl
       same false x = refl
 
-  pub turned : (columns : List (List ℕ)) → columns ≡ map columnOf (below 8) → map (λ i. map (λ j. costAt columns j i) (below 8)) (below 8) ≡ costSquare costs steps
+  pub turned : (columns : List (List ℕ)) → columns ≡ map columnOf (below 8)
+      → map (λ i. map (λ j. costAt columns j i) (below 8)) (below 8) ≡ costSquare costs steps
   unfolding costSquare
   turned columns e =
       table-same (λ i. map (λ j. costAt columns j i) (below 8)) (λ i. map (squareEntry costs steps i) (below 8)) 8

@@ -65,8 +65,8 @@ two a b = a ∷ b ∷ replicate 6 65535
 pub corridor-square :
     squareIn (windowCostsAnswer corridor (north 0 0 1 ++ north 0 3 3) .rows)
     ≡ two 0 5 ∷ two 7 0 ∷ replicate 6 (replicate 8 65535)
-unfolding windowCostsNumber windowStepNumber windowCost costSquare stepsIn onEdge edge cellsBetween stepped targetOf relaxed offeredAround offeredBy changedFrom
-    next total isEmpty settle build walls withPortals startedAt started
+unfolding windowCostsNumber windowStepNumber windowCost costSquare stepsIn onEdge edge cellsBetween stepped targetOf relaxed offeredAround offeredBy
+    changedFrom next total isEmpty settle build walls withPortals startedAt started
 corridor-square = refl
 
 -- Nothing reaches cell 5 from cell 0. The windows 0 to 1 and 1 to 2 share a cell.

@@ -24,7 +24,8 @@ module _ (built : List ℕ) where
   least-most [] x m = absurd (List·Memᴰ·not-nil m)
   least-most (y ∷ l) x m = go (List·Memᴰ·cases-cons m) (λ k. least-most l x k)
     where
-      go : (x ≡ y) ⊎ List·Memᴰ x l → (List·Memᴰ x l → leastBuilt built l ≤ builtCost built x) → min (builtCost built y) (leastBuilt built l) ≤ builtCost built x
+      go : (x ≡ y) ⊎ List·Memᴰ x l → (List·Memᴰ x l → leastBuilt built l ≤ builtCost built x)
+          → min (builtCost built y) (leastBuilt built l) ≤ builtCost built x
       go (inl e) f = rw e (omega arith)
       go (inr k) f = omega (arith, f k)
 

@@ -122,8 +122,9 @@ module _ (costs : List ℕ) (full : length costs ≡ 100) (byte : (x : ℕ) → 
   own-cost {step} g =
       let sector = window-sector costs (windowCells step) full (inside g) byte in
       let m = listed g (firstOf step) (first g) in
-      let zero : builtCost (builtCells costs (to-window (windowCells step))) (firstOf step) ≡ 0 = ap low (window-word sector _ (mem-among _ _ m)) in
-      rw (target-window step (g .window)) (omega (arith, zero, least-most (builtCells costs (to-window (windowCells step))) (windowCells step) (firstOf step) m))
+      let cells = builtCells costs (to-window (windowCells step)) in
+      let zero : builtCost cells (firstOf step) ≡ 0 = ap low (window-word sector _ (mem-among _ _ m)) in
+      rw (target-window step (g .window)) (omega (arith, zero, least-most cells (windowCells step) (firstOf step) m))
 
 -- ---- the square
 

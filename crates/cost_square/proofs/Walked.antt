@@ -58,7 +58,11 @@ module _ (costs window : List ℕ) (full : length costs ≡ 100) (window-in : Wi
   pub reached-walked : (x : ℕ) → x < 100 → builtCost built x < 65535 → (k : ℕ) × WindowWalk costs (to-window window) k x (builtCost built x)
   reached-walked x h r =
       by-kind sector x h
-      (λ a e. (0, start {x = x} {s = builtCost built x} (rw (sector .started .list) (among-mem x window a)) (omega (arith, ap low e, ap low (sector .started .portal-cell x a)))))
+      (λ a e. (
+        0,
+        start {x = x} {s = builtCost built x} (rw (sector .started .list) (among-mem x window a))
+            (omega (arith, ap low e, ap low (sector .started .portal-cell x a))),
+      ))
       (λ c a e. absurd (omega (arith, ap low e)))
       (λ p l. plain p (least .attained x (enterable p)))
     where

@@ -39,7 +39,8 @@ loop-again c =
     let m = c .before .before in
     let l = m .loop in
     let a = m .before .before .args in
-    (omega arith, filled-more 8 (leastFrom (now (a .cells)) (stepsOf (now (a .steps)))) (l .i) (l .column) _ (omega arith) (c .least-from .ensures) (l .inv .1))
+    let f = leastFrom (now (a .cells)) (stepsOf (now (a .steps))) in
+    (omega arith, filled-more 8 f (l .i) (l .column) _ (omega arith) (c .least-from .ensures) (l .inv .1))
 
 returns : tie.Need-returns Inv-loop μ-loop
 returns c =
