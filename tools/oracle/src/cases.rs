@@ -45,6 +45,7 @@ pub struct Outcome {
     pub part: [usize; 2],
     pub practice: Option<PracticeFloor>,
     pub bounds: Option<Bounds>,
+    pub windows: Option<WindowCosts>,
     pub sheet: Vec<u8>,
     /// What is lent to be read is unchanged, and no guard beside lent memory is.
     pub memory_kept: bool,
@@ -137,6 +138,10 @@ impl Case {
                 let bounds = side.bounds(costs, high, steps);
                 Outcome { bounds: Some(bounds), ..Outcome::of_number(bounds.number) }
             }
+            Ask::One(Call::WindowCosts) => {
+                let windows = side.window_costs(costs, steps);
+                Outcome { windows: Some(windows), ..Outcome::of_number(windows.number) }
+            }
             Ask::FlowBoth => {
                 let number = side.flow_new(steps, self.field, previous, sheet);
                 let second = if number == 0 { side.flow_build(self.field, sheet) } else { 0 };
@@ -197,6 +202,7 @@ impl Outcome {
             part: [0; 2],
             practice: None,
             bounds: None,
+            windows: None,
             sheet: Vec::new(),
             memory_kept: true,
         }
@@ -231,6 +237,10 @@ impl Outcome {
         differ(&mut found, "least", &ours.least, &theirs.least);
         differ(&mut found, "greatest", &ours.greatest, &theirs.greatest);
         differ(&mut found, "sure", &ours.sure, &theirs.sure);
+        let [ours, theirs] = [self, other].map(|outcome| outcome.windows.unwrap_or(refused::window_costs(0)).square());
+        for (i, (ours, theirs)) in ours.iter().zip(&theirs).enumerate() {
+            differ(&mut found, &format!("row {i}"), ours, theirs);
+        }
         let bytes = |sheet: &[u8]| sheet.iter().map(|byte| Hex(u32::from(*byte))).collect::<Vec<_>>();
         differ(&mut found, "sheet", &bytes(&self.sheet), &bytes(&other.sheet));
         differ(&mut found, "memory kept", &[self.memory_kept], &[other.memory_kept]);

@@ -191,7 +191,7 @@ pub fn all_goals() -> Vec<Step> {
     (0..CELLS).map(|goal| goal_step(0, goal)).collect()
 }
 
-fn any_window(rng: &mut Rng, sector: usize, boundary: usize) -> Step {
+pub fn any_window(rng: &mut Rng, sector: usize, boundary: usize) -> Step {
     let (a, b) = (rng.below(10), rng.below(10));
     window_step(sector, boundary, a.min(b), a.max(b))
 }

@@ -16,4 +16,5 @@ pub mod oracle;
 pub mod records;
 pub mod refusals;
 pub mod shrink;
+pub mod squares;
 pub mod subject;

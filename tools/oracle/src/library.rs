@@ -113,6 +113,12 @@ unsafe extern "C" {
         step: *const u8,
         step_length: usize,
     ) -> Bounds;
+    fn hanjolum_window_costs(
+        costs: *const u8,
+        costs_length: usize,
+        steps: *const u8,
+        steps_length: usize,
+    ) -> WindowCosts;
 }
 
 #[allow(unused_variables)]
@@ -141,6 +147,7 @@ impl Subject for Library {
             Call::LegFileRead => cfg!(export = "hanjolum_leg_file_read"),
             Call::PracticeFloor => cfg!(export = "hanjolum_practice_floor"),
             Call::Bounds => cfg!(export = "hanjolum_bounds"),
+            Call::WindowCosts => cfg!(export = "hanjolum_window_costs"),
         }
     }
 
@@ -247,6 +254,13 @@ impl Subject for Library {
         exported!(
             "hanjolum_bounds",
             hanjolum_bounds(low.as_ptr(), low.len(), high.as_ptr(), high.len(), step.as_ptr(), step.len())
+        )
+    }
+
+    fn window_costs(&self, costs: &[u8], steps: &[u8]) -> WindowCosts {
+        exported!(
+            "hanjolum_window_costs",
+            hanjolum_window_costs(costs.as_ptr(), costs.len(), steps.as_ptr(), steps.len())
         )
     }
 }

@@ -20,6 +20,7 @@
 //! | practice.model | 105 | seed of 32 bits | 100 costs, goal |
 //! | practice_text.model | 223 | input length, input in 8 places | text length, text in 213 places |
 //! | bounds.model, bounds.table | 1115 | lengths of low, high and step, low in 101 places, high in 101, step in 9 | number, 100 least of 32 bits, 100 greatest of 32 bits, 100 marks |
+//! | window_costs.model, window_costs.table | 496 | lengths of costs and steps, costs in 101 places, steps in 136 | number, 64 costs of 32 bits, row by row |
 //!
 //! A file whose name has no dot holds answers of the published Rust. Behind a dot stands the judge of a file that has
 //! another: `altered`, the Rust altered in two rules (document 02, Job 7: a diagonal is barred if either cell beside it is a
@@ -55,6 +56,8 @@
 //!
 //! bounds.model, bounds.table: two floors and a step, taken and refused. A mark is 1 for a sure cell, else 0. Places beyond
 //! a length are 0.
+//!
+//! window_costs.model, window_costs.table: windows of one sector, taken and refused. Places beyond a length are 0.
 //!
 //! Nothing here comes from the program that replays it.
 
@@ -126,6 +129,8 @@ pub fn sections() -> Vec<Section> {
         Section { name: "practice_text.model", length: 223, records: practice_texts(rng()) },
         Section { name: "bounds.model", length: 1115, records: bounds_taken(rng()) },
         Section { name: "bounds.table", length: 1115, records: bounds_refused(rng()) },
+        Section { name: "window_costs.model", length: 496, records: windows_taken(rng()) },
+        Section { name: "window_costs.table", length: 496, records: windows_refused(rng()) },
     ]
 }
 
@@ -495,7 +500,7 @@ fn refusal(case: &Case) -> Vec<u8> {
         Call::WalkShallow | Call::WalkSteep => unreachable!("the walks alone are not recorded"),
         Call::LegFileWrite | Call::LegFileRead => unreachable!("a leg's files have sections of their own"),
         Call::PracticeFloor => unreachable!("practice floors refuse nothing"),
-        Call::Bounds => unreachable!("bounds have sections of their own"),
+        Call::Bounds | Call::WindowCosts => unreachable!("bounds and window costs have sections of their own"),
     };
     let short = |value: usize| (value as u16).to_le_bytes();
     let place = case.field.los_corners.iter().position(|corner| *corner != 0).unwrap_or(0);
@@ -948,5 +953,85 @@ fn with_costs(case: &Case, cells: &[(usize, u8, u8)]) -> Case {
     for (cell, low, high) in cells {
         (case.costs[*cell], case.high[*cell]) = (*low, *high);
     }
+    case
+}
+
+/// A call for window costs, and whether it is taken.
+fn window_costs(case: &Case) -> (bool, Vec<u8>) {
+    let Case { costs, steps, .. } = case;
+    let answer = Oracle.window_costs(costs, steps);
+    let mut record = [costs, steps].map(|bytes| bytes.len() as u8).to_vec();
+    record.extend(placed(costs, 101).chain(placed(steps, 136)));
+    record.push(answer.number);
+    record.extend(answer.square().iter().flat_map(|row| wide(row)));
+    (answer.number == 0, record)
+}
+
+/// These windows on a floor of cost 1.
+fn on_open_floor(steps: &[Step]) -> Case {
+    Case { costs: vec![1; CELLS], steps: steps.concat(), ..Case::of(Call::WindowCosts) }
+}
+
+/// From two to eight windows on an open floor; then lists that meet each kind; then drawn ones.
+fn windows_taken(mut rng: Rng) -> Vec<Vec<u8>> {
+    let windows: [Step; 8] = [
+        floors::window_step(63, 0, 0, 9),
+        floors::window_step(63, 2, 3, 3),
+        floors::window_step(63, 1, 2, 5),
+        floors::window_step(63, 3, 0, 1),
+        floors::window_step(63, 0, 8, 9),
+        floors::window_step(63, 1, 0, 9),
+        floors::window_step(63, 3, 7, 9),
+        floors::window_step(63, 2, 3, 3),
+    ];
+    let mut cases: Vec<Case> = (2..=8).map(|count| on_open_floor(&windows[..count])).collect();
+    cases.extend(groups::window_kinds().map(|kind| groups::windows_that_meet(&mut rng, kind)));
+    cases.extend((0..32).map(|_| groups::any_windows(&mut rng)));
+    cases.iter().map(window_costs).filter(|(taken, _)| *taken).map(|(_, record)| record).collect()
+}
+
+/// Good lists with the lengths of the costs or of the steps made others, from no byte to 17 steps; with the first, a middle
+/// or the last step a goal, in another sector, at the limits or on a wall; with several of these; then drawn ones.
+fn windows_refused(mut rng: Rng) -> Vec<Vec<u8>> {
+    let [east, south, west] = [1, 2, 3].map(|boundary| floors::window_step(9, boundary, 2, 5));
+    let sound = on_open_floor(&[east, south, west]);
+    let with = |steps: &[Step]| on_open_floor(steps);
+    let mut cases: Vec<Case> = [0, 99, 101].map(|length| Case { costs: vec![1; length], ..sound.clone() }).to_vec();
+    let many = [east; 17].concat();
+    let lengths = [0, 1, 7, 8, 9, 12, 15, 17, 63, 65, 71, 72, 73, 127, 128, 129, 135, 136];
+    cases.extend(lengths.map(|length| Case { steps: many[..length].to_vec(), ..sound.clone() }));
+    cases.push(Case { costs: vec![1; 99], steps: Vec::new(), ..sound.clone() });
+    cases.push(Case { steps: [0xff; 72].to_vec(), ..sound.clone() });
+    let limits = goals_at_limits().into_iter().chain(windows_at_limits());
+    cases.extend(limits.enumerate().map(|(k, step)| {
+        let mut steps = [east, south, west];
+        steps[k % 3] = step;
+        with(&steps)
+    }));
+    let goal = floors::goal_step(9, 44);
+    let elsewhere = changed(south, &[(0, 10)]);
+    for steps in [[goal, south, west], [east, goal, west], [east, south, goal], [goal, goal, goal]] {
+        cases.push(with(&steps));
+        cases.push(walled(with(&steps), 44));
+        cases.push(walled(with(&steps), 10));
+    }
+    for steps in
+        [[elsewhere, east, west], [east, elsewhere, west], [east, west, elsewhere], [east, elsewhere, elsewhere]]
+    {
+        cases.push(with(&steps));
+        cases.push(walled(with(&steps), 93));
+        cases.push(walled(with(&steps), 29));
+    }
+    let turned = changed(elsewhere, &[(3, 95), (4, 92)]);
+    cases.extend([with(&[east, turned, west]), with(&[east, elsewhere, turned]), with(&[east, goal, turned])]);
+    cases.extend([29, 59, 92, 95, 20, 50].map(|wall| walled(sound.clone(), wall)));
+    cases.extend((0..24).map(|_| groups::refused_windows(&mut rng)));
+    cases.iter().map(window_costs).filter(|(taken, _)| !*taken).map(|(_, record)| record).collect()
+}
+
+/// The same with one wall.
+fn walled(case: Case, wall: usize) -> Case {
+    let mut case = case;
+    case.costs[wall] = 255;
     case
 }

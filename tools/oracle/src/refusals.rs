@@ -1,4 +1,4 @@
-//! The table of document 01 ("A leg, the added entry") with 16, 17 and 18 of document 02, Jobs 3, 8 and 9, read from those
+//! The table of document 01 ("A leg, the added entry") with 16 to 20 of document 02, Jobs 3, 8, 9 and 13, read from those
 //! pages alone: each row a number and a condition, in the pages' order. 15 (02, Job 2) comes after 10 and is found by planning:
 //! the model has it.
 
@@ -15,12 +15,20 @@ pub const FIELDLESS: u8 = 17;
 /// The number of two floors that are no from-to, or of a step without window beside them.
 pub const NO_RANGE: u8 = 18;
 
+/// The number of a list of windows that has fewer than 2 or more than 8 steps.
+pub const NOT_2_TO_8: u8 = 19;
+
+/// The number of a list of windows with a step without window, or in another sector than the first's.
+pub const NO_WINDOW_THERE: u8 = 20;
+
 /// What a call was lent or given. What a call does not have stands as `None` or empty, and no row
 /// that speaks of it can hold.
 #[derive(Clone, Copy, Default)]
 pub struct Given<'a> {
     /// The call is a leg: its floor and sheet hold 6,400 bytes, its steps are a list.
     pub leg: bool,
+    /// The call is one of windows in one sector: its steps are a list, and its costs those of that sector.
+    pub windows: bool,
     /// The cost bytes, of a sector or of a floor.
     pub costs: Option<&'a [u8]>,
     /// The cost bytes of the high one of two floors, whose low one is `costs`.
@@ -55,6 +63,11 @@ impl Given<'_> {
         self.previous.is_some_and(|previous| !previous.lent)
     }
 
+    /// How many whole steps there are.
+    pub fn step_count(&self) -> usize {
+        self.steps.map_or(0, |steps| steps.len() / 8)
+    }
+
     /// Whether the first of the steps, if there is one, has a window.
     pub fn has_window(&self) -> bool {
         self.steps.and_then(|steps| steps.get(2)) == Some(&1)
@@ -62,12 +75,13 @@ impl Given<'_> {
 }
 
 /// A step as it is judged: its 8 bytes, and the cost bytes of the sector that it names, none where the call has none
-/// or the sector is not on the floor; and those of the high floor, where there are two.
+/// or the sector is not on the floor; those of the high floor, where there are two; and in a list of windows the first step.
 #[derive(Clone, Copy)]
 pub struct Judged<'a> {
     pub step: &'a [u8],
     pub costs: &'a [u8],
     pub high: &'a [u8],
+    pub first: Option<&'a [u8]>,
 }
 
 impl Judged<'_> {
@@ -79,6 +93,11 @@ impl Judged<'_> {
     /// Whether the goal or some window cell is.
     pub fn on_wall(&self) -> bool {
         named_cells(self.step).iter().any(|cell| self.is_wall(*cell))
+    }
+
+    /// Whether a list of windows has the step without window, or in another sector than the first's.
+    pub fn no_window_there(&self) -> bool {
+        self.first.is_some_and(|first| self[2] != 1 || self[0] != first[0])
     }
 }
 
@@ -100,9 +119,9 @@ pub struct Row<T: ?Sized> {
 /// The table, a field for each of its places.
 pub struct Table<'a> {
     /// "lent memory" and "step list"
-    pub lent: [Row<Given<'a>>; 3],
+    pub lent: [Row<Given<'a>>; 4],
     /// "each step"
-    pub each_step: [Row<Judged<'a>>; 6],
+    pub each_step: [Row<Judged<'a>>; 7],
     /// "in the sector call alone, after 16" (02, Job 8)
     pub sector_call: [Row<Given<'a>>; 1],
     /// "after 16, which looks at both floors" (02, Job 9)
@@ -120,7 +139,8 @@ impl<'a> Table<'a> {
             lent: [
                 Row { number: 1, holds: |g| [g.costs, g.high].iter().flatten().any(|costs| costs.len() != size(g)) },
                 Row { number: 2, holds: |g| g.sheet.is_some_and(|length| length != size(g)) },
-                Row { number: 3, holds: |g| g.steps.is_some_and(|steps| !step_list_fits(g.leg, steps.len())) },
+                Row { number: 3, holds: |g| g.steps.is_some_and(|steps| !step_list_fits(g, steps.len())) },
+                Row { number: NOT_2_TO_8, holds: |g| g.windows && !(2..=8).contains(&g.step_count()) },
             ],
             each_step: [
                 Row { number: 4, holds: |s| s[0] > 63 || s[2] > 1 || s[6] != 0 || s[7] != 0 },
@@ -129,6 +149,7 @@ impl<'a> Table<'a> {
                 Row { number: 7, holds: |s| s[2] == 1 && !(on_edge(s[3], s[5]) && on_edge(s[4], s[5])) },
                 Row { number: 8, holds: |s| s[2] == 1 && s[3] > s[4] },
                 Row { number: ON_WALL, holds: |s| s.on_wall() },
+                Row { number: NO_WINDOW_THERE, holds: |s| s.no_window_there() },
             ],
             sector_call: [Row {
                 number: FIELDLESS,
@@ -150,7 +171,7 @@ impl<'a> Table<'a> {
         }
     }
 
-    /// The number that a call gets: of the first row that holds, down the table, 4 to 8 and 16 for one step
+    /// The number that a call gets: of the first row that holds, down the table, 4 to 8, 16 and 20 for one step
     /// before the next step, then 17 or 18; 0 where none holds.
     pub fn number(&self, given: &Given<'a>) -> u8 {
         let steps = given.steps.unwrap_or(&[]);
@@ -172,10 +193,11 @@ pub fn first<T: ?Sized>(rows: &[Row<T>], of: &T) -> Option<u8> {
 /// Each step of a call, with the costs of its sector.
 pub fn each<'a>(given: &Given<'a>) -> impl Iterator<Item = Judged<'a>> {
     let [costs, high] = [given.costs, given.high].map(|floor| floor.unwrap_or(&[]));
-    let leg = given.leg;
-    given.steps.unwrap_or(&[]).chunks(8).map(move |step| {
+    let (leg, steps) = (given.leg, given.steps.unwrap_or(&[]));
+    let first = if given.windows { steps.get(..8) } else { None };
+    steps.chunks(8).map(move |step| {
         let at = if leg { 100 * usize::from(step[0]) } else { 0 };
-        Judged { step, costs: costs.get(at..at + 100).unwrap_or(&[]), high }
+        Judged { step, costs: costs.get(at..at + 100).unwrap_or(&[]), high, first }
     })
 }
 
@@ -205,8 +227,14 @@ pub fn size(given: &Given) -> usize {
     if given.leg { 6400 } else { 100 }
 }
 
-fn step_list_fits(leg: bool, length: usize) -> bool {
-    if leg { length != 0 && length <= 128 && length.is_multiple_of(8) } else { length == 8 }
+/// Whether a call takes step bytes of this length.
+pub fn step_list_fits(given: &Given, length: usize) -> bool {
+    match (given.leg, given.windows) {
+        (true, _) => length != 0 && length <= 128 && length.is_multiple_of(8),
+        // "3, which here means no multiple of 8" (02, Job 13)
+        (_, true) => length.is_multiple_of(8),
+        _ => length == 8,
+    }
 }
 
 /// North row 0, East column 9, South row 9, West column 0.

@@ -2,12 +2,14 @@
 //! the difference stays.
 
 use crate::cases::Case;
-use crate::subject::{CELLS, NO_POSITION};
+use crate::subject::{CELLS, Call, NO_POSITION};
 
 /// A change that makes an input simpler.
 #[derive(Clone, Copy)]
 enum Change {
     DropStep,
+    DropWindow(usize),
+    WindowCell(usize),
     StepByteZero(usize),
     NoPrevious,
     PreviousZero(usize),
@@ -49,6 +51,8 @@ pub fn smallest(case: &Case, differs: &dyn Fn(&Case) -> bool) -> Case {
 /// Every change that a case may take, the boldest first.
 fn changes(case: &Case) -> Vec<Change> {
     let mut list = vec![Change::DropStep, Change::NoPrevious, Change::SheetZero, Change::PositionsUnset];
+    let windows = if case.call() == Call::WindowCosts { case.steps.len() / 8 } else { 0 };
+    list.extend((0..windows).rev().flat_map(|k| [Change::DropWindow(k), Change::WindowCell(k)]));
     list.extend([Change::NarrowFirst, Change::NarrowLast]);
     list.extend([0, 1, 3, 4, 5].map(Change::StepByteZero));
     list.extend((0..32).rev().map(Change::SeedBit));
@@ -79,6 +83,8 @@ fn apply(change: Change, case: &mut Case) {
     let is_field = case.field.field != [0; CELLS];
     match change {
         Change::DropStep if case.steps.len() > 8 => case.steps.truncate(case.steps.len() - 8),
+        Change::DropWindow(k) if 8 * (k + 1) <= case.steps.len() => drop(case.steps.drain(8 * k..8 * (k + 1))),
+        Change::WindowCell(k) if 8 * (k + 1) <= case.steps.len() => case.steps[8 * k + 4] = case.steps[8 * k + 3],
         Change::StepByteZero(i) if case.steps.len() == 8 && unread(case, i) => case.steps[i] = 0,
         Change::NarrowFirst if window => case.steps[3] = case.steps[3].saturating_add(between),
         Change::NarrowLast if window => case.steps[4] = case.steps[4].saturating_sub(between),

@@ -3,6 +3,9 @@
 /// The cells of a sector.
 pub const CELLS: usize = 100;
 
+/// The windows of a list, at most: the rows of a square of costs, and the places of a row.
+pub const WINDOWS: usize = 8;
+
 pub const LOS: u32 = 0x10000;
 pub const GOAL: u32 = 0x20000;
 pub const BLOCKED: u32 = 0x40000;
@@ -119,6 +122,31 @@ pub struct Bounds {
     pub sure: [bool; CELLS],
 }
 
+/// The costs from one window to each.
+#[repr(C)]
+#[derive(Clone, Copy, PartialEq, Eq, Debug)]
+pub struct WindowRow {
+    pub costs: [u32; WINDOWS],
+}
+
+/// The costs from window to window: in row i at place j those from window i to window j.
+#[repr(C)]
+#[derive(Clone, Copy, PartialEq, Eq, Debug)]
+pub struct WindowCosts {
+    pub number: u8,
+    pub rows: [WindowRow; WINDOWS],
+}
+
+impl WindowCosts {
+    pub fn new(number: u8, square: [[u32; WINDOWS]; WINDOWS]) -> Self {
+        WindowCosts { number, rows: square.map(|costs| WindowRow { costs }) }
+    }
+
+    pub fn square(&self) -> [[u32; WINDOWS]; WINDOWS] {
+        self.rows.map(|row| row.costs)
+    }
+}
+
 /// A yes or no, and the numbers lent beside it.
 #[derive(Clone, Copy, Debug)]
 pub struct Previous<'a> {
@@ -155,6 +183,7 @@ pub enum Call {
     LegFileRead,
     PracticeFloor,
     Bounds,
+    WindowCosts,
 }
 
 /// A side of the comparison. A refusal answers its number, zeros else, and writes nothing.
@@ -176,6 +205,7 @@ pub trait Subject {
     fn leg_file_read(&self, file: &[u8]) -> LegFile;
     fn practice_floor(&self, seed: u32) -> PracticeFloor;
     fn bounds(&self, low: &[u8], high: &[u8], step: &[u8]) -> Bounds;
+    fn window_costs(&self, costs: &[u8], steps: &[u8]) -> WindowCosts;
 }
 
 /// The answers of a refusal.
@@ -192,6 +222,10 @@ pub mod refused {
 
     pub fn bounds(number: u8) -> Bounds {
         Bounds { number, least: [0; CELLS], greatest: [0; CELLS], sure: [false; CELLS] }
+    }
+
+    pub fn window_costs(number: u8) -> WindowCosts {
+        WindowCosts::new(number, [[0; WINDOWS]; WINDOWS])
     }
 
     pub fn line(number: u8) -> Line {

@@ -6,7 +6,7 @@ use std::sync::LazyLock;
 use oracle::judges::Judge;
 use oracle::model::{Model, Slip};
 use oracle::records::{Section, sections};
-use oracle::refusals::{FIELDLESS, NO_RANGE, ON_WALL};
+use oracle::refusals::{FIELDLESS, NO_RANGE, NO_WINDOW_THERE, NOT_2_TO_8, ON_WALL};
 use oracle::subject::*;
 
 /// Reads a record from its start.
@@ -28,8 +28,12 @@ impl<'a> Reader<'a> {
         usize::from(bytes[0]) + 256 * usize::from(bytes[1])
     }
 
+    fn word(&mut self) -> u32 {
+        u32::from_le_bytes(self.bytes(4).try_into().expect("four bytes"))
+    }
+
     fn cells(&mut self) -> [u32; CELLS] {
-        std::array::from_fn(|_| u32::from_le_bytes(self.bytes(4).try_into().expect("four bytes")))
+        std::array::from_fn(|_| self.word())
     }
 
     /// Count, positions and corners.
@@ -88,9 +92,10 @@ fn a_file_with_another_judge_says_so_in_its_name() {
     let altered = ["line_end.altered", "init.altered", "flow_build.altered", "sector.altered", "leg.altered"];
     assert_eq!(by(Judge::Altered), altered);
     assert_eq!(by(Judge::Counted), ["build", "sector.altered"]);
-    assert_eq!(by(Judge::Table), ["init.table", "sector.table", "leg.table", "refusals.table", "bounds.table"]);
+    let tables = ["init.table", "sector.table", "leg.table", "refusals.table", "bounds.table", "window_costs.table"];
+    assert_eq!(by(Judge::Table), tables);
     let files = ["leg_file_write.model", "leg_file_read.model"];
-    let floors = ["practice.model", "practice_text.model", "bounds.model"];
+    let floors = ["practice.model", "practice_text.model", "bounds.model", "window_costs.model"];
     // Of the first three, whose cells are the Rust's, the positions.
     let positions = ["init.altered", "build", "sector.altered"];
     assert_eq!(by(Judge::Model), [&positions[..], &["leg.model"], &files[..], &floors[..]].concat());
@@ -448,5 +453,40 @@ fn bounds_show_every_slip() {
     for (slip, text) in slips_of("bounds: ") {
         let taken = shown(*slip, "bounds.model", agrees);
         assert!(taken || shown(*slip, "bounds.table", agrees), "not shown: {text}");
+    }
+}
+
+/// The number of a record of window costs, and whether a model answers what it says.
+fn windows_so(model: &Model, r: &mut Reader) -> (u8, bool) {
+    let lengths = [(); 2].map(|()| usize::from(r.byte()));
+    let [costs, steps] = [101, 136].map(|places| r.bytes(places));
+    let beyond = |bytes: &[u8], length: usize| bytes[length..].iter().all(|byte| *byte == 0);
+    assert!([costs, steps].iter().zip(lengths).all(|(bytes, length)| beyond(bytes, length)), "zeros beyond");
+    let number = r.byte();
+    let square = std::array::from_fn(|_| std::array::from_fn(|_| r.word()));
+    let answer = model.window_costs(&costs[..lengths[0]], &steps[..lengths[1]]);
+    (number, answer == WindowCosts::new(number, square))
+}
+
+#[test]
+fn window_costs() {
+    each("window_costs.model", |r| assert_eq!(windows_so(&MODEL, r), (0, true)));
+    let mut numbers = Vec::new();
+    each("window_costs.table", |r| {
+        let (number, agrees) = windows_so(&MODEL, r);
+        assert!(agrees);
+        numbers.push(number);
+    });
+    numbers.sort();
+    numbers.dedup();
+    assert_eq!(numbers, [1, 3, 4, 5, 6, 7, 8, ON_WALL, NOT_2_TO_8, NO_WINDOW_THERE]);
+}
+
+#[test]
+fn window_costs_show_every_slip() {
+    let agrees = |model: &Model, r: &mut Reader| windows_so(model, r).1;
+    for (slip, text) in slips_of("window costs: ") {
+        let taken = shown(*slip, "window_costs.model", agrees);
+        assert!(taken || shown(*slip, "window_costs.table", agrees), "not shown: {text}");
     }
 }

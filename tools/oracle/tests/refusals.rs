@@ -1,8 +1,8 @@
-//! The table of refusals sees what a call was lent, cost bytes and a previous field among it: 16, 17 and 18 (02, Jobs 3, 8
-//! and 9).
+//! The table of refusals sees what a call was lent, cost bytes and a previous field among it: 16 to 20 (02, Jobs 3, 8, 9 and
+//! 13).
 
 use oracle::floors::{Step, all_windows, goal_step, one_wall, uniform, window_step};
-use oracle::refusals::{FIELDLESS, Given, NO_RANGE, ON_WALL, number};
+use oracle::refusals::{FIELDLESS, Given, NO_RANGE, NO_WINDOW_THERE, NOT_2_TO_8, ON_WALL, number};
 use oracle::subject::Previous;
 
 /// The number of a sector call with a previous field.
@@ -177,4 +177,72 @@ fn other_calls_have_no_eighteen() {
     let init = |step: &Step| number(&Given { costs: Some(&[1; 100]), steps: Some(step), ..Given::default() });
     assert_eq!((init(&goal), init(&east), sector_with(None, &goal, false, &[])), (0, 0, 0));
     assert_eq!(bounds(&[], &east), 0);
+}
+
+/// The number of windows in one sector of cost 1 but for walls.
+fn windows(walls: &[usize], steps: &[Step]) -> u8 {
+    let mut costs = [1; 100];
+    walls.iter().for_each(|wall| costs[*wall] = 255);
+    windows_of(&costs, &steps.concat())
+}
+
+fn windows_of(costs: &[u8], steps: &[u8]) -> u8 {
+    number(&Given { windows: true, costs: Some(costs), steps: Some(steps), ..Given::default() })
+}
+
+/// 3 is a length that is no multiple of 8, whatever the length; 19 any other number of steps than 2 to 8, none too.
+#[test]
+fn how_many_windows() {
+    let steps = [window_step(5, 1, 2, 5); 20].concat();
+    for length in 0..=160 {
+        let due = match (length % 8, length / 8) {
+            (0, 2..=8) => 0,
+            (0, _) => NOT_2_TO_8,
+            _ => 3,
+        };
+        assert_eq!(windows_of(&[1; 100], &steps[..length]), due);
+        assert_eq!(windows_of(&[1; 99], &steps[..length]), 1);
+    }
+    assert_eq!((windows_of(&[1; 100], &[255; 72]), windows_of(&[1; 100], &[255; 64])), (NOT_2_TO_8, 4));
+    assert_eq!((windows_of(&[1; 6400], &steps[..16]), windows_of(&[], &[])), (1, 1));
+}
+
+/// At any of eight steps, the first too: a goal, or another sector than the first's.
+#[test]
+fn what_is_no_window_there() {
+    let windows_at = |at: usize, step: Step| {
+        let mut steps = [window_step(9, 1, 2, 5); 8];
+        steps[at] = step;
+        windows(&[], &steps)
+    };
+    for at in 0..8 {
+        assert_eq!(windows_at(at, goal_step(9, 44)), NO_WINDOW_THERE);
+        assert_eq!(windows_at(at, window_step(10, 1, 2, 5)), NO_WINDOW_THERE);
+        assert_eq!((windows_at(at, window_step(9, 3, 0, 9)), windows_at(at, window_step(9, 1, 2, 5))), (0, 0));
+    }
+    let [here, there] = [9, 63].map(|sector| window_step(sector, 0, 0, 9));
+    assert_eq!((windows(&[], &[there, there]), windows(&[], &[here, there, here])), (0, NO_WINDOW_THERE));
+}
+
+/// After 16 for the same step, before 4 of the next.
+#[test]
+fn where_twenty_stands() {
+    let (east, goal, away) = (window_step(9, 1, 2, 5), goal_step(9, 44), window_step(10, 1, 2, 5));
+    let turned = changed(changed(away, 3, 59), 4, 29);
+    assert_eq!((windows(&[44], &[east, goal]), windows(&[44], &[goal, east])), (ON_WALL, ON_WALL));
+    assert_eq!((windows(&[29], &[goal, east]), windows(&[29], &[east, goal])), (NO_WINDOW_THERE, ON_WALL));
+    assert_eq!((windows(&[], &[east, turned]), windows(&[], &[east, goal, turned])), (8, NO_WINDOW_THERE));
+    assert_eq!(windows(&[], &[goal, changed(east, 0, 64)]), NO_WINDOW_THERE);
+    assert_eq!(windows(&[], &[east, changed(goal, 1, 100)]), 5);
+    // The costs are those of the one sector, for a step elsewhere too.
+    assert_eq!((windows(&[29], &[window_step(9, 0, 0, 9), away]), windows(&[19], &[east, east])), (ON_WALL, 0));
+}
+
+/// In the calls of windows alone, which have neither 9, 10, 12 nor 17.
+#[test]
+fn other_calls_have_no_nineteen_or_twenty() {
+    let (goal, east) = (goal_step(0, 44), window_step(1, 3, 2, 5));
+    assert_eq!((leg(&[], &[goal]), leg(&[], &[goal, east])), (0, 0));
+    assert_eq!((sector(&uniform(1), &goal), bounds(&[], &goal)), (0, NO_RANGE));
+    assert_eq!(windows(&[], &[east, east]), 0);
 }

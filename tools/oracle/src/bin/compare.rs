@@ -105,6 +105,9 @@ fn report_clean(group: &Group, clean: &Clean, start: Instant) {
     if clean.between.inputs > 0 {
         println!("{:<20} built between: {}", "", clean.between);
     }
+    if clean.squared.inputs > 0 {
+        println!("{:<20} held to built fields: {}", "", clean.squared);
+    }
 }
 
 /// How many inputs have a goal or a window cell of cost 255, or a window without a previous field.
@@ -183,6 +186,9 @@ fn compare(side: &dyn Subject, chosen: &Arguments) -> Result<(), String> {
     }
     if all.between.inputs > 0 {
         println!("built between: {}", all.between);
+    }
+    if all.squared.inputs > 0 {
+        println!("held to built fields: {}", all.squared);
     }
     Ok(())
 }

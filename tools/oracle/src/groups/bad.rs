@@ -4,9 +4,10 @@ use super::Cases;
 use super::bounds::{any_window, two_floors};
 use super::good::{drawn, leg_case};
 use super::legs::closed_leg;
+use super::windows;
 use crate::cases::Case;
 use crate::floors::{self, Costs, Rng, Step};
-use crate::refusals::{Given, NO_RANGE, ON_WALL, named_cells, number};
+use crate::refusals::{Given, NO_RANGE, NO_WINDOW_THERE, ON_WALL, named_cells, number};
 use crate::subject::*;
 
 /// Coordinates on either side of the edge and far off.
@@ -229,4 +230,58 @@ pub fn refused_floors(rng: &mut Rng) -> Case {
 
 pub fn bounds(rng: Rng, inputs: usize) -> Cases {
     Box::new(drawn(rng, inputs / 5, bad_floors))
+}
+
+/// A list of windows with a step made a goal or put into another sector, with a wall under a window cell, with bytes and
+/// lengths spoiled; of any number of steps up to 17.
+fn bad_windows(rng: &mut Rng) -> Case {
+    let count = rng.pick(&[2, 2, 3, 3, 4, 5, 6, 7, 8, 8, 0, 1, 9, 10, 16, 17]);
+    let (costs, mut steps) = (floors::any(rng), windows::windows(rng, count));
+    let mut case = windows::on_floor(rng, costs, &steps);
+    for _ in 0..rng.below(3) {
+        spoil_window(rng, &mut case.costs, &mut steps);
+    }
+    case.steps = steps.concat();
+    for _ in 0..rng.below(4) / 2 {
+        spoil_step(rng, &mut case.steps);
+    }
+    spoil_length(rng, &mut case.costs, 20);
+    spoil_length(rng, &mut case.steps, 20);
+    case
+}
+
+/// One of the steps with a goal, on a wall or not; in another sector; turned about; or with a wall under a cell of it.
+fn spoil_window(rng: &mut Rng, costs: &mut [u8], steps: &mut [Step]) {
+    if steps.is_empty() {
+        return;
+    }
+    let at = rng.below(steps.len());
+    let step = &mut steps[at];
+    let named = named_cells(step);
+    let wall = if named.is_empty() { usize::from(step[3]) } else { rng.pick(&named) };
+    match rng.below(5) {
+        0 => (step[1], step[2]) = (rng.below(CELLS) as u8, 0),
+        1 => step[0] = rng.below(64) as u8,
+        2 => step.swap(3, 4),
+        3 => costs[wall] = 255,
+        _ => {
+            (step[1], step[2]) = (wall as u8, 0);
+            costs[wall] = 255;
+        }
+    }
+}
+
+/// Such a list of a length that a record has room for, refused for its walls or for a step without window or elsewhere.
+pub fn refused_windows(rng: &mut Rng) -> Case {
+    loop {
+        let case = bad_windows(rng);
+        let given = Given { windows: true, costs: Some(&case.costs), steps: Some(&case.steps), ..Given::default() };
+        if [ON_WALL, NO_WINDOW_THERE].contains(&number(&given)) {
+            return case;
+        }
+    }
+}
+
+pub fn windows(rng: Rng, inputs: usize) -> Cases {
+    Box::new(drawn(rng, inputs, bad_windows))
 }

@@ -11,7 +11,8 @@ use crate::model::{CLOSED, Model, Plan, PlannedStep};
 use crate::refusals::{Given, ON_WALL, Table, each, first, named_cells};
 use crate::subject::*;
 
-/// What an input meets: a leg, but for the practice floors and the two floors at the end. All before `OneCellClosed` are of legs that are planned, since only those are written.
+/// What an input meets: a leg, but for the practice floors, the two floors, the fields with positions and the
+/// windows at the end. All before `OneCellClosed` are of legs that are planned, since only those are written.
 #[derive(Clone, Copy, PartialEq, Eq, PartialOrd, Ord, Debug)]
 pub enum Met {
     /// Windows, and every cell of them counts.
@@ -48,7 +49,7 @@ pub enum Met {
     GoalDrawnAs(u8),
     /// A practice floor whose goal has so many digits.
     GoalDigits(u8),
-    /// Two floors for this window.
+    /// Two floors for this window, or a list of windows with it.
     Window {
         boundary: u8,
         first: u8,
@@ -94,6 +95,24 @@ pub enum Met {
     ArrivesAtValue,
     /// A cell, neither wall nor in sight nor goal, that no walk arrives in.
     NoWalk,
+    /// So many windows of one sector.
+    Windows(usize),
+    /// Two that share a cell and are not the same; one that is listed twice; one on each edge.
+    Overlap,
+    SameWindow,
+    FourEdges,
+    /// A window that another does not reach.
+    CutOff,
+    /// Two windows with another cost there than back.
+    Asymmetric,
+    /// Two that share no cell, with cost 0.
+    FreeWay,
+    /// Two with a cost of 10,000 or more.
+    DearWay,
+    /// A way that is cheapest from a cell between the ends of its window.
+    LeastBetween,
+    /// A way that is cheapest through a cell of another window.
+    PastAnother,
 }
 
 /// Where a step has its wall.
@@ -150,6 +169,16 @@ impl fmt::Display for Met {
             Met::PastGoal => write!(f, "a walk past a goal"),
             Met::ArrivesAtValue => write!(f, "a walk that comes to a cell's value before building"),
             Met::NoWalk => write!(f, "a cell that no walk arrives in"),
+            Met::Windows(count) => write!(f, "{count} windows"),
+            Met::Overlap => write!(f, "windows that overlap"),
+            Met::SameWindow => write!(f, "a window listed twice"),
+            Met::FourEdges => write!(f, "windows on four edges"),
+            Met::CutOff => write!(f, "windows cut off from each other"),
+            Met::Asymmetric => write!(f, "another cost there than back"),
+            Met::FreeWay => write!(f, "cost 0 between windows apart"),
+            Met::DearWay => write!(f, "a cost of 10,000 or more"),
+            Met::LeastBetween => write!(f, "the least between the ends of a window"),
+            Met::PastAnother => write!(f, "the least through another window"),
         }
     }
 }

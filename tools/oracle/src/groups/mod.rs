@@ -10,16 +10,18 @@ mod leg_files;
 mod legs;
 mod positions;
 mod practice;
+mod windows;
 
 use std::collections::BTreeMap;
 
-pub use bad::refused_floors;
+pub use bad::{refused_floors, refused_windows};
 pub use bounds::{any_floors, floors_that_meet, range_kinds};
 pub use legs::{
     Met, Place, closed_leg, leg_kinds, leg_on_walls_that_meets, leg_that_counts, leg_that_meets, wall_kinds,
 };
 pub use positions::{field_that_meets, position_kinds};
 pub use practice::NAMED;
+pub use windows::{any_windows, window_kinds, windows_that_meet};
 
 use crate::between::{Between, Bounded};
 use crate::cases::{Ask, Case, Outcome};
@@ -29,8 +31,9 @@ use crate::journey::Followed;
 use crate::judges::{self, Judge, Judges};
 use crate::model::CLOSED;
 use crate::oracle::{self, Oracle};
-use crate::refusals::{FIELDLESS, NO_RANGE, ON_WALL};
+use crate::refusals::{FIELDLESS, NO_RANGE, NO_WINDOW_THERE, NOT_2_TO_8, ON_WALL};
 use crate::shrink;
+use crate::squares::{self, Squared};
 use crate::subject::{Call, Subject};
 
 /// Inputs of a group, one by one.
@@ -75,6 +78,7 @@ pub const GROUPS: &[Group] = &[
     Group { name: "file read", needs: &[Call::LegFileRead], cases: leg_files::reads, reaches: &[0, 14] },
     Group { name: PRACTICE, needs: &[Call::PracticeFloor], cases: practice::floors, reaches: &[0] },
     Group { name: BOUNDS, needs: &[Call::Bounds, Call::Sector], cases: bounds::bounds, reaches: &[0] },
+    Group { name: WINDOW_COSTS, needs: &[Call::WindowCosts, Call::Sector], cases: windows::costs, reaches: &[0] },
     Group { name: "line refusals", needs: &[Call::Line], cases: bad::lines, reaches: &[0, 13] },
     Group { name: "walk shallow refusals", needs: &[Call::WalkShallow], cases: bad::shallow_walks, reaches: &[0, 13] },
     Group { name: "walk steep refusals", needs: &[Call::WalkSteep], cases: bad::steep_walks, reaches: &[0, 13] },
@@ -111,6 +115,12 @@ pub const GROUPS: &[Group] = &[
         cases: bad::bounds,
         reaches: &[0, 1, 3, 4, 5, 6, 7, 8, ON_WALL, NO_RANGE],
     },
+    Group {
+        name: "window costs refusals",
+        needs: &[Call::WindowCosts, Call::Sector],
+        cases: bad::windows,
+        reaches: &[0, 1, 3, 4, 5, 6, 7, 8, ON_WALL, NOT_2_TO_8, NO_WINDOW_THERE],
+    },
 ];
 
 /// Fields whose positions are looked for.
@@ -143,6 +153,9 @@ const BUILT_ALONE: &str = "bounds, built alone";
 pub const BUILT: Group =
     Group { name: BUILT_ALONE, needs: &[Call::Bounds, Call::Sector], cases: bounds::bounds, reaches: &[0] };
 
+/// Windows of one sector.
+pub const WINDOW_COSTS: &str = "window costs";
+
 /// What a group that found no difference saw.
 #[derive(Clone, Default)]
 pub struct Clean {
@@ -160,6 +173,8 @@ pub struct Clean {
     pub cleared: Cleared,
     /// The floors that were built, of accepted calls for bounds.
     pub between: Between,
+    /// The costs that were held to built fields, of accepted calls for window costs.
+    pub squared: Squared,
 }
 
 impl Clean {
@@ -172,6 +187,7 @@ impl Clean {
         self.followed.add(&other.followed);
         self.cleared.add(&other.cleared);
         self.between.add(&other.between);
+        self.squared.add(&other.squared);
     }
 }
 
@@ -184,7 +200,7 @@ pub struct Difference {
 }
 
 /// What the oracle says of one input, by which judges, and where a side differs from it; what was followed, if anything,
-/// which arrows were looked at, and which floors were built between two.
+/// which arrows were looked at, which floors were built between two, and which costs were held to built fields.
 struct Compared {
     due: Outcome,
     outcome: Outcome,
@@ -193,13 +209,25 @@ struct Compared {
     followed: Followed,
     cleared: Cleared,
     between: Between,
+    squared: Squared,
 }
 
 impl Compared {
     /// What was compared, and nothing looked at besides.
     fn of(due: Outcome, outcome: Outcome, judges: Judges, found: Vec<String>) -> Self {
-        let (followed, cleared, between) = Default::default();
-        Compared { due, outcome, judges, found, followed, cleared, between }
+        let (followed, cleared, between, squared) = Default::default();
+        Compared { due, outcome, judges, found, followed, cleared, between, squared }
+    }
+
+    /// Holds the costs from window to window that both answer to built fields (02, Job 13).
+    fn squared(mut self, case: &Case, side: &dyn Subject) -> Self {
+        let answer = self.outcome.windows.filter(|answer| self.due.number == 0 && answer.number == 0);
+        let Some(answer) = answer else { return self };
+        match squares::held(&case.costs, &case.steps, &answer, side) {
+            Ok(squared) => self.squared = squared,
+            Err(fault) => self.found.push(fault),
+        }
+        self
     }
 
     /// Builds floors between the two of a call for bounds that both take, and holds the answer to them (02, Job 9).
@@ -254,6 +282,7 @@ impl Group {
             JOURNEY => legs::planned_kinds(),
             PRACTICE => practice::all(),
             BOUNDS => bounds::all(),
+            WINDOW_COSTS => windows::all(),
             _ => Vec::new(),
         }
     }
@@ -266,6 +295,7 @@ impl Group {
             ON_WALLS => legs::met_on_walls(case),
             PRACTICE => practice::met(case),
             BOUNDS => bounds::met(case),
+            WINDOW_COSTS => windows::met(case),
             _ => Vec::new(),
         }
     }
@@ -273,7 +303,8 @@ impl Group {
     /// The judges of the group: those of the calls that it asks, and the table where it must have reached a refusal of the
     /// table's, which has neither 15 nor the numbers of a leg's file.
     pub fn judges(&self) -> Vec<Judge> {
-        let asked = if self.needs.contains(&Call::Bounds) { &[Call::Bounds][..] } else { self.needs };
+        // Where another call is asked, the sector call serves to hold its answers to.
+        let asked = if self.needs.len() > 1 && self.needs[1] == Call::Sector { &self.needs[..1] } else { self.needs };
         let accepted = asked.iter().filter(|_| self.reaches.contains(&0)).flat_map(|call| oracle::judges(*call));
         let named: Vec<Judge> = accepted.copied().collect();
         let refused = self.reaches.iter().any(|number| ![0, CLOSED].contains(number));
@@ -296,7 +327,7 @@ impl Group {
                 let compared = compared(case, side);
                 Compared { found: Vec::new(), ..compared }.built(case, side)
             }
-            _ => compared(case, side).cleared(case).built(case, side),
+            _ => compared(case, side).cleared(case).built(case, side).squared(case, side),
         }
     }
 
@@ -305,7 +336,7 @@ impl Group {
         for case in (self.cases)(Rng::new(seed), inputs) {
             clean.inputs += 1;
             self.met(&case).into_iter().for_each(|met| *clean.met.entry(met).or_default() += 1);
-            let Compared { due, judges, found, followed, cleared, between, .. } = self.compared(&case, side);
+            let Compared { due, judges, found, followed, cleared, between, squared, .. } = self.compared(&case, side);
             clean.numbers[usize::from(due.number)] += 1;
             for (count, decided) in clean.judged.iter_mut().zip(judges) {
                 *count += usize::from(decided);
@@ -313,6 +344,7 @@ impl Group {
             clean.followed.add(&followed);
             clean.cleared.add(&cleared);
             clean.between.add(&between);
+            clean.squared.add(&squared);
             if !found.is_empty() {
                 let smallest = shrink::smallest(&case, &|simpler| !self.compared(simpler, side).found.is_empty());
                 let found = self.compared(&smallest, side).found;
@@ -338,6 +370,9 @@ impl Group {
             return Some(format!("`{name}` did not meet {lacking} in {inputs} inputs: ask for more by --inputs"));
         }
         if let Some(lacking) = clean.between.lacks().filter(|_| self.needs.contains(&Call::Bounds)) {
+            return Some(format!("`{name}` did not meet {lacking} in {inputs} inputs: ask for more by --inputs"));
+        }
+        if let Some(lacking) = clean.squared.lacks().filter(|_| self.needs.contains(&Call::WindowCosts)) {
             return Some(format!("`{name}` did not meet {lacking} in {inputs} inputs: ask for more by --inputs"));
         }
         let has_arrows = self.has_rust() && self.needs.iter().any(|call| [Call::Sector, Call::Leg].contains(call));

@@ -193,4 +193,12 @@ impl Subject for Model {
             None => self.bounds_between(low, high, step),
         }
     }
+
+    fn window_costs(&self, costs: &[u8], steps: &[u8]) -> WindowCosts {
+        let given = Given { windows: true, costs: Some(costs), steps: Some(steps), ..Given::default() };
+        match self.turned_away(&given, &mut []) {
+            Some(number) => self.refused_window_costs(number),
+            None => self.costs_between_windows(costs, steps),
+        }
+    }
 }

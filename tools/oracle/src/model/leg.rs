@@ -69,7 +69,7 @@ impl Model {
     }
 
     /// The window cells that count, in order.
-    fn counting_cells(&self, step: &[u8], window: &[usize], previous: &[u32]) -> Vec<usize> {
+    pub(super) fn counting_cells(&self, step: &[u8], window: &[usize], previous: &[u32]) -> Vec<usize> {
         let boundary = usize::from(step[5]);
         let counts = |cell: &usize| self.counts(*cell, boundary, window, previous);
         let counting: Vec<usize> = window.iter().copied().filter(counts).collect();

@@ -12,6 +12,7 @@ mod numbers;
 mod positions;
 mod practice;
 mod slips;
+mod window_costs;
 
 pub use leg::{CLOSED, Plan, PlannedStep};
 pub use slips::Slip;

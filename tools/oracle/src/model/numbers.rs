@@ -3,7 +3,8 @@
 use super::leg::taken_but_for_walls;
 use super::{Model, Slip};
 use crate::refusals::{
-    self, FIELDLESS, Given, Judged, NO_RANGE, ON_WALL, Table, first, is_no_range, named_cells, size,
+    self, FIELDLESS, Given, Judged, NO_RANGE, NO_WINDOW_THERE, NOT_2_TO_8, ON_WALL, Table, first, is_no_range,
+    named_cells, size, step_list_fits,
 };
 
 /// What comes of a call.
@@ -30,9 +31,12 @@ impl Model {
         self.slip_without_field(&mut table);
         self.slip_on_floors(&mut table);
         self.slip_in_range(&mut table);
+        self.slip_in_list(&mut table);
+        self.slip_at_place(&mut table);
         self.slip_elsewhere(&mut table);
         let due = self.early(&table, given).or_else(|| self.late(given));
         match due.unwrap_or_else(|| table.number(given)) {
+            0 if given.windows => self.after_all(given),
             ON_WALL if self.slips(Slip::OnWallCounting) && !counting_wall(given) => 0,
             number => number,
         }
@@ -128,13 +132,70 @@ impl Model {
         }
     }
 
+    /// Slips in the rows of a list of windows: its costs, its bytes, and how many steps it has.
+    fn slip_in_list(&self, table: &mut Table) {
+        let [costs, _, length, count] = &mut table.lent;
+        match self.slip {
+            Slip::ListEmptyThree => {
+                length.holds = |g| fits_not(g) || (g.windows && g.steps.is_some_and(|steps| steps.is_empty()))
+            }
+            Slip::ListLongThree => {
+                length.holds = |g| fits_not(g) || (g.windows && g.steps.is_some_and(|steps| steps.len() > 128))
+            }
+            Slip::ListOneTaken => count.holds = |g| g.windows && !(1..=8).contains(&g.step_count()),
+            Slip::ListNineTaken => count.holds = |g| g.windows && !(2..=9).contains(&g.step_count()),
+            Slip::ListWholeFloor => {
+                costs.holds = |g| {
+                    let due = if g.windows { 6400 } else { size(g) };
+                    [g.costs, g.high].iter().flatten().any(|costs| costs.len() != due)
+                }
+            }
+            Slip::ListCountBeforeCosts => table.lent.rotate_right(1),
+            Slip::ListCountBeforeLength => table.lent.swap(2, 3),
+            Slip::ListCountAfterSteps => count.holds = |_| false,
+            _ => {}
+        }
+    }
+
+    /// Slips in the row of 20, which is the last of each step of a list of windows, and in that of 16 there.
+    fn slip_at_place(&self, table: &mut Table) {
+        let rows = &mut table.each_step;
+        match self.slip {
+            Slip::ListPlaceBeforeWalls => rows.swap(5, 6),
+            Slip::ListPlaceBeforeSteps => rows.rotate_right(1),
+            Slip::ListPlaceAfterSteps => rows[6].holds = |_| false,
+            Slip::ListGoalTaken => rows[6].holds = |s| s.no_window_there() && s[2] == 1,
+            Slip::ListFirstGoalTaken => rows[6].holds = |s| s.no_window_there() && !is_listed(s, 0),
+            Slip::ListFirstStepAlone => rows[6].holds = |s| s.no_window_there() && is_listed(s, 0),
+            Slip::ListSectorTaken => rows[6].holds = |s| s.no_window_there() && s[2] != 1,
+            Slip::ListSectorOfSecond => {
+                rows[6].holds = |s| s.no_window_there() && (s[2] != 1 || is_listed(s, 1));
+            }
+            Slip::ListSectorZero => rows[6].holds = |s| s.no_window_there() || (s.first.is_some() && s[0] != 0),
+            Slip::ListWallOfFirst => rows[5].holds = |s| s.on_wall() && (s.first.is_none() || is_listed(s, 0)),
+            _ => {}
+        }
+    }
+
+    /// A number that a slip gives to a list of windows behind all others.
+    fn after_all(&self, given: &Given) -> u8 {
+        match self.slip {
+            Slip::ListCountAfterSteps if !(2..=8).contains(&given.step_count()) => NOT_2_TO_8,
+            Slip::ListPlaceAfterSteps if refusals::each(given).any(|step| step.no_window_there()) => NO_WINDOW_THERE,
+            Slip::ListNamedTwice => 9,
+            Slip::ListFieldless => FIELDLESS,
+            Slip::ListOverlapRefused if overlaps(given) => NO_WINDOW_THERE,
+            _ => 0,
+        }
+    }
+
     fn slip_elsewhere(&self, table: &mut Table) {
         let others = &mut table.others;
         match self.slip {
             Slip::SeventeenSteps => {
                 table.lent[2].holds = |g| {
-                    let taken = |n: usize| if g.leg { n != 0 && n <= 136 && n.is_multiple_of(8) } else { n == 8 };
-                    g.steps.is_some_and(|steps| !taken(steps.len()))
+                    let seventeen = g.leg && g.steps.is_some_and(|steps| steps.len() == 136);
+                    fits_not(g) && !seventeen
                 }
             }
             Slip::TenBeforeNine => table.whole_leg.swap(0, 1),
@@ -218,7 +279,26 @@ fn fieldless_window(g: &Given) -> bool {
 }
 
 fn is_init(g: &Given) -> bool {
-    g.costs.is_some() && g.steps.is_some() && g.sheet.is_none() && !g.is_bounds_call()
+    g.costs.is_some() && g.steps.is_some() && g.sheet.is_none() && !g.is_bounds_call() && !g.windows
+}
+
+/// Whether the condition of 3 holds.
+fn fits_not(g: &Given) -> bool {
+    g.steps.is_some_and(|steps| !step_list_fits(g, steps.len()))
+}
+
+/// Whether the step is the k-th of a list of windows, from 0.
+fn is_listed(s: &Judged, k: usize) -> bool {
+    s.first.is_some_and(|first| first.as_ptr().wrapping_add(8 * k) == s.step.as_ptr())
+}
+
+/// Whether two of the steps name a cell in common.
+fn overlaps(g: &Given) -> bool {
+    let mut named: Vec<usize> = refusals::each(g).flat_map(|step| named_cells(step.step)).collect();
+    let cells = named.len();
+    named.sort();
+    named.dedup();
+    named.len() < cells
 }
 
 fn no_window(g: &Given) -> bool {
