@@ -12,11 +12,13 @@
  * arrow. init leaves every position at 255; of a built field, started or given with any positions, walls, cells in sight and
  * goals have none, lowered cells have one in the list, and building from that corner alone comes to the cell's cost, from an
  * earlier one not; the sector call has the same positions. A line's end is on the edge, and that of a corner and a goal in
- * unequal columns and rows is mirrored where these are, left to right and top to bottom. A fault, and a run in which no call was accepted or none refused,
- * no leg of several steps planned, none refused with 15, no arrow followed, no diagonal one looked at, init, the sector call,
- * a leg or bounds never refused with 16, the sector call never with 17, bounds never with 18, no cell sure, no position
- * looked at with and without an earlier corner, or no practice floor with all three costs, is one line on standard error and
- * exit status 1.
+ * unequal columns and rows is mirrored where these are, left to right and top to bottom. Window costs are accepted of two to
+ * eight windows of one sector alone, and each is the least cost of a cell of the one window in the field that the sector call
+ * builds for the other. A fault, and a run in which no call was accepted or none refused, no leg of several steps planned,
+ * none refused with 15, no arrow followed, no diagonal one looked at, init, the sector call, a leg, bounds or window costs
+ * never refused with 16, the sector call never with 17, bounds never with 18, window costs never with 19 or 20, no cell sure,
+ * no position looked at with and without an earlier corner, no window reached or none cut off from another, or no practice
+ * floor with all three costs, is one line on standard error and exit status 1.
  */
 #define _DEFAULT_SOURCE
 #include <stdio.h>
@@ -163,11 +165,14 @@ static int zeros(const void *part, size_t length)
 
 /* How many calls answered 0, and how many a number; how many legs of several steps were planned, and how many had a window
    in which no cell counts; from how many cells arrows were followed; how many diagonal arrows were looked at; how many of
-   init, sector calls, legs and bounds had a step on a wall; how many sector calls had a window without a previous field;
-   how many practice floors had all three costs; how many bounds had no from-to or no window, and how many cells were sure;
-   how many positions were looked at, and how many of them beside an earlier corner. */
-static unsigned long accepted, turned_away, planned, closed, followed, diagonal, on_wall[4], fieldless, practised, unranged, sure,
+   init, sector calls, legs, bounds and window costs had a step on a wall; how many sector calls had a window without a
+   previous field; how many practice floors had all three costs; how many bounds had no from-to or no window, and how many
+   cells were sure; how many positions were looked at, and how many of them beside an earlier corner; how many lists of
+   windows had other than two to eight, and how many a step without window or elsewhere; how many windows were reached from
+   another, and how many were not. */
+static unsigned long accepted, turned_away, planned, closed, followed, diagonal, on_wall[5], fieldless, practised, unranged, sure,
     positioned, earliest;
+static unsigned long miscounted, misplaced, ways_met[2];
 
 static void tallied(uint8_t number)
 {
@@ -300,8 +305,8 @@ static void open_steps(const Fenced *costs, const Fenced *route)
             *wall = 1;
 }
 
-/* Looks at 16, which init (0), a sector call (1), a leg (2) and bounds (3) have: the steps of an accepted call stand on no
-   wall. */
+/* Looks at 16, which init (0), a sector call (1), a leg (2), bounds (3) and window costs (4) have: the steps of an accepted
+   call stand on no wall. */
 static void walls(int call, uint8_t number, const Fenced *costs, const Fenced *route)
 {
     on_wall[call] += number == 16;
@@ -560,12 +565,94 @@ static void bounds(Fenced *low, Fenced *high, Fenced *route)
     a_floor_between(&b, between, NULL, route, arrows);
 }
 
+/* Windows of one sector, mostly two to eight, and costs with mostly no wall under them; now and then one of the steps is
+   without window, in another sector, or spoiled. */
+static void windows(Fenced *costs, Fenced *route)
+{
+    uint8_t *wall;
+    int sector = (int)below(64);
+    place(costs, near(100));
+    fill(costs);
+    place(route, below(8) ? 8 * (2 + below(7)) : below(8) ? near(8 * (1 + below(17))) : 0);
+    for (size_t i = 0; i < route->length; i++)
+        route->at[i] = (uint8_t)draw();
+    for (size_t i = 0; i + 8 <= route->length; i += 8) {
+        step(route->at + i, below(40) ? sector : (int)below(64), below(40) != 0, (uint8_t)below(4), 40);
+        while (below(64) && (wall = wall_under(costs, route, i, 0)) != NULL)
+            *wall = 1;
+    }
+}
+
+/* Whether some step has no window, or is in another sector than the first. */
+static int elsewhere(const Fenced *route)
+{
+    for (size_t i = 0; i < route->length; i += 8)
+        if (route->at[i + 2] != 1 || route->at[i] != route->at[0])
+            return 1;
+    return 0;
+}
+
+/* The least cost of a window's cells in a built field. */
+static uint32_t least_of(const HanjolumIntegrationField *built, const uint8_t *s)
+{
+    uint32_t least = UNREACHED;
+    for (int cell = s[3]; cell <= s[4]; cell += s[5] % 2 ? 10 : 1)
+        if ((built->field[cell] & HANJOLUM_FIELD_COST) < least)
+            least = built->field[cell] & HANJOLUM_FIELD_COST;
+    return least;
+}
+
+/* Looks at each of accepted window costs, building for one window after the other. */
+static void ways(const HanjolumWindowCosts *w, const Fenced *costs, const Fenced *route)
+{
+    static const uint32_t none[100];
+    uint8_t sheet[100];
+    size_t listed = route->length / 8;
+    for (size_t j = 0; j < HANJOLUM_WINDOWS; j++) {
+        HanjolumBuildAnswer a = {0};
+        if (j < listed)
+            a = hanjolum_sector(costs->at, 100, route->at + 8 * j, 8, true, none, 100, sheet, 100);
+        for (size_t i = 0; i < HANJOLUM_WINDOWS; i++) {
+            int used = i < listed && j < listed;
+            uint32_t cost = w->rows[i].costs[j], due = used ? least_of(&a.field, route->at + 8 * i) : UNREACHED;
+            if (cost != due)
+                fail("a cost from window to window is not the least that is built, or an unused one is not 65535");
+            ways_met[cost == UNREACHED] += used && i != j;
+        }
+    }
+}
+
+/* Costs from window to window. */
+static void window_costs(Fenced *costs, Fenced *route)
+{
+    windows(costs, route);
+    HanjolumWindowCosts w = hanjolum_window_costs(costs->at, costs->length, route->at, route->length);
+    int few = route->length < 16 || route->length > 64;
+    counted(w.number);
+    walls(4, w.number, costs, route);
+    miscounted += w.number == 19;
+    misplaced += w.number == 20;
+    if (w.number != 0 && !zeros(w.rows, sizeof w.rows))
+        fail("refused window costs are not zero");
+    if (w.number == 3 && route->length % 8 == 0)
+        fail("3 is answered to whole steps");
+    if (w.number == 19 ? !few || route->length % 8 != 0 : w.number != 1 && w.number != 3 && few)
+        fail("19 is answered to two to eight windows, or another number to others");
+    if (w.number == 20 && !elsewhere(route))
+        fail("20 is answered to windows of one sector");
+    if (w.number == 0 && elsewhere(route))
+        fail("a step without window, or in another sector, is accepted");
+    if (w.number == 0)
+        ways(&w, costs, route);
+}
+
 /* One call of each kind that writes a sheet, and one of each that does not. */
 static void round_of_calls(Fenced *costs, Fenced *route, Fenced *previous, Fenced *sheet)
 {
     file_calls(route, sheet);
     a_practice_floor(sheet);
     bounds(costs, previous, route);
+    window_costs(costs, route);
     int leg = below(4) == 0;
     place(costs, near(leg ? 6400 : 100));
     place(route, near(leg ? 8 * (1 + below(17)) : 8));
@@ -648,8 +735,8 @@ static void report(unsigned long rounds)
         fail("no arrow of a leg was followed");
     if (diagonal == 0)
         fail("no diagonal arrow was looked at");
-    if (on_wall[0] == 0 || on_wall[1] == 0 || on_wall[2] == 0 || on_wall[3] == 0)
-        fail("init, the sector call, a leg or bounds were never refused with 16");
+    if (on_wall[0] == 0 || on_wall[1] == 0 || on_wall[2] == 0 || on_wall[3] == 0 || on_wall[4] == 0)
+        fail("init, the sector call, a leg, bounds or window costs were never refused with 16");
     if (fieldless == 0)
         fail("the sector call was never refused with 17");
     if (practised == 0)
@@ -658,12 +745,18 @@ static void report(unsigned long rounds)
         fail("bounds were never refused with 18, or no cell was sure");
     if (positioned == 0 || earliest == 0)
         fail("no position was looked at, or none beside an earlier corner");
+    if (miscounted == 0 || misplaced == 0)
+        fail("window costs were never refused with 19, or never with 20");
+    if (ways_met[0] == 0 || ways_met[1] == 0)
+        fail("no window was reached from another, or none was cut off from one");
     printf("%lu rounds of calls, %lu accepted and %lu refused, %lu legs of several steps planned and %lu refused with 15, "
            "arrows followed from %lu cells to the goal's sector, %lu diagonal arrows looked at, "
-           "%lu init, %lu sector calls, %lu legs and %lu bounds refused with 16, %lu sector calls with 17, %lu bounds with 18, "
+           "%lu init, %lu sector calls, %lu legs, %lu bounds and %lu window costs refused with 16, %lu sector calls with 17, "
+           "%lu bounds with 18, %lu window costs with 19 and %lu with 20, %lu windows reached from another and %lu cut off, "
            "%lu sure cells, %lu practice floors, %lu positions looked at and %lu of them beside an earlier corner, nothing found\n",
            rounds, accepted, turned_away, planned, closed, followed, diagonal, on_wall[0], on_wall[1], on_wall[2],
-           on_wall[3], fieldless, unranged, sure, practised, positioned, earliest);
+           on_wall[3], on_wall[4], fieldless, unranged, miscounted, misplaced, ways_met[0], ways_met[1], sure, practised,
+           positioned, earliest);
     written();
 }
 

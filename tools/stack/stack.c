@@ -1,8 +1,9 @@
 /*
- * The deepest stack of a leg: plans legs of sixteen steps on a painted stack and looks how far down the paint is gone.
+ * The deepest stack of a leg, and of a call for window costs: plans legs of sixteen steps, and asks for the costs of eight
+ * windows, on a painted stack and looks how far down the paint is gone.
  * The floors are hard: sectors are changed cell by cell, and a change is kept where the waves do not become fewer and the
- * next step can still be planned.
- * What goes wrong, a refused leg among it, is one line on standard error and exit status 1.
+ * next step can still be planned. The windows are those of a hard sector: its own and seven more cells of its edges.
+ * What goes wrong, a refused call among it, is one line on standard error and exit status 1.
  *
  *     rt staticlib hanjolum
  *     cc -pthread -Iinclude tools/stack/stack.c target/staticlib/libhanjolum.a -o target/stack && target/stack
@@ -26,6 +27,7 @@ static void fail(const char *what)
 static uint8_t floor_costs[HANJOLUM_FLOOR];
 static uint8_t sheet[HANJOLUM_FLOOR];
 static uint8_t steps[HANJOLUM_STEPS * HANJOLUM_STEP];
+static uint8_t windows[HANJOLUM_WINDOWS * HANJOLUM_STEP];
 static uintptr_t before;
 static uint8_t number;
 
@@ -98,8 +100,31 @@ static void *plan(void *unused)
     return unused;
 }
 
-/* How many bytes of its stack a leg uses. */
-static size_t depth(uint8_t *stack)
+static void *cost_windows(void *sector)
+{
+    before = (uintptr_t)__builtin_frame_address(0);
+    number = hanjolum_window_costs(sector, HANJOLUM_CELLS, windows, sizeof windows).number;
+    return sector;
+}
+
+/* A window step and seven windows of one cell behind it, of cells on the edges that are no walls; whether there are as
+   many. */
+static int make_windows(const uint8_t *costs, const uint8_t *step)
+{
+    int found = 1;
+    memcpy(windows, step, HANJOLUM_STEP);
+    for (int i = 0; i < 40 && found < HANJOLUM_WINDOWS; i++) {
+        int boundary = i % 4, at = i / 4;
+        int cell = boundary == 0 ? at : boundary == 1 ? 10 * at + 9 : boundary == 2 ? 90 + at : 10 * at;
+        uint8_t window[HANJOLUM_STEP] = {step[0], 0, 1, (uint8_t)cell, (uint8_t)cell, (uint8_t)boundary, 0, 0};
+        if (costs[cell] != HANJOLUM_WALL)
+            memcpy(windows + HANJOLUM_STEP * found++, window, HANJOLUM_STEP);
+    }
+    return found == HANJOLUM_WINDOWS;
+}
+
+/* How many bytes of its stack a call uses. */
+static size_t depth(uint8_t *stack, void *(*call)(void *), void *lent)
 {
     pthread_t thread;
     pthread_attr_t attributes;
@@ -107,23 +132,28 @@ static size_t depth(uint8_t *stack)
     memset(stack, PAINT, STACK);
     pthread_attr_init(&attributes);
     pthread_attr_setstack(&attributes, stack, STACK);
-    if (pthread_create(&thread, &attributes, plan, NULL) != 0)
+    if (pthread_create(&thread, &attributes, call, lent) != 0)
         fail("no thread on the painted stack");
     pthread_join(thread, NULL);
     pthread_attr_destroy(&attributes);
     if (number != 0)
-        fail("the leg was refused");
+        fail("the call was refused");
     while (paint < STACK && stack[paint] == PAINT)
         paint++;
     if (paint == STACK || before < (uintptr_t)(stack + paint))
-        fail("the leg did not run on the painted stack");
+        fail("the call did not run on the painted stack");
     return before - (uintptr_t)(stack + paint);
+}
+
+static void deeper(size_t *deepest, size_t used)
+{
+    *deepest = used > *deepest ? used : *deepest;
 }
 
 int main(int argc, char **argv)
 {
     uint8_t *stack = aligned_alloc(4096, STACK);
-    size_t deepest = 0;
+    size_t deepest = 0, of_windows = 0;
     long most = 0;
     (void)argv;
     if (argc > 1)
@@ -137,14 +167,18 @@ int main(int argc, char **argv)
         for (int i = leg % 2; i < HANJOLUM_STEPS; i += 4) {
             const uint8_t *step = steps + i * HANJOLUM_STEP;
             const uint8_t *next = i + 1 < HANJOLUM_STEPS ? step + HANJOLUM_STEP : NULL;
-            long waves = harden(floor_costs + step[0] * HANJOLUM_CELLS, step, next);
+            uint8_t *costs = floor_costs + step[0] * HANJOLUM_CELLS;
+            long waves = harden(costs, step, next);
             most = waves > most ? waves : most;
+            if (i > 0 && make_windows(costs, step))
+                deeper(&of_windows, depth(stack, cost_windows, costs));
         }
-        size_t used = depth(stack);
-        deepest = used > deepest ? used : deepest;
+        deeper(&deepest, depth(stack, plan, NULL));
     }
     free(stack);
-    printf("%zu bytes of stack at most, with %ld waves\n", deepest, most);
+    if (of_windows == 0)
+        fail("no call for window costs was made");
+    printf("%zu bytes of stack at most, with %ld waves; %zu for window costs\n", deepest, most, of_windows);
     if (fflush(stdout) != 0)
         fail("standard output cannot be written");
     return 0;
