@@ -1,7 +1,8 @@
 //! Speed: our sector call against the Rust's `init`, `build`, `new`, `build` on the same inputs, from the same driver, in
-//! one run; and our leg against its sector calls, where every window cell counts, and by itself, where some do not. The Rust
-//! is the copy altered as document 02, Jobs 7 and 11 ask, which writes the same bytes. A few inputs are timed at once, and of many
-//! rounds the least time counts: another program that runs adds to a time and never takes from it.
+//! one run; our leg against its sector calls, where every window cell counts, and by itself, where some do not; and our
+//! costs from window to window against the Rust's `init` and `build` for each window. The Rust is the copy altered as
+//! document 02, Jobs 7 and 11 ask, which writes the same bytes. A few inputs are timed at once, and of many rounds the least
+//! time counts: another program that runs adds to a time and never takes from it.
 
 use std::hint::black_box;
 use std::process::ExitCode;
@@ -13,7 +14,7 @@ use altered::flowfields::fields::flow_field::FlowField;
 use altered::flowfields::fields::integration_field::IntegrationField as RustField;
 use altered::flowfields::route::RouteStep;
 use oracle::command;
-use oracle::copies::altered::{cost_field, route_step};
+use oracle::copies::altered::{cost_field, route_step, window_cells};
 use oracle::floors::{self, Rng, Step};
 use oracle::library::Library;
 use oracle::model::Model;
@@ -26,6 +27,8 @@ const INPUTS: usize = 256;
 const AT_ONCE: usize = 16;
 /// Floors that a leg is planned over.
 const LEGS: usize = 16;
+/// Lists of windows of each length.
+const LISTS: usize = 64;
 /// How often each side runs through them.
 const ROUNDS: usize = 101;
 
@@ -239,6 +242,74 @@ fn legs() {
     println!("{:<14} {:>9} {:>9.0}", "gaps", "", measure_alone(&drawn(Floor::Gaps)));
 }
 
+/// Windows of one sector in both forms.
+struct Windows {
+    costs: [u8; CELLS],
+    steps: Vec<u8>,
+    rust_costs: CostField,
+    rust_steps: Vec<RouteStep>,
+    cells: Vec<Vec<usize>>,
+}
+
+/// So many windows, of any boundary and length, on a floor with no wall under them.
+fn windows(rng: &mut Rng, open: bool, count: usize) -> Windows {
+    let mut costs = input(rng, open, false).costs;
+    let steps: Vec<Step> = (0..count).map(|_| input(rng, true, true).step).collect();
+    steps.iter().for_each(|step| floors::open(rng, &mut costs, step));
+    Windows {
+        costs,
+        steps: steps.concat(),
+        rust_costs: cost_field(&costs),
+        rust_steps: steps.iter().map(|step| route_step(step)).collect(),
+        cells: steps.iter().map(|step| window_cells(step)).collect(),
+    }
+}
+
+/// The square by the Rust: a field for each window, and of it the least cost of each window's cells.
+fn square_by_rust(windows: &Windows) -> [[u32; WINDOWS]; WINDOWS] {
+    let mut square = [[65535; WINDOWS]; WINDOWS];
+    for (j, step) in windows.rust_steps.iter().enumerate() {
+        let mut field = RustField::init(&windows.rust_costs, step);
+        field.build(&windows.rust_costs);
+        let cells = field.get();
+        for (row, window) in square.iter_mut().zip(&windows.cells) {
+            row[j] = window.iter().fold(65535, |least, cell| least.min(cells[*cell] & 0xffff));
+        }
+    }
+    square
+}
+
+/// What the Rust takes for the square, and ours.
+fn measure_windows(inputs: &[Windows]) -> [f64; 2] {
+    let ours = |input: &Windows| Library.window_costs(&input.costs, &input.steps);
+    let alike = inputs.iter().all(|input| square_by_rust(input) == ours(input).square());
+    assert!(alike, "both have the same costs from window to window");
+    let mut times: [Times; 2] = Default::default();
+    for _ in 0..ROUNDS {
+        times[0].round(inputs, 1, |input| black_box(square_by_rust(input))[0][1] as u8);
+        times[1].round(inputs, 1, |input| black_box(ours(input)).number);
+    }
+    times.map(|side| side.each(inputs.len()))
+}
+
+fn squares() {
+    println!("nanoseconds a square of window costs: {LISTS} lists of windows, the least of {ROUNDS} rounds for each");
+    println!(
+        "Rust: init and build for each window, from its own types made before, and the least cost of each window's"
+    );
+    println!("cells; ours: the call, from bytes, refusals and answer by value included");
+    println!("{:<20} {:>9} {:>9}  {:>9}", "", "Rust", "ours", "ours/Rust");
+    for (name, open) in [("random", false), ("open", true)] {
+        for count in [2, 4, 8] {
+            let mut rng = Rng::new(7);
+            let inputs: Vec<Windows> = (0..LISTS).map(|_| windows(&mut rng, open, count)).collect();
+            let [rust, ours] = measure_windows(&inputs);
+            let name = format!("{name}, {count} windows");
+            println!("{name:<20} {rust:>9.0} {ours:>9.0}  {:>9.2}", ours / rust);
+        }
+    }
+}
+
 fn bench(words: Vec<String>) -> Result<(), String> {
     if let Some(word) = words.first() {
         return Err(format!("`{word}`: bench takes no words"));
@@ -246,10 +317,11 @@ fn bench(words: Vec<String>) -> Result<(), String> {
     if !cfg!(panic = "abort") {
         return Err("not built with the profile `fastest`: use tools/oracle/run bench".to_string());
     }
-    Library::found(&[Call::Sector, Call::Leg])?;
+    Library::found(&[Call::Sector, Call::Leg, Call::WindowCosts])?;
     println!("the Rust and this driver are built with {}", env!("ORACLE_PROFILE"));
     sectors();
     legs();
+    squares();
     Ok(())
 }
 
