@@ -9,6 +9,7 @@ mod legs;
 mod lines;
 mod refusals;
 mod seeds;
+mod windows;
 
 // How many records agree, a sum of the bytes that were read, and whether the next record differs.
 struct Tally {
@@ -35,6 +36,7 @@ fn agrees(section: u8, record: &[u8]) -> bool {
         12 => seeds::floor_agrees(record),
         13 => seeds::text_agrees(record),
         14 => floors::bounds_agree(record),
+        15 => windows::costs_agree(record),
         _ => false,
     }
 }
@@ -111,4 +113,6 @@ fn main() {
     replay(13, b"practice_text.model", 223);
     replay(14, b"bounds.model", 1115);
     replay(14, b"bounds.table", 1115);
+    replay(15, b"window_costs.model", 496);
+    replay(15, b"window_costs.table", 496);
 }
