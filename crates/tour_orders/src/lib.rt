@@ -1,0 +1,1 @@
+// Nothing to compile: the crate is its definitions (specs/) and theorems (proofs/).
