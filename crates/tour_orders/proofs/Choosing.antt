@@ -1,5 +1,6 @@
 -- The orders of the numbers left, by the first number and the place of what follows among the orders of the others.
 --     orders-length    k numbers stand in factorial k orders
+--     unranked         the order at a place, by quotient and remainder
 --     placed           the order at a place: its first number, and the rest, an order of the others
 --     same-times       in an order of the numbers left each of them stands as often as among them
 --     complete         every such list is an order of them
@@ -54,19 +55,26 @@ order-at k left i j h l =
     joined-at (block k left) (factorial k) (suc k) (λ n b. block-length k left n (orders-length k (withoutPlace left n))) i j h l
     ∙ map-at _ (ordersOf k (withoutPlace left i)) j [] [] (rw (orders-length k (withoutPlace left i)) l)
 
+pub first-inside : (k p : ℕ) → p < factorial (suc k) → p / factorial k < suc k
+first-inside k p h = div-lt-iff-lt-mul (factorial-some k) .1 h
+
+pub unranked : (k : ℕ) (left : List ℕ) (p : ℕ) → p < factorial (suc k)
+    → getD (ordersOf (suc k) left) p [] ≡ getD left (p / factorial k) 0 ∷ getD (ordersOf k (withoutPlace left (p / factorial k))) (p % factorial k) []
+unranked k left p h =
+    let s = factorial k in
+    ap (λ (q : ℕ). getD (ordersOf (suc k) left) q []) (sym (div-add-mod' p s))
+    ∙ order-at k left (p / s) (p % s) (first-inside k p h) (mod-lt p (factorial-some k))
+
 pub placed : (k : ℕ) (left : List ℕ) (p : ℕ) → p < factorial (suc k) → Placed k left p
 placed k left p h =
     let s = factorial k in
-    let inside : p / s < suc k = div-lt-iff-lt-mul (factorial-some k) .1 h in
-    let rest-inside : p % s < s = mod-lt p (factorial-some k) in
-    let at : p ≡ p / s * s + p % s = sym (div-add-mod' p s) in
     record {
       first = p / s;
       rest = p % s;
-      inside = inside;
-      rest-inside = rest-inside;
-      at = at;
-      is = ap (λ (q : ℕ). getD (ordersOf (suc k) left) q []) at ∙ order-at k left (p / s) (p % s) inside rest-inside;
+      inside = first-inside k p h;
+      rest-inside = mod-lt p (factorial-some k);
+      at = sym (div-add-mod' p s);
+      is = unranked k left p h;
     }
 
 -- ---- an order of the numbers left holds each as often as they do

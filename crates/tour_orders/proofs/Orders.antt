@@ -8,11 +8,11 @@ use mathlib.Core.List.{List, [], _∷_, map, tail-eq-of-cons-eq, head-eq-of-cons
 use Prim.Native.Nat.{ℕ, zero, suc, _+_, _-_, _<_, _≤_}
 use native.Mathlib.Omega.{arith}
 use native.Mathlib.Decide.{decLt, ℕ-discrete}
-use lib.ListN.{length, getD, take, length-map}
-use Rattle.tour_orders.specs.Orders.{numbersFrom, otherWindows, ordersOf, orders, factorial}
+use lib.ListN.{length, getD, take, length-map, List·getD-eq-default}
+use Rattle.tour_orders.specs.Orders.{numbersFrom, otherWindows, withoutPlace, ordersOf, orders, factorial}
 use Rattle.tour_orders.specs.Told.{times, IsOrder, Earlier, differs, agrees, AllOrders}
 use Rattle.tour_orders.proofs.Blocks.{map-at}
-use Rattle.tour_orders.proofs.Times.{here, other, below-none, each-once, above-none, numbers-length}
+use Rattle.tour_orders.proofs.Times.{here, other, times-without, below-none, each-once, above-none, numbers-length}
 use Rattle.tour_orders.proofs.Choosing.{orders-length, same-times, order-length, Found, complete}
 use Rattle.tour_orders.proofs.Ascending.{numbers-rise, ascends}
 
@@ -86,3 +86,21 @@ all-orders n some =
         rw (led n j (omega arith), led n k l) (
         agrees refl (ascends (n - 1) (otherWindows n) (numbers-length 1 (n - 1)) (numbers-rise 1 (n - 1)) j k h l)
         )
+
+-- ---- an order in an array
+
+pub order-long : (n : ℕ) → 1 ≤ n → (k : ℕ) → k < factorial (n - 1) → length (getD (orders n) k []) ≡ n
+order-long n some k h = ap length (led n k h) ∙ omega (arith, order-length (n - 1) (otherWindows n) k h)
+
+at-least-once : (l : List ℕ) (i : ℕ) → i < length l → 0 < times (getD l i 0) l
+at-least-once l i h = omega (arith, times-without (getD l i 0) l i h, here (getD l i 0) (getD l i 0) (withoutPlace l i) refl)
+
+pub order-inside : (n : ℕ) → 1 ≤ n → (order : List ℕ) → IsOrder n order → (i : ℕ) → getD order i 0 < n
+order-inside n some order o i =
+    elim (decLt i (length order)) [
+      | yes stands-there ↦ elim (decLt (getD order i 0) n) [
+        | yes inside ↦ inside
+        | no outside ↦ absurd (omega (arith, at-least-once order i stands-there, o .no-other (getD order i 0) (omega arith)))
+      ]
+      | no behind ↦ omega (arith, List·getD-eq-default order 0 {n = i} (omega arith))
+    ]

@@ -1,4 +1,5 @@
 -- The least figure.
+--     entry-small      no cheapest entry is above 65535
 --     cheapest-entry   the cheapest entry into a window from another is at most each, and one of them
 --     summed-same      a sum over windows does not depend on their order
 --     sum-under        moves between different windows cost no less than the cheapest entry into each
@@ -58,6 +59,14 @@ module _ (square : List (List ℕ)) (b : ℕ) where
       row (yes own) (no higher) known = longer (own-row m own) known
       row (no not-own) (yes lower) known = inl (m, omega arith, not-own, omega (arith, other-row m not-own))
       row (no not-own) (no higher) known = longer (omega (arith, other-row m not-own)) known
+
+pub entry-small : (square : List (List ℕ)) (b m : ℕ) → cheapestEntry square b m ≤ 65535
+entry-small square b zero = omega arith
+entry-small square b (suc m) =
+    elim (ℕ-discrete m b) [
+      | yes own ↦ omega (arith, own-row square b m own, entry-small square b m)
+      | no not-own ↦ omega (arith, other-row square b m not-own, entry-small square b m)
+    ]
 
 pub cheapest-entry : (square : List (List ℕ)) (n : ℕ) → TourSquare square n → (b : ℕ) → b < n → CheapestEntry square n b (cheapestEntry square b n)
 cheapest-entry square n s b h = record { at-most = entry-most square b n; met = ⊎-elim (λ k. k) none (entry-met square b n) }

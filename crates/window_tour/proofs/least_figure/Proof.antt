@@ -1,0 +1,66 @@
+-- `window_tour::least_figure` meets its contract. The loop's invariant: with the entries into the windows from `window` on, the sum is the least figure.
+-- Assumes nothing.
+use mathlib.Core.Path.{_≡_, refl, sym, ap, _∙_}
+use Prim.Native.Nat.{ℕ, _+_, _-_, _*_, _≤_}
+use native.Mathlib.Omega.{arith}
+use Rattle.tour_orders.specs.Orders.{numbersFrom}
+use Rattle.tours.specs.Tours.{summed, leastFigure}
+use Rattle.tours.proofs.Least.{entry-small}
+use Rattle.window_tour.proofs.Loops.{entry, figure-starts, figure-goes}
+use Rattle.window_tour.proofs.least_figure.Statement.{statement}
+use Rattle.window_tour.proofs.least_figure.Tie as tie
+
+abbrev Inv-loop : tie.InvT-loop
+Inv-loop square n least₀ window₀ least window =
+    (1 ≤ window) × (window ≤ n) × (least ≤ (window - 1) * 65535) × (least + summed (entry square n) (numbersFrom window (n - window)) ≡ leastFigure square n)
+
+abbrev μ-loop : tie.MeasureT-loop
+μ-loop square n least₀ window₀ least window = n - window
+
+small : (m : tie.After-cheapest-entry Inv-loop μ-loop) → m .cheapest-entry .result ≤ 65535
+small m =
+    let a = m .before .before .before .args in
+    omega (arith, m .cheapest-entry .ensures, entry-small (a .square) (m .before .before .loop .window) (a .n))
+
+loop-holds : tie.Need-loop-holds Inv-loop μ-loop
+loop-holds c = (omega arith, omega arith, omega arith, omega (arith, figure-starts (c .args .square) (c .args .n)))
+
+cheapest-entry-requires : tie.Need-cheapest-entry-requires Inv-loop μ-loop
+cheapest-entry-requires c κs = omega arith
+
+add-least : tie.Need-add-least Inv-loop μ-loop
+add-least c = omega (arith, small c)
+
+add-window : tie.Need-add-window Inv-loop μ-loop
+add-window c = omega arith
+
+loop-less : tie.Need-loop-less Inv-loop μ-loop
+loop-less c = omega arith
+
+loop-again : tie.Need-loop-again Inv-loop μ-loop
+loop-again c =
+    let a = c .before .before .before .args in
+    let goes = figure-goes (a .square) (a .n) (c .before .before .loop .window) (omega arith) in
+    (omega arith, omega arith, omega (arith, small c), omega (arith, goes, c .cheapest-entry .ensures))
+
+returns : tie.Need-returns Inv-loop μ-loop
+returns c =
+    let a = c .before .before .args in
+    let m = c .before .loop in
+    let none : a .n - m .window ≡ 0 = omega arith in
+    let sum = rw none at (m .inv .3) in
+    omega arith
+
+pub least-figure-spec : {M : Type 1} → statement M
+least-figure-spec =
+    tie.close
+    (tie.spec
+    Inv-loop
+    μ-loop
+    loop-holds
+    cheapest-entry-requires
+    add-least
+    add-window
+    loop-less
+    loop-again
+    returns)

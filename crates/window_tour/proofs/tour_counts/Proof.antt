@@ -1,0 +1,78 @@
+-- `window_tour::tour_counts` meets its contract. The loop's invariant: the order counts if its moves from place `at` on do.
+-- Assumes nothing.
+use mathlib.Core.Path.{_≡_, refl, sym, ap, _∙_}
+use mathlib.Core.Bool.{Bool, true, false}
+use Prim.Native.Nat.{ℕ, _+_, _-_, _≤_}
+use native.Mathlib.Omega.{arith}
+use lib.ListN.{length, getD, take}
+use lib.Seq.{slice, slice-empty}
+use Rattle.tours.specs.Tours.{countsFrom, tourCounts}
+use Rattle.window_tour.proofs.Loops.{counts-starts, counts-fails, counts-goes}
+use Rattle.window_tour.proofs.tour_counts.Statement.{statement}
+use Rattle.window_tour.proofs.tour_counts.Tie as tie
+
+abbrev Inv-loop : tie.InvT-loop
+Inv-loop square n order at₀ at =
+    (1 ≤ at) × (at ≤ n) × (countsFrom square (getD order (at - 1) 0) (slice at n order) ≡ tourCounts square (take n order))
+
+abbrev μ-loop : tie.MeasureT-loop
+μ-loop square n order at₀ at = n - at
+
+-- where the loop looks at a move
+abbrev Looks : Type 0
+Looks = tie.After-move-cost Inv-loop μ-loop
+
+module _ (m : Looks) where
+  abbrev place : ℕ
+  place = m .before .before .loop .at
+
+  counts : Bool
+  counts = let a = m .before .before .before .args in tourCounts (a .square) (take (a .n) (a .order))
+
+  fails : m .move-cost .result ≡ 65535 → false ≡ counts
+  unfolding counts
+  fails e =
+      let a = m .before .before .before .args in
+      sym (sym (m .before .before .loop .inv .2) ∙ counts-fails (a .square) (a .order) (a .n) (omega arith) (omega arith) place (omega arith) (sym (m .move-cost .ensures) ∙ e))
+
+loop-holds : tie.Need-loop-holds Inv-loop μ-loop
+loop-holds c = let a = c .args in (omega arith, omega arith, counts-starts (a .square) (a .order) (a .n) (omega arith) (omega arith))
+
+move-cost-requires : tie.Need-move-cost-requires Inv-loop μ-loop
+move-cost-requires c κs = (omega arith, omega arith, c .before .before .pre .1)
+
+returns : tie.Need-returns Inv-loop μ-loop
+returns c = unfold counts in fails (c .before) (c .if1 .taken)
+
+add-at : tie.Need-add-at Inv-loop μ-loop
+add-at c = omega arith
+
+loop-less : tie.Need-loop-less Inv-loop μ-loop
+loop-less c = omega arith
+
+loop-again : tie.Need-loop-again Inv-loop μ-loop
+loop-again c =
+    let m = c .before in
+    let a = m .before .before .before .args in
+    (omega arith, omega arith, sym (counts-goes (a .square) (a .order) (a .n) (omega arith) (omega arith) (place m) (omega arith) (λ e. c .if1 .left (m .move-cost .ensures ∙ e))) ∙ m .before .before .loop .inv .2)
+
+returns-2 : tie.Need-returns-2 Inv-loop μ-loop
+returns-2 c =
+    let a = c .before .before .args in
+    let m = c .before .loop in
+    let all : m .at ≡ a .n = omega arith in
+    simp (all, slice-empty) at (m .inv .2)
+
+pub tour-counts-spec : {M : Type 1} → statement M
+tour-counts-spec =
+    tie.close
+    (tie.spec
+    Inv-loop
+    μ-loop
+    loop-holds
+    move-cost-requires
+    returns
+    add-at
+    loop-less
+    loop-again
+    returns-2)

@@ -1,0 +1,22 @@
+-- `window_tour::tried_count` meets its contract.
+-- Assumes nothing.
+use native.Mathlib.Omega.{arith}
+use Rattle.tours.proofs.Promised.{tried-is}
+use borrow.Author.Needs.{needs}
+use Rattle.window_tour.proofs.tried_count.Statement.{statement}
+use Rattle.window_tour.proofs.tried_count.Tie as tie
+
+sub-factorial : tie.Need-sub-factorial
+sub-factorial c = search needs
+
+factorial-requires : tie.Need-factorial-requires
+factorial-requires c κs = search needs
+
+returns : tie.Need-returns
+returns c = omega (arith, tried-is (c .before .before .args .n) (c .before .before .args .limit), c .before .factorial .ensures)
+
+returns-2 : tie.Need-returns-2
+returns-2 c = omega (arith, tried-is (c .before .before .args .n) (c .before .before .args .limit), c .before .factorial .ensures)
+
+pub tried-count-spec : {M : Type 1} → statement M
+tried-count-spec = tie.close (tie.spec sub-factorial factorial-requires returns returns-2)

@@ -1,0 +1,42 @@
+-- `window_tour::window_tour` meets its contract.
+-- Assumes nothing.
+use mathlib.Core.Path.{_≡_, refl, sym, ap, _∙_}
+use Prim.Native.Nat.{ℕ, _-_, _≤_}
+use native.Mathlib.Omega.{arith}
+use Rattle.tour_orders.specs.Orders.{factorial}
+use Rattle.tours.proofs.Promised.{tried-is}
+use Rattle.window_tour.proofs.Loops.{factorial-few}
+use Rattle.window_tour.proofs.Answers.{answered, promised}
+use borrow.Author.Needs.{needs}
+use Rattle.window_tour.proofs.window_tour.Statement.{statement}
+use Rattle.window_tour.proofs.window_tour.Tie as tie
+
+-- the number tried is at most that of all orders, and so at most 5040
+at-most-all : (m : tie.After-tried-count) → m .tried-count .result ≤ factorial (m .before .args .n - 1)
+at-most-all m = omega (arith, m .tried-count .ensures, tried-is (m .before .args .n) (m .before .args .limit))
+
+tried-count-requires : tie.Need-tried-count-requires
+tried-count-requires c κs = search needs
+
+best-tour-requires : tie.Need-best-tour-requires
+best-tour-requires c κs = (c .before .pre, at-most-all c)
+
+least-figure-requires : tie.Need-least-figure-requires
+least-figure-requires c κs = search needs
+
+cast-t8 : tie.Need-cast-t8
+cast-t8 c =
+    let m = c .before .before .before in
+    omega (arith, at-most-all m, factorial-few (m .before .args .n - 1) (omega arith))
+
+returns : tie.Need-returns
+returns c =
+    let m = c .before .before .before in
+    let a = m .before .args in
+    promised (a .square) (a .n) (a .limit) (m .before .pre)
+    (answered (a .square) (a .n) (a .limit) (m .tried-count .ensures) (c .before .before .best-tour .ensures) (c .before .least-figure .ensures))
+
+pub window-tour-spec : {M : Type 1} → statement M
+window-tour-spec =
+    tie.close
+    (tie.spec tried-count-requires best-tour-requires least-figure-requires cast-t8 returns)
