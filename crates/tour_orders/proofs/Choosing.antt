@@ -8,12 +8,12 @@
 use mathlib.Core.Path.{_≡_, refl, sym, ap, _∙_}
 use mathlib.Core.Bool.{cond}
 use mathlib.Core.List.{List, [], _∷_, map}
-use Prim.Native.Nat.{ℕ, zero, suc, _+_, _*_, _/_, _%_, _<_, _≤_}
+use Prim.Native.Nat.{ℕ, zero, suc, _+_, _*_, _/_, _%_, _<_}
 use native.Mathlib.Omega.{arith}
 use native.Mathlib.Nat.{div-add-mod', mod-lt, div-lt-iff-lt-mul, mul-pos}
 use lib.Dec.{eqb}
 use lib.ListN.{length, getD, length-map}
-use Rattle.tour_orders.specs.Orders.{withoutPlace, joined, ordersOf, factorial}
+use Rattle.tour_orders.specs.Orders.{withoutPlace, ordersOf, factorial}
 use Rattle.tour_orders.specs.Told.{times}
 use Rattle.tour_orders.proofs.Blocks.{within, map-at, joined-length, joined-at}
 use Rattle.tour_orders.proofs.Times.{here, stands, times-without}

@@ -1,9 +1,7 @@
 -- Small computed cases of a tour's orders (02, Job 14).
 -- Assumes nothing.
 use mathlib.Core.Path.{_≡_, refl}
-use mathlib.Core.List.{List, [], _∷_}
-use Prim.Native.Nat.{ℕ}
-use lib.ListN.{length}
+use mathlib.Core.List.{[], _∷_}
 use Rattle.tour_orders.specs.Orders.{ordersOf, orders, factorial}
 
 -- two windows have one order

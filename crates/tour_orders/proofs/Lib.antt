@@ -1,6 +1,6 @@
+mod Examples
 pub mod Ascending
 pub mod Blocks
 pub mod Choosing
-mod Examples
 pub mod Orders
 pub mod Times

@@ -3,17 +3,17 @@
 --     all-orders      the theorem
 --     order-long, order-inside   an order's length, and its numbers
 -- Assumes nothing.
-use mathlib.Core.Path.{_≡_, refl, sym, ap, _∙_}
-use mathlib.Core.List.{List, [], _∷_, map, tail-eq-of-cons-eq, head-eq-of-cons-eq}
-use Prim.Native.Nat.{ℕ, zero, suc, _+_, _-_, _<_, _≤_}
+use mathlib.Core.Path.{_≡_, refl, ap, _∙_}
+use mathlib.Core.List.{List, [], _∷_, head-eq-of-cons-eq}
+use Prim.Native.Nat.{ℕ, suc, _-_, _<_, _≤_}
 use native.Mathlib.Omega.{arith}
 use native.Mathlib.Decide.{decLt, ℕ-discrete}
-use lib.ListN.{length, getD, take, length-map, List·getD-eq-default}
-use Rattle.tour_orders.specs.Orders.{numbersFrom, otherWindows, withoutPlace, ordersOf, orders, factorial}
-use Rattle.tour_orders.specs.Told.{times, IsOrder, Earlier, differs, agrees, AllOrders}
+use lib.ListN.{length, getD, length-map, List·getD-eq-default}
+use Rattle.tour_orders.specs.Orders.{otherWindows, withoutPlace, ordersOf, orders, factorial}
+use Rattle.tour_orders.specs.Told.{times, IsOrder, Earlier, agrees, AllOrders}
 use Rattle.tour_orders.proofs.Blocks.{map-at}
 use Rattle.tour_orders.proofs.Times.{here, other, times-without, below-none, each-once, above-none, numbers-length}
-use Rattle.tour_orders.proofs.Choosing.{orders-length, same-times, order-length, Found, complete}
+use Rattle.tour_orders.proofs.Choosing.{orders-length, same-times, order-length, complete}
 use Rattle.tour_orders.proofs.Ascending.{numbers-rise, ascends}
 
 pub count : (n : ℕ) → length (orders n) ≡ factorial (n - 1)

@@ -2,13 +2,12 @@
 --     counts-told     an order that counts has no move of 65535
 --     told-counts     and one that has none counts
 -- Assumes nothing.
-use mathlib.Core.Path.{_≡_, refl, sym, ap, _∙_}
-use mathlib.Core.Bool.{Bool, true, false, not, _&&_, and-eq-true-iff}
+use mathlib.Core.Path.{_≡_, refl}
+use mathlib.Core.Bool.{true, false, not, and-eq-true-iff}
 use mathlib.Core.List.{List, [], _∷_}
-use Prim.Native.Nat.{ℕ, zero, suc, _<_}
+use Prim.Native.Nat.{ℕ, zero, suc}
 use native.Mathlib.Omega.{arith}
 use lib.Dec.{eqb}
-use lib.ListN.{length, getD}
 use borrow.Author.Tests.{eqb-false, ne-eqb, not-true}
 use Rattle.tours.specs.Tours.{moveCost, countsFrom, tourCounts}
 use Rattle.tours.specs.Promise.{CountingOrder}

@@ -8,14 +8,14 @@
 use mathlib.Core.Path.{_≡_, refl, sym, ap, _∙_}
 use mathlib.Core.Logic.{_⊎_, inl, inr, ⊎-elim}
 use mathlib.Core.List.{List, [], _∷_}
-use Prim.Native.Nat.{ℕ, zero, suc, _+_, _-_, _<_, _≤_, min}
+use Prim.Native.Nat.{ℕ, zero, suc, _+_, _<_, _≤_, min}
 use native.Mathlib.Omega.{arith}
 use native.Mathlib.Decide.{decLe, ℕ-discrete}
 use lib.ListN.{length, getD}
 use borrow.Author.Tests.{eq-eqb, ne-eqb}
 use Rattle.tour_orders.specs.Orders.{otherWindows, withoutPlace}
 use Rattle.tour_orders.specs.Told.{times, IsOrder}
-use Rattle.tour_orders.proofs.Times.{here, other, stands, times-without}
+use Rattle.tour_orders.proofs.Times.{here, stands, times-without}
 use Rattle.tour_orders.proofs.Orders.{Apart, apart}
 use Rattle.tours.specs.Tours.{moveCost, sumFrom, tourSum, cheapestEntry, summed, leastFigure}
 use Rattle.tours.specs.Promise.{TourSquare, CheapestEntry}

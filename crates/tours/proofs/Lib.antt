@@ -1,5 +1,5 @@
+mod Examples
 pub mod Best
 pub mod Counting
-mod Examples
 pub mod Least
 pub mod Promised

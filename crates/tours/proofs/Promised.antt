@@ -6,17 +6,17 @@
 use mathlib.Core.Path.{_≡_, refl, sym, ap, _∙_}
 use mathlib.Core.Bool.{true, false}
 use mathlib.Core.Logic.{⊎-elim}
-use mathlib.Core.List.{List, [], _∷_}
+use mathlib.Core.List.{List, []}
 use Prim.Native.Nat.{ℕ, _-_, _<_, _≤_, min}
 use native.Mathlib.Omega.{arith}
 use native.Mathlib.Decide.{decLt}
 use lib.ListN.{length, getD, take}
 use Rattle.tour_orders.specs.Orders.{orders, factorial}
-use Rattle.tour_orders.specs.Told.{IsOrder, AllOrders}
+use Rattle.tour_orders.specs.Told.{IsOrder}
 use Rattle.tour_orders.proofs.Orders.{count, all-orders}
 use Rattle.tours.specs.declared.Tour.{Tour}
 use Rattle.tours.specs.declared.WindowTour.{WindowTour}
-use Rattle.tours.specs.Tours.{tourSum, noTour, bestTour, leastFigure, triedCount, windowTour}
+use Rattle.tours.specs.Tours.{tourSum, noTour, bestTour, triedCount, windowTour}
 use Rattle.tours.specs.Promise.{TourSquare, CountingOrder, Tried, BestTried, NoneTried, BestAnswer, LeastAnswer}
 use Rattle.tours.proofs.Counting.{counts-told, told-counts}
 use Rattle.tours.proofs.Best.{None, At, Best, best-first, never}

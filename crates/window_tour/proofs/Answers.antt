@@ -23,7 +23,8 @@ pub found-same : {a b : List ℕ} {s t : ℕ} → a ≡ b → s ≡ t
 found-same p q = rw (p, q)
 
 module _ (square : List (List ℕ)) (n limit : ℕ) where
-  pub answered : {tried least : ℕ} {best : Tour} → tried ≡ triedCount n limit → best ≡ bestTour square noTour (take tried (orders n)) → least ≡ leastFigure square n
+  pub answered : {tried least : ℕ} {best : Tour} → tried ≡ triedCount n limit
+      → best ≡ bestTour square noTour (take tried (orders n)) → least ≡ leastFigure square n
       → _≡_ {A = WindowTour} (record { found = best .found; order = best .order; sum = best .sum; tried = tried; least = least }) (windowTour square n limit)
   unfolding windowTour
   answered t b l = rw (b, l, t)

@@ -1,12 +1,12 @@
 -- `window_tour::best_tour` meets its contract. The loop's invariant: the best of the first `place` orders is known.
 -- Assumes nothing.
-use mathlib.Core.Path.{_≡_, refl, sym, ap, _∙_}
-use Prim.Native.Nat.{ℕ, suc, _+_, _-_, _<_, _≤_}
+use mathlib.Core.Path.{_≡_, sym, ap, _∙_}
+use Prim.Native.Nat.{ℕ, _-_, _≤_}
 use native.Mathlib.Omega.{arith}
 use native.Mathlib.Numerals.{add-one}
 use borrow.Author.Needs.{needs}
 use mathlib.Core.List.{[]}
-use lib.ListN.{length, getD, take}
+use lib.ListN.{getD, take}
 use Rattle.tour_orders.specs.Orders.{orders}
 use Rattle.tour_orders.proofs.Orders.{count}
 use Rattle.tours.specs.declared.Tour.{Tour}
@@ -41,7 +41,8 @@ loop-again c =
     let m = c .before .before in
     let a = m .before .before .args in
     let known = best-more (a .square) (orders (a .n)) (m .loop .place) (omega (arith, count (a .n))) in
-    (omega arith, rw add-one (c .try-order .ensures ∙ ap (λ (t : Tour). betterTour (a .square) t (getD (orders (a .n)) (m .loop .place) [])) (m .loop .inv .1) ∙ sym known))
+    let tried : Tour → Tour = λ t. betterTour (a .square) t (getD (orders (a .n)) (m .loop .place) []) in
+    (omega arith, rw add-one (c .try-order .ensures ∙ ap tried (m .loop .inv .1) ∙ sym known))
 
 returns : tie.Need-returns Inv-loop μ-loop
 returns c =

@@ -1,7 +1,6 @@
 -- `window_tour::move_cost` meets its contract.
 -- Assumes nothing.
-use mathlib.Core.Path.{_≡_, refl, sym, ap, _∙_}
-use Prim.Native.Nat.{ℕ, _-_, _<_}
+use Prim.Native.Nat.{_-_, _<_}
 use native.Mathlib.Omega.{arith}
 use borrow.Author.Needs.{needs}
 use Rattle.window_tour.proofs.move_cost.Statement.{statement}
@@ -30,16 +29,16 @@ wide-requires-2 : tie.Need-wide-requires-2
 wide-requires-2 c κs = search needs
 
 mul-result : tie.Need-mul-result
-mul-result c = omega (arith, from-small (c .before))
+mul-result c = omega (arith, from-small (c .before), to-small c)
 
 mul-result-2 : tie.Need-mul-result-2
-mul-result-2 c = omega (arith, to-small c)
+mul-result-2 c = omega (arith, from-small (c .before), to-small c)
 
 index-1-result : tie.Need-index-1-result
-index-1-result c = from-small (c .before)
+index-1-result c = omega (arith, from-small (c .before), to-small c)
 
 index-2-result : tie.Need-index-2-result
-index-2-result c = to-small c
+index-2-result c = omega (arith, from-small (c .before), to-small c)
 
 returns : tie.Need-returns
 returns c = rw (c .before .before .wide .ensures, c .before .wide2 .ensures)

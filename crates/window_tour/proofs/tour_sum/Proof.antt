@@ -1,9 +1,9 @@
 -- `window_tour::tour_sum` meets its contract. The loop's invariant: with the moves from place `at` on, the sum is the order's.
 -- Assumes nothing.
-use mathlib.Core.Path.{_≡_, refl, sym, ap, _∙_}
-use Prim.Native.Nat.{ℕ, _+_, _-_, _*_, _≤_}
+use mathlib.Core.Path.{_≡_}
+use Prim.Native.Nat.{_+_, _-_, _*_, _≤_}
 use native.Mathlib.Omega.{arith}
-use lib.ListN.{length, getD, take}
+use lib.ListN.{getD, take}
 use lib.Seq.{slice, slice-empty}
 use Rattle.tours.specs.Tours.{sumFrom, tourSum}
 use Rattle.window_tour.proofs.Loops.{sum-starts, sum-goes}

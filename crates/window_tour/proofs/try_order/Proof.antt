@@ -1,7 +1,7 @@
 -- `window_tour::try_order` meets its contract: the order made is that of the place, so its sum and whether it counts are the definition's.
 -- Assumes nothing.
-use mathlib.Core.Path.{_≡_, refl, sym, ap, _∙_}
-use mathlib.Core.Bool.{true, false}
+use mathlib.Core.Path.{_≡_, sym, ap, _∙_}
+use mathlib.Core.Bool.{true}
 use mathlib.Core.List.{List, []}
 use Prim.Native.Nat.{ℕ}
 use native.Mathlib.Omega.{arith}
@@ -9,7 +9,7 @@ use borrow.Author.Tests.{not-true, not-false}
 use lib.ListN.{getD, take}
 use Rattle.tour_orders.specs.Orders.{orders}
 use Rattle.tours.specs.declared.Tour.{Tour}
-use Rattle.tours.specs.Tours.{tourSum, tourCounts, tourOf, betterTour}
+use Rattle.tours.specs.Tours.{tourSum, tourCounts, tourOf}
 use Rattle.tours.proofs.Best.{passed-over, first-found, not-lower, lower-taken}
 use Rattle.window_tour.specs.Inner.{WindowNumbers}
 use Rattle.window_tour.proofs.Answers.{found-same}
@@ -66,7 +66,10 @@ tour-counts-requires : tie.Need-tour-counts-requires
 tour-counts-requires c κs = (c .before .pre .0, numbers c)
 
 returns : tie.Need-returns
-returns c = let m = c .before .before in sym (passed-over (square m) (best m) (listed m) (sym (counts-is (c .before)) ∙ not-true (c .before .tour-counts .result) (c .if1 .taken)))
+returns c =
+    let m = c .before .before in
+    let none = sym (counts-is (c .before)) ∙ not-true (c .before .tour-counts .result) (c .if1 .taken) in
+    sym (passed-over (square m) (best m) (listed m) none)
 
 tour-sum-requires : tie.Need-tour-sum-requires
 tour-sum-requires c κs = (c .before .before .before .pre .0, numbers (c .before .before))

@@ -1,11 +1,10 @@
 -- `window_tour::window_tour` meets its contract.
 -- Assumes nothing.
-use mathlib.Core.Path.{_≡_, refl, sym, ap, _∙_}
-use Prim.Native.Nat.{ℕ, _-_, _≤_}
+use Prim.Native.Nat.{_-_, _≤_}
 use native.Mathlib.Omega.{arith}
 use Rattle.tour_orders.specs.Orders.{factorial}
 use Rattle.tours.proofs.Promised.{tried-is}
-use Rattle.window_tour.proofs.Loops.{factorial-few}
+use Rattle.tour_ranking.proofs.Loops.{factorial-few}
 use Rattle.window_tour.proofs.Answers.{answered, promised}
 use borrow.Author.Needs.{needs}
 use Rattle.window_tour.proofs.window_tour.Statement.{statement}

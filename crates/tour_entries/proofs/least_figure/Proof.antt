@@ -1,14 +1,14 @@
--- `window_tour::least_figure` meets its contract. The loop's invariant: with the entries into the windows from `window` on, the sum is the least figure.
+-- `tour_entries::least_figure` meets its contract. The loop's invariant: with the entries into the windows from `window` on, the sum is the least figure.
 -- Assumes nothing.
-use mathlib.Core.Path.{_≡_, refl, sym, ap, _∙_}
-use Prim.Native.Nat.{ℕ, _+_, _-_, _*_, _≤_}
+use mathlib.Core.Path.{_≡_}
+use Prim.Native.Nat.{_+_, _-_, _*_, _≤_}
 use native.Mathlib.Omega.{arith}
 use Rattle.tour_orders.specs.Orders.{numbersFrom}
 use Rattle.tours.specs.Tours.{summed, leastFigure}
 use Rattle.tours.proofs.Least.{entry-small}
-use Rattle.window_tour.proofs.Loops.{entry, figure-starts, figure-goes}
-use Rattle.window_tour.proofs.least_figure.Statement.{statement}
-use Rattle.window_tour.proofs.least_figure.Tie as tie
+use Rattle.tour_entries.proofs.Figure.{entry, figure-starts, figure-goes}
+use Rattle.tour_entries.proofs.least_figure.Statement.{statement}
+use Rattle.tour_entries.proofs.least_figure.Tie as tie
 
 abbrev Inv-loop : tie.InvT-loop
 Inv-loop square n least₀ window₀ least window =

@@ -1,12 +1,12 @@
--- `window_tour::cheapest_entry` meets its contract. The loop's invariant: the cheapest entry from the windows below `from` is known.
+-- `tour_entries::cheapest_entry` meets its contract. The loop's invariant: the cheapest entry from the windows below `from` is known.
 -- Assumes nothing.
-use mathlib.Core.Path.{_≡_, refl, sym, ap, _∙_}
-use Prim.Native.Nat.{ℕ, _-_, _≤_}
+use mathlib.Core.Path.{_≡_, refl, ap, _∙_}
+use Prim.Native.Nat.{_-_, _≤_}
 use native.Mathlib.Omega.{arith}
 use native.Mathlib.Numerals.{add-one}
 use Rattle.tours.specs.Tours.{cheapestEntry}
-use Rattle.window_tour.proofs.cheapest_entry.Statement.{statement}
-use Rattle.window_tour.proofs.cheapest_entry.Tie as tie
+use Rattle.tour_entries.proofs.cheapest_entry.Statement.{statement}
+use Rattle.tour_entries.proofs.cheapest_entry.Tie as tie
 
 abbrev Inv-loop : tie.InvT-loop
 Inv-loop square n window cheapest₀ from₀ cheapest from = (from ≤ n) × (cheapest ≡ cheapestEntry square window from)

@@ -1,13 +1,13 @@
--- `window_tour::without_place` meets its contract. The loop's invariant: the places before `next` hold what stands there without the number.
+-- `tour_ranking::without_place` meets its contract. The loop's invariant: the places before `next` hold what stands there without the number.
 -- Assumes nothing.
-use mathlib.Core.Path.{_≡_, refl, sym, ap, _∙_}
-use Prim.Native.Nat.{ℕ, _+_, _-_, _<_, _≤_}
+use mathlib.Core.Path.{_≡_, sym}
+use Prim.Native.Nat.{_+_, _-_, _<_, _≤_}
 use native.Mathlib.Omega.{arith}
-use lib.ListN.{length, getD, take, set, length-set}
+use lib.ListN.{length, take, length-set}
 use Rattle.tour_orders.specs.Orders.{withoutPlace}
-use Rattle.window_tour.proofs.Loops.{without-before, without-more}
-use Rattle.window_tour.proofs.without_place.Statement.{statement}
-use Rattle.window_tour.proofs.without_place.Tie as tie
+use Rattle.tour_ranking.proofs.Loops.{without-before, without-more}
+use Rattle.tour_ranking.proofs.without_place.Statement.{statement}
+use Rattle.tour_ranking.proofs.without_place.Tie as tie
 
 abbrev Inv-loop : tie.InvT-loop
 Inv-loop place numbers left₀ next₀ left next =
@@ -44,7 +44,8 @@ loop-again c =
     let m = c .before .loop in
     let a = c .before .before .args in
     let long : length (a .t1) ≡ 8 = omega arith in
-    (omega arith, omega arith, simp length-set (m .inv .2), without-more (a .t1) (m .left) (a .place) (m .next) long (m .inv .2) (m .inv .0) (omega arith) (m .inv .3))
+    let moved = without-more (a .t1) (m .left) (a .place) (m .next) long (m .inv .2) (m .inv .0) (omega arith) (m .inv .3) in
+    (omega arith, omega arith, simp length-set (m .inv .2), moved)
 
 returns : tie.Need-returns Inv-loop μ-loop
 returns c = let last : c .before .loop .next ≡ 8 = omega arith in rw last at (c .before .loop .inv .3)

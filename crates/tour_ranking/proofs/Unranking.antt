@@ -15,7 +15,7 @@ use Rattle.utilities.specs.Padded.{padded}
 use Rattle.tour_orders.specs.Orders.{numbersFrom, withoutPlace, ordersOf, orders, factorial}
 use Rattle.tour_orders.proofs.Choosing.{factorial-some, first-inside, unranked, without-length}
 use Rattle.tour_orders.proofs.Orders.{led}
-use Rattle.window_tour.proofs.Loops.{without-front}
+use Rattle.tour_ranking.proofs.Loops.{without-front}
 
 pub record Ranked (n place : ℕ) (order left : List ℕ) (rest at : ℕ) : Type 0 where
   pub some : 1 ≤ at
@@ -81,8 +81,9 @@ module _ (n place : ℕ) (order left : List ℕ) (rest at : ℕ) (r : Ranked n p
   next-is after same =
       let remainder = rest % factorial others in
       let front = take (suc others) left in
+      let number = getD-take (suc others) left first 0 (omega (arith, first-most)) in
       ap (λ (l : List ℕ). getD left first 0 ∷ getD (ordersOf others l) remainder []) (numbers-left after same)
-      ∙ ap (λ (a : ℕ). a ∷ getD (ordersOf others (withoutPlace front first)) remainder []) (sym (getD-take (suc others) left first 0 (omega (arith, first-most))))
+      ∙ ap (λ (a : ℕ). a ∷ getD (ordersOf others (withoutPlace front first)) remainder []) (sym number)
       ∙ sym (unranked others front rest inside-here)
       ∙ ap (λ (k : ℕ). getD (ordersOf k (take k left)) rest []) (sym here)
 

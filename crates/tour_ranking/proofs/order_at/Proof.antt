@@ -1,14 +1,14 @@
--- `window_tour::order_at` meets its contract. The loop's invariant: the numbers put, followed by the order at place `rest` of those left, are the order asked for.
+-- `tour_ranking::order_at` meets its contract. The loop's invariant: the numbers put, and behind them the order at place
+-- `rest` of those left, are the order asked for.
 -- Assumes nothing.
-use mathlib.Core.Path.{_≡_, refl, sym, ap, _∙_}
-use Prim.Native.Nat.{ℕ, _-_, _/_, _%_, _<_, _≤_}
+use mathlib.Core.Path.{_≡_, ap}
+use Prim.Native.Nat.{ℕ, _-_, _/_, _<_}
 use native.Mathlib.Omega.{arith}
-use lib.ListN.{length, getD, take, set}
 use Rattle.tour_orders.specs.Orders.{factorial}
 use Rattle.tour_orders.proofs.Choosing.{factorial-some}
-use Rattle.window_tour.proofs.Unranking.{Ranked, ranked-starts, first-most, ranked-more, ranked-ends}
-use Rattle.window_tour.proofs.order_at.Statement.{statement}
-use Rattle.window_tour.proofs.order_at.Tie as tie
+use Rattle.tour_ranking.proofs.Unranking.{Ranked, ranked-starts, first-most, ranked-more, ranked-ends}
+use Rattle.tour_ranking.proofs.order_at.Statement.{statement}
+use Rattle.tour_ranking.proofs.order_at.Tie as tie
 
 abbrev Inv-loop : tie.InvT-loop
 Inv-loop n place order₀ left₀ rest₀ at₀ order left rest at = Ranked n place order left rest at

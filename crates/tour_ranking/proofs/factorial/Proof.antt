@@ -1,12 +1,12 @@
--- `window_tour::factorial` meets its contract. The loop's invariant: the product is that of the numbers from 1 to `number`.
+-- `tour_ranking::factorial` meets its contract. The loop's invariant: the product is that of the numbers from 1 to `number`.
 -- Assumes nothing.
-use mathlib.Core.Path.{_≡_, refl, sym, ap, _∙_}
-use Prim.Native.Nat.{ℕ, _+_, _*_, _-_, _≤_}
+use mathlib.Core.Path.{_≡_, refl, ap, _∙_}
+use Prim.Native.Nat.{_+_, _*_, _-_, _≤_}
 use native.Mathlib.Omega.{arith}
 use Rattle.tour_orders.specs.Orders.{factorial}
-use Rattle.window_tour.proofs.Loops.{factorial-more, factorial-few}
-use Rattle.window_tour.proofs.factorial.Statement.{statement}
-use Rattle.window_tour.proofs.factorial.Tie as tie
+use Rattle.tour_ranking.proofs.Loops.{factorial-more, factorial-few}
+use Rattle.tour_ranking.proofs.factorial.Statement.{statement}
+use Rattle.tour_ranking.proofs.factorial.Tie as tie
 
 abbrev Inv-loop : tie.InvT-loop
 Inv-loop count product₀ number₀ product number = (number ≤ count) × (product ≡ factorial number)

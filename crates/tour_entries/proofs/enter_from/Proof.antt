@@ -1,11 +1,10 @@
--- `window_tour::enter_from` meets its contract.
+-- `tour_entries::enter_from` meets its contract.
 -- Assumes nothing.
-use mathlib.Core.Path.{_≡_, refl, sym, ap, _∙_}
 use native.Mathlib.Omega.{arith}
 use borrow.Author.Tests.{eq-eqb, ne-eqb}
 use borrow.Author.Needs.{needs}
-use Rattle.window_tour.proofs.enter_from.Statement.{statement}
-use Rattle.window_tour.proofs.enter_from.Tie as tie
+use Rattle.tour_entries.proofs.enter_from.Statement.{statement}
+use Rattle.tour_entries.proofs.enter_from.Tie as tie
 
 returns : tie.Need-returns
 returns c = rw (eq-eqb (c .before .args .from) (c .before .args .window) (c .if1 .taken))
