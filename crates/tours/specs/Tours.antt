@@ -26,11 +26,12 @@ abbrev pub tourSum : List (List ℕ) → List ℕ → ℕ
 tourSum square [] = 0
 tourSum square (a ∷ l) = sumFrom square a l
 
--- orders using a 65535 do not count
+-- orders using a 65535 do not count: none of the moves from window a on costs it
 abbrev pub countsFrom : List (List ℕ) → ℕ → List ℕ → Bool
 countsFrom square a [] = true
 countsFrom square a (b ∷ l) = not (eqb (moveCost square a b) 65535) && countsFrom square b l
 
+-- none of its moves does
 abbrev pub tourCounts : List (List ℕ) → List ℕ → Bool
 tourCounts square [] = true
 tourCounts square (a ∷ l) = countsFrom square a l
@@ -50,6 +51,7 @@ unfoldable pub betterTour : List (List ℕ) → Tour → List ℕ → Tour
 betterTour square best order =
     cond (tourCounts square order && (not (best .found) || ltb (tourSum square order) (best .sum))) (tourOf square order) best
 
+-- the best so far, once the orders listed are tried in turn
 abbrev pub bestTour : List (List ℕ) → Tour → List (List ℕ) → Tour
 bestTour square best [] = best
 bestTour square best (order ∷ l) = bestTour square (betterTour square best order) l
@@ -76,6 +78,7 @@ leastFigure square n = summed (λ b. cheapestEntry square b n) (otherWindows n)
 unfoldable pub triedCount : ℕ → ℕ → ℕ
 triedCount n limit = min limit (length (orders n))
 
+-- the best order tried and its sum, the number tried and the least figure
 unfoldable pub windowTour : List (List ℕ) → ℕ → ℕ → WindowTour
 windowTour square n limit =
     let best = bestTour square noTour (take (triedCount n limit) (orders n)) in
