@@ -42,8 +42,8 @@
  * those that its function names, writes not one byte of what it is lent, and has every other part of its answer zero.
  *     1   cost bytes not 100 (leg: 6,400)
  *     2   sheet not 100 bytes (leg: 6,400)
- *     3   step not 8 bytes (leg: none, over 128, or no multiple of 8; window costs: no multiple of 8)
- *     19  window costs: fewer than 2 or more than 8 steps, none among them; after 3
+ *     3   step not 8 bytes (leg: none, over 128, or no multiple of 8; window costs and tour: no multiple of 8)
+ *     19  window costs and tour: fewer than 2 or more than 8 steps, none among them; after 3
  *     4   sector over 63, mark over 1, or byte 6 or 7 not 0
  *     5   mark 0: goal over 99
  *     6   mark 1: a window cell over 99, or boundary over 3
@@ -59,15 +59,15 @@
  *     14  leg file: mark, version, count or length wrong
  *     15  leg: a window with no counting cell, found when its step is planned, after 10
  *     18  bounds: a step without window, low above high somewhere, or 255 in only one of the two; after 16
- *     20  window costs: a step without window, or in another sector than the first's; after 16 for the same step
+ *     20  window costs and tour: a step without window, or in another sector than the first's; after 16 for the same step
  * In a leg 4 to 8 and 16 are judged for one step before the next, 16 on the costs of the step's own sector, and for every
  * cell of a window, also for one that would not count. The writer of a leg file judges 3 as a leg does, and then 2 for a
- * buffer that is not exactly as long as the file. The call for bounds judges 1 for either floor, and 16 on both. The call
- * for window costs judges 4 to 8, 16 and 20 for one step before the next.
+ * buffer that is not exactly as long as the file. The call for bounds judges 1 for either floor, and 16 on both. The calls
+ * for window costs and tours judge 4 to 8, 16 and 20 for one step before the next.
  *
  * Time and stack.  Every call ends, on all input. Each wave is one call on the stack, of 576 bytes in the compiled
  * archive, and there are at most 101 at a time: no call needs as much as 80,000 bytes (read off the archive, not proved).
- * Give a thread that calls sector, leg, bounds, window costs, init or build 256 KB.
+ * Give a thread that calls sector, leg, bounds, window costs, tour, init or build 256 KB.
  */
 #ifndef HANJOLUM_H
 #define HANJOLUM_H
@@ -88,7 +88,7 @@ enum {
     HANJOLUM_CELLS = 100,      /* cells of a sector: its cost bytes, and the bytes of its sheet */
     HANJOLUM_STEP = 8,         /* bytes of a step */
     HANJOLUM_STEPS = 16,       /* steps of a leg, at most */
-    HANJOLUM_WINDOWS = 8,      /* steps of a call for window costs, at most */
+    HANJOLUM_WINDOWS = 8,      /* windows of a square and of a tour, at most */
     HANJOLUM_SECTORS = 64,     /* sectors of a floor */
     HANJOLUM_FLOOR = 6400,     /* bytes of a floor, and of its sheet */
     HANJOLUM_FILE_HEAD = 6,    /* bytes of a leg file before its steps */
@@ -201,6 +201,16 @@ typedef struct {
     HanjolumWindowRow rows[8];
 } HanjolumWindowCosts;
 
+/* A tour of windows: the best order tried, if one counts, and a figure that no order's sum goes under. */
+typedef struct {
+    uint8_t number;
+    bool found;                         /* an order counts */
+    uint8_t order[8];                   /* all window numbers, 0 leading; 0 in the places behind them */
+    uint32_t sum;                       /* its sum */
+    uint32_t tried;                     /* how many orders were tried */
+    uint32_t least;                     /* the least figure */
+} HanjolumWindowTour;
+
 /*
  * Plans one sector: starts the field of a step on 100 cost bytes, builds it, and writes its 100 flow bytes to the sheet,
  * whatever they were before. Answers the built field, with each cell's position, and its wave count.
@@ -255,6 +265,23 @@ HanjolumBounds hanjolum_bounds(
 HanjolumWindowCosts hanjolum_window_costs(
     const uint8_t *costs, size_t costs_length,
     const uint8_t *steps, size_t steps_length);
+
+/*
+ * A tour of the same windows: from the first, each other once, no way back, with the smallest sum of hanjolum_window_costs'
+ * costs; a move from window a to window b costs rows[a].costs[b]. Input and numbers are those of hanjolum_window_costs.
+ * Orders are tried in dictionary order of the window numbers: 0 1 2 3, 0 1 3 2, 0 2 1 3, .. There are (n - 1)! of n
+ * windows, 5,040 of eight; tried is the limit or that many, the smaller. An order with a move of 65535 is tried and does
+ * not count. The best order tried has the smallest sum of those that count, and of equals it is the earlier. found is
+ * false exactly when none of those tried counts: order and sum are then all 0, tried and least are not. With a limit of
+ * (n - 1)! or more it is the best there is.
+ * least is the sum, over the windows but the first, of the cheapest entry into each from another, a 65535 taken as 65535:
+ * no order's sum goes under it, whether it is tried or not and whether it counts or not.
+ * Writes nothing. Numbers 1, 3, 19, and of one step before the next 4 to 8, 16, 20.
+ */
+HanjolumWindowTour hanjolum_window_tour(
+    const uint8_t *costs, size_t costs_length,
+    const uint8_t *steps, size_t steps_length,
+    uint16_t limit);
 
 /*
  * Plans a leg of 1 to 16 steps over a floor, from the goal back: the first step has the goal, each later one a window
