@@ -135,7 +135,7 @@ module _ (costs : List ℕ) (steps : List (List ℕ)) where
       ap (λ (l : List ℕ). getD l j 0) (table-at (λ (i : ℕ). map (squareEntry costs steps i) (below 8)) [] 8 i h)
       ∙ table-at (squareEntry costs steps i) 0 8 j k
 
-  row-long : (i : ℕ) → i < 8 → length (getD (costSquare costs steps) i []) ≡ 8
+  pub row-long : (i : ℕ) → i < 8 → length (getD (costSquare costs steps) i []) ≡ 8
   unfolding costSquare
   row-long i h =
       ap length (table-at (λ (i : ℕ). map (squareEntry costs steps i) (below 8)) [] 8 i h) ∙ table-length (squareEntry costs steps i) 8

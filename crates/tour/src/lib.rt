@@ -1,0 +1,51 @@
+// The call for a tour of the windows of one sector: Job 13's number and square, and the tour over it.
+use tour_plan::PlannedTour;
+use tours::WindowTour;
+ghost use mathlib.Core.Path.{_≡_};
+ghost use Rattle.step_list.specs.Steps.{stepsOf};
+ghost use Rattle.tour_plan.specs.Plan.{refusedTour, acceptedTour, tourIn, tourAnswer};
+ghost use Rattle.tour_plan.specs.Promise.{TourPlanned};
+
+// A refused answer: its number, and every other part zero.
+fn refused(number: u8) -> PlannedTour
+    ensures { λ r. ⌜ r ≡ refusedTour number ⌝ }
+{
+    let order = [0u8; 8];
+    PlannedTour {
+        number,
+        found: false,
+        order,
+        sum: 0,
+        tried: 0,
+        least: 0,
+    }
+}
+
+// An accepted answer: number 0, and the tour.
+fn accepted(tour: WindowTour) -> PlannedTour
+    ensures { λ r. ⌜ r ≡ acceptedTour tour ⌝ }
+{
+    let order = tour.order;
+    PlannedTour {
+        number: 0,
+        found: tour.found,
+        order,
+        sum: tour.sum,
+        tried: tour.tried,
+        least: tour.least,
+    }
+}
+
+// The call for a tour: nothing that is lent is written.
+pub fn plan_tour(costs: &[u8], steps: &[u8], limit: u16) -> PlannedTour
+    ensures answer { λ r. ⌜ r ≡ tourAnswer (now (costs .entry)) (now (steps .entry)) limit ⌝ }
+    ensures planned { λ r. ⌜ (r .number ≡ 0 → TourPlanned (now (costs .entry)) (stepsOf (now (steps .entry))) limit (tourIn r)) ⌝ }
+{
+    let number = window_steps::window_costs_number(costs, steps);
+    if number != 0 {
+        return refused(number);
+    }
+    let square = window_costs::window_square(costs, steps);
+    let tour = window_tour::window_tour(square, steps.len() / 8, limit);
+    accepted(tour)
+}

@@ -1,0 +1,21 @@
+-- What is promised of the call for a tour (02, "Job 14"): what the tour promises, over Job 13's square of the same costs and steps.
+-- Assumes nothing.
+use mathlib.Core.List.{List}
+use Prim.Native.Nat.{ℕ}
+use lib.ListN.{length}
+use Rattle.cost_square.specs.Square.{costSquare}
+use Rattle.cost_square.specs.Promise.{WindowSquare}
+use Rattle.tour_orders.specs.Orders.{orders}
+use Rattle.tour_orders.specs.Told.{AllOrders}
+use Rattle.tours.specs.declared.WindowTour.{WindowTour}
+use Rattle.tours.specs.Promise.{BestAnswer, LeastAnswer}
+
+pub record TourPlanned (costs : List ℕ) (steps : List (List ℕ)) (limit : ℕ) (tour : WindowTour) : Type 0 where
+  -- the costs are Job 13's: each is that of a least walk
+  pub square : WindowSquare costs steps (costSquare costs steps)
+  -- the orders are exactly the lists with each window once and 0 first, strictly in dictionary order, none left out
+  pub every-order : AllOrders (length steps) (orders (length steps))
+  -- the best order tried, or "no order"; and if all were tried, the best there is
+  pub best : BestAnswer (costSquare costs steps) (length steps) limit tour
+  -- no order's sum goes under the least figure
+  pub under : LeastAnswer (costSquare costs steps) (length steps) tour
