@@ -9,6 +9,7 @@ use line_end::LineEnd;
 use nearest_line::Line;
 use practice::PracticeFloor;
 use started_field::InitAnswer;
+use tour_plan::PlannedTour;
 ghost use mathlib.Core.Path.{_≡_};
 ghost use lib.ListN.{take, drop};
 ghost use Rattle.utilities.specs.Compass.{numberOf};
@@ -35,6 +36,8 @@ ghost use Rattle.cost_bounds.specs.Promise.{CostBounds, SureMarks};
 ghost use Rattle.bounds.specs.Promise.{floorBytes};
 ghost use Rattle.cost_square.specs.Square.{squareIn, windowCostsAnswer};
 ghost use Rattle.cost_square.specs.Promise.{WindowSquare};
+ghost use Rattle.tour_plan.specs.Plan.{tourIn, tourAnswer};
+ghost use Rattle.tour_plan.specs.Promise.{TourPlanned};
 ghost use Rattle.step_list.specs.Steps.{stepsOf};
 ghost use Rattle.leg_plan.specs.Leg.{legNumber, legSheet};
 ghost use Rattle.leg_plan.specs.Promise.{LegPlanned};
@@ -78,6 +81,15 @@ pub extern "C" fn hanjolum_window_costs(costs: &[u8], steps: &[u8]) -> WindowCos
     ensures least { λ r. ⌜ (r .number ≡ 0 → WindowSquare (now (costs .entry)) (stepsOf (now (steps .entry))) (squareIn (r .rows))) ⌝ }
 {
     window_costs::window_costs(costs, steps)
+}
+
+// The best tour of the same windows of as many orders as the limit says, and the least figure, or the same numbers.
+#[no_mangle]
+pub extern "C" fn hanjolum_window_tour(costs: &[u8], steps: &[u8], limit: u16) -> PlannedTour
+    ensures answer { λ r. ⌜ r ≡ tourAnswer (now (costs .entry)) (now (steps .entry)) limit ⌝ }
+    ensures planned { λ r. ⌜ (r .number ≡ 0 → TourPlanned (now (costs .entry)) (stepsOf (now (steps .entry))) limit (tourIn r)) ⌝ }
+{
+    tour::plan_tour(costs, steps, limit)
 }
 
 // A leg of one to sixteen steps, planned onto the sheet of a floor: 0, or number 1 to 10, 15, or 16.
