@@ -23,6 +23,8 @@ pub struct Case {
     pub byte: u8,
     /// The seed of a practice floor.
     pub seed: u32,
+    /// The orders of windows that are tried at most.
+    pub limit: u16,
     pub costs: Vec<u8>,
     /// The high one of two floors.
     pub high: Vec<u8>,
@@ -46,6 +48,7 @@ pub struct Outcome {
     pub practice: Option<PracticeFloor>,
     pub bounds: Option<Bounds>,
     pub windows: Option<WindowCosts>,
+    pub tour: Option<WindowTour>,
     pub sheet: Vec<u8>,
     /// What is lent to be read is unchanged, and no guard beside lent memory is.
     pub memory_kept: bool,
@@ -58,6 +61,7 @@ impl Case {
             cells: [FieldCell::default(); 2],
             byte: 0,
             seed: 0,
+            limit: 0,
             costs: Vec::new(),
             high: Vec::new(),
             steps: Vec::new(),
@@ -142,6 +146,10 @@ impl Case {
                 let windows = side.window_costs(costs, steps);
                 Outcome { windows: Some(windows), ..Outcome::of_number(windows.number) }
             }
+            Ask::One(Call::WindowTour) => {
+                let tour = side.window_tour(costs, steps, self.limit);
+                Outcome { tour: Some(tour), ..Outcome::of_number(tour.number) }
+            }
             Ask::FlowBoth => {
                 let number = side.flow_new(steps, self.field, previous, sheet);
                 let second = if number == 0 { side.flow_build(self.field, sheet) } else { 0 };
@@ -161,6 +169,9 @@ impl Case {
         }
         if self.ask == Ask::One(Call::PracticeFloor) {
             let _ = writeln!(text, "let seed = {};", self.seed);
+        }
+        if self.ask == Ask::One(Call::WindowTour) {
+            let _ = writeln!(text, "let limit = {};", self.limit);
         }
         paste(&mut text, "costs", &self.costs, |x| format!("{x}"));
         paste(&mut text, "high", &self.high, |x| format!("{x}"));
@@ -203,6 +214,7 @@ impl Outcome {
             practice: None,
             bounds: None,
             windows: None,
+            tour: None,
             sheet: Vec::new(),
             memory_kept: true,
         }
@@ -241,6 +253,11 @@ impl Outcome {
         for (i, (ours, theirs)) in ours.iter().zip(&theirs).enumerate() {
             differ(&mut found, &format!("row {i}"), ours, theirs);
         }
+        let [ours, theirs] = [self, other].map(|outcome| outcome.tour.unwrap_or(refused::window_tour(0)));
+        differ(&mut found, "found", &[ours.found], &[theirs.found]);
+        differ(&mut found, "order", &ours.order, &theirs.order);
+        let figures = |tour: WindowTour| [tour.sum, tour.tried, tour.least];
+        differ(&mut found, "sum, tried and least figure", &figures(ours), &figures(theirs));
         let bytes = |sheet: &[u8]| sheet.iter().map(|byte| Hex(u32::from(*byte))).collect::<Vec<_>>();
         differ(&mut found, "sheet", &bytes(&self.sheet), &bytes(&other.sheet));
         differ(&mut found, "memory kept", &[self.memory_kept], &[other.memory_kept]);

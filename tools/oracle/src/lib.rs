@@ -18,3 +18,4 @@ pub mod refusals;
 pub mod shrink;
 pub mod squares;
 pub mod subject;
+pub mod tours;

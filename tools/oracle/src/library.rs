@@ -119,6 +119,13 @@ unsafe extern "C" {
         steps: *const u8,
         steps_length: usize,
     ) -> WindowCosts;
+    fn hanjolum_window_tour(
+        costs: *const u8,
+        costs_length: usize,
+        steps: *const u8,
+        steps_length: usize,
+        limit: u16,
+    ) -> WindowTour;
 }
 
 #[allow(unused_variables)]
@@ -148,6 +155,7 @@ impl Subject for Library {
             Call::PracticeFloor => cfg!(export = "hanjolum_practice_floor"),
             Call::Bounds => cfg!(export = "hanjolum_bounds"),
             Call::WindowCosts => cfg!(export = "hanjolum_window_costs"),
+            Call::WindowTour => cfg!(export = "hanjolum_window_tour"),
         }
     }
 
@@ -261,6 +269,13 @@ impl Subject for Library {
         exported!(
             "hanjolum_window_costs",
             hanjolum_window_costs(costs.as_ptr(), costs.len(), steps.as_ptr(), steps.len())
+        )
+    }
+
+    fn window_tour(&self, costs: &[u8], steps: &[u8], limit: u16) -> WindowTour {
+        exported!(
+            "hanjolum_window_tour",
+            hanjolum_window_tour(costs.as_ptr(), costs.len(), steps.as_ptr(), steps.len(), limit)
         )
     }
 }

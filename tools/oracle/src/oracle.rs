@@ -1,11 +1,11 @@
 //! The oracle: refusal numbers by the table of documents 01 and 02, everything else by the Rust, but for what has no Rust,
-//! leg files, legs in which some window cell does not count, practice floors, bounds and costs from window to window (02,
-//! Jobs 1, 2, 6, 9 and 13), which the model answers. What diagonals and line ends decide, `init`, `build` of a flow field, the
-//! sector call, a leg and the line end itself, is the Rust's altered in these rules alone (02, Jobs 7 and 11); what did not
-//! move is the published Rust's. A step whose goal or some window cell is of cost 255 (02, Job 3) is the table's, and the Rust,
-//! which takes it, is not asked. Wave counts come from the counted copy, whose fields are asserted equal to those of the copy
-//! that decides. Positions (02, Job 10), which the Rust does not have, are the model's, over the cells that the Rust built.
-//! Each judge is noted where it is asked.
+//! leg files, legs in which some window cell does not count, practice floors, bounds, costs from window to window and tours of
+//! them (02, Jobs 1, 2, 6, 9, 13 and 14), which the model answers. What diagonals and line ends decide, `init`, `build` of a
+//! flow field, the sector call, a leg and the line end itself, is the Rust's altered in these rules alone (02, Jobs 7 and 11);
+//! what did not move is the published Rust's. A step whose goal or some window cell is of cost 255 (02, Job 3) is the table's,
+//! and the Rust, which takes it, is not asked. Wave counts come from the counted copy, whose fields are asserted equal to those
+//! of the copy that decides. Positions (02, Job 10), which the Rust does not have, are the model's, over the cells that the
+//! Rust built. Each judge is noted where it is asked.
 
 use crate::copies::{altered, counted_build, published};
 use crate::judges::{Judge, aside, decides};
@@ -24,7 +24,7 @@ pub fn judges(call: Call) -> &'static [Judge] {
         Call::Sector => &[Judge::Altered, Judge::Counted, Judge::Model],
         Call::Leg => &[Judge::Altered, Judge::Model],
         Call::LegFileWrite | Call::LegFileRead | Call::PracticeFloor => &[Judge::Model],
-        Call::Bounds | Call::WindowCosts => &[Judge::Model],
+        Call::Bounds | Call::WindowCosts | Call::WindowTour => &[Judge::Model],
         _ => &[Judge::Published],
     }
 }
@@ -236,7 +236,7 @@ impl Subject for Oracle {
         0
     }
 
-    // Leg files, practice floors, bounds and costs from window to window have no Rust.
+    // Leg files, practice floors, bounds, costs from window to window and tours have no Rust.
 
     fn leg_file_write(&self, steps: &[u8], file: &mut [u8]) -> u8 {
         decides(Judge::Model);
@@ -271,5 +271,15 @@ impl Subject for Oracle {
         }
         decides(Judge::Model);
         Model::PLAIN.costs_between_windows(costs, steps)
+    }
+
+    fn window_tour(&self, costs: &[u8], steps: &[u8], limit: u16) -> WindowTour {
+        let given = Given { windows: true, costs: Some(costs), steps: Some(steps), ..Given::default() };
+        let number = number(&given);
+        if number != 0 {
+            return refused::window_tour(number);
+        }
+        decides(Judge::Model);
+        Model::PLAIN.tour_of_windows(costs, steps, limit)
     }
 }

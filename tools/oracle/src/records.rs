@@ -21,6 +21,7 @@
 //! | practice_text.model | 223 | input length, input in 8 places | text length, text in 213 places |
 //! | bounds.model, bounds.table | 1115 | lengths of low, high and step, low in 101 places, high in 101, step in 9 | number, 100 least of 32 bits, 100 greatest of 32 bits, 100 marks |
 //! | window_costs.model, window_costs.table | 496 | lengths of costs and steps, costs in 101 places, steps in 136 | number, 64 costs of 32 bits, row by row |
+//! | window_tour.model, window_tour.table | 263 | lengths of costs and steps, limit of 16 bits, costs in 101 places, steps in 136 | number, whether an order is found, 8 places of the order, sum, number tried and least figure of 32 bits |
 //!
 //! A file whose name has no dot holds answers of the published Rust. Behind a dot stands the judge of a file that has
 //! another: `altered`, the Rust altered in two rules (document 02, Job 7: a diagonal is barred if either cell beside it is a
@@ -57,7 +58,8 @@
 //! bounds.model, bounds.table: two floors and a step, taken and refused. A mark is 1 for a sure cell, else 0. Places beyond
 //! a length are 0.
 //!
-//! window_costs.model, window_costs.table: windows of one sector, taken and refused. Places beyond a length are 0.
+//! window_costs.model, window_costs.table, window_tour.model, window_tour.table: windows of one sector, taken and refused.
+//! Places beyond a length are 0.
 //!
 //! Nothing here comes from the program that replays it.
 
@@ -131,6 +133,8 @@ pub fn sections() -> Vec<Section> {
         Section { name: "bounds.table", length: 1115, records: bounds_refused(rng()) },
         Section { name: "window_costs.model", length: 496, records: windows_taken(rng()) },
         Section { name: "window_costs.table", length: 496, records: windows_refused(rng()) },
+        Section { name: "window_tour.model", length: 263, records: tours_taken(rng()) },
+        Section { name: "window_tour.table", length: 263, records: tours_refused(rng()) },
     ]
 }
 
@@ -500,7 +504,8 @@ fn refusal(case: &Case) -> Vec<u8> {
         Call::WalkShallow | Call::WalkSteep => unreachable!("the walks alone are not recorded"),
         Call::LegFileWrite | Call::LegFileRead => unreachable!("a leg's files have sections of their own"),
         Call::PracticeFloor => unreachable!("practice floors refuse nothing"),
-        Call::Bounds | Call::WindowCosts => unreachable!("bounds and window costs have sections of their own"),
+        Call::Bounds => unreachable!("bounds have sections of their own"),
+        Call::WindowCosts | Call::WindowTour => unreachable!("windows have sections of their own"),
     };
     let short = |value: usize| (value as u16).to_le_bytes();
     let place = case.field.los_corners.iter().position(|corner| *corner != 0).unwrap_or(0);
@@ -972,9 +977,9 @@ fn on_open_floor(steps: &[Step]) -> Case {
     Case { costs: vec![1; CELLS], steps: steps.concat(), ..Case::of(Call::WindowCosts) }
 }
 
-/// From two to eight windows on an open floor; then lists that meet each kind; then drawn ones.
-fn windows_taken(mut rng: Rng) -> Vec<Vec<u8>> {
-    let windows: [Step; 8] = [
+/// Eight windows of sector 63: whole edges and single cells, some that overlap, one listed twice.
+fn eight_windows() -> [Step; 8] {
+    [
         floors::window_step(63, 0, 0, 9),
         floors::window_step(63, 2, 3, 3),
         floors::window_step(63, 1, 2, 5),
@@ -983,8 +988,12 @@ fn windows_taken(mut rng: Rng) -> Vec<Vec<u8>> {
         floors::window_step(63, 1, 0, 9),
         floors::window_step(63, 3, 7, 9),
         floors::window_step(63, 2, 3, 3),
-    ];
-    let mut cases: Vec<Case> = (2..=8).map(|count| on_open_floor(&windows[..count])).collect();
+    ]
+}
+
+/// From two to eight windows on an open floor; then lists that meet each kind; then drawn ones.
+fn windows_taken(mut rng: Rng) -> Vec<Vec<u8>> {
+    let mut cases: Vec<Case> = (2..=8).map(|count| on_open_floor(&eight_windows()[..count])).collect();
     cases.extend(groups::window_kinds().map(|kind| groups::windows_that_meet(&mut rng, kind)));
     cases.extend((0..32).map(|_| groups::any_windows(&mut rng)));
     cases.iter().map(window_costs).filter(|(taken, _)| *taken).map(|(_, record)| record).collect()
@@ -992,7 +1001,12 @@ fn windows_taken(mut rng: Rng) -> Vec<Vec<u8>> {
 
 /// Good lists with the lengths of the costs or of the steps made others, from no byte to 17 steps; with the first, a middle
 /// or the last step a goal, in another sector, at the limits or on a wall; with several of these; then drawn ones.
-fn windows_refused(mut rng: Rng) -> Vec<Vec<u8>> {
+fn windows_refused(rng: Rng) -> Vec<Vec<u8>> {
+    let cases = spoiled_windows(rng);
+    cases.iter().map(window_costs).filter(|(taken, _)| !*taken).map(|(_, record)| record).collect()
+}
+
+fn spoiled_windows(mut rng: Rng) -> Vec<Case> {
     let [east, south, west] = [1, 2, 3].map(|boundary| floors::window_step(9, boundary, 2, 5));
     let sound = on_open_floor(&[east, south, west]);
     let with = |steps: &[Step]| on_open_floor(steps);
@@ -1026,7 +1040,7 @@ fn windows_refused(mut rng: Rng) -> Vec<Vec<u8>> {
     cases.extend([with(&[east, turned, west]), with(&[east, elsewhere, turned]), with(&[east, goal, turned])]);
     cases.extend([29, 59, 92, 95, 20, 50].map(|wall| walled(sound.clone(), wall)));
     cases.extend((0..24).map(|_| groups::refused_windows(&mut rng)));
-    cases.iter().map(window_costs).filter(|(taken, _)| !*taken).map(|(_, record)| record).collect()
+    cases
 }
 
 /// The same with one wall.
@@ -1034,4 +1048,38 @@ fn walled(case: Case, wall: usize) -> Case {
     let mut case = case;
     case.costs[wall] = 255;
     case
+}
+
+/// A call for a tour, and whether it is taken.
+fn window_tour(case: &Case) -> (bool, Vec<u8>) {
+    let Case { costs, steps, limit, .. } = case;
+    let answer = Oracle.window_tour(costs, steps, *limit);
+    let mut record = [costs, steps].map(|bytes| bytes.len() as u8).to_vec();
+    record.extend(limit.to_le_bytes());
+    record.extend(placed(costs, 101).chain(placed(steps, 136)));
+    record.extend([answer.number, u8::from(answer.found)]);
+    record.extend(answer.order);
+    record.extend(wide(&[answer.sum, answer.tried, answer.least]));
+    (answer.number == 0, record)
+}
+
+/// From two to eight windows on an open floor with limits at the edges; then tours that meet each kind; then drawn ones.
+fn tours_taken(mut rng: Rng) -> Vec<Vec<u8>> {
+    let open = (2..=8).flat_map(|count| {
+        let all: u16 = (1..count as u16).product();
+        let limits = [0, 1, all - 1, all, all.saturating_add(1), 65535];
+        limits.map(|limit| Case { limit, ..on_open_floor(&eight_windows()[..count]) })
+    });
+    let mut cases: Vec<Case> = open.collect();
+    cases.extend(groups::tour_kinds().map(|kind| groups::tour_that_meets(&mut rng, kind)));
+    cases.extend((0..48).map(|_| groups::any_tour(&mut rng)));
+    cases.iter().map(window_tour).filter(|(taken, _)| *taken).map(|(_, record)| record).collect()
+}
+
+/// The refused lists of window costs, with limits.
+fn tours_refused(mut rng: Rng) -> Vec<Vec<u8>> {
+    let mut cases = spoiled_windows(rng.clone());
+    cases.iter_mut().enumerate().for_each(|(k, case)| case.limit = [0, 1, 24, 5040, 65535][k % 5]);
+    cases.extend((0..8).map(|_| groups::refused_tour(&mut rng)));
+    cases.iter().map(window_tour).filter(|(taken, _)| !*taken).map(|(_, record)| record).collect()
 }

@@ -28,6 +28,7 @@ enum Change {
     NarrowFirst,
     NarrowLast,
     SeedBit(usize),
+    LimitBit(usize),
 }
 
 /// The smallest case found that `differs` still says yes to.
@@ -51,11 +52,13 @@ pub fn smallest(case: &Case, differs: &dyn Fn(&Case) -> bool) -> Case {
 /// Every change that a case may take, the boldest first.
 fn changes(case: &Case) -> Vec<Change> {
     let mut list = vec![Change::DropStep, Change::NoPrevious, Change::SheetZero, Change::PositionsUnset];
-    let windows = if case.call() == Call::WindowCosts { case.steps.len() / 8 } else { 0 };
+    let listed = [Call::WindowCosts, Call::WindowTour].contains(&case.call());
+    let windows = if listed { case.steps.len() / 8 } else { 0 };
     list.extend((0..windows).rev().flat_map(|k| [Change::DropWindow(k), Change::WindowCell(k)]));
     list.extend([Change::NarrowFirst, Change::NarrowLast]);
     list.extend([0, 1, 3, 4, 5].map(Change::StepByteZero));
     list.extend((0..32).rev().map(Change::SeedBit));
+    list.extend((0..16).rev().map(Change::LimitBit));
     list.extend((0..case.costs.len() / CELLS).map(Change::SectorOpen));
     list.extend((0..case.field.count.min(CELLS)).rev().map(Change::DropCorner));
     list.extend((0..CELLS).flat_map(|i| [Change::CellTo(i, 65535), Change::CellTo(i, 0)]));
@@ -105,6 +108,7 @@ fn apply(change: Change, case: &mut Case) {
         Change::SeedBit(k) => case.seed &= !(1 << k),
         Change::PositionsUnset if is_field => case.field.positions = [NO_POSITION; CELLS],
         Change::PositionUnset(i) if is_field => case.field.positions[i] = NO_POSITION,
+        Change::LimitBit(k) => case.limit &= !(1 << k),
         Change::CellLow(i) => case.field.field[i] &= 0xffff,
         Change::CellFlags(i) if case.field.field[i] != 65535 => case.field.field[i] &= 0xffff_0000,
         Change::DropCorner(k) if case.field.count <= CELLS && k < case.field.count => {

@@ -147,6 +147,19 @@ impl WindowCosts {
     }
 }
 
+/// A tour of windows: whether an order of those tried counts, the best of them, its sum, how many were tried, and a figure
+/// that no order's sum goes under.
+#[repr(C)]
+#[derive(Clone, Copy, PartialEq, Eq, Debug)]
+pub struct WindowTour {
+    pub number: u8,
+    pub found: bool,
+    pub order: [u8; WINDOWS],
+    pub sum: u32,
+    pub tried: u32,
+    pub least: u32,
+}
+
 /// A yes or no, and the numbers lent beside it.
 #[derive(Clone, Copy, Debug)]
 pub struct Previous<'a> {
@@ -184,6 +197,7 @@ pub enum Call {
     PracticeFloor,
     Bounds,
     WindowCosts,
+    WindowTour,
 }
 
 /// A side of the comparison. A refusal answers its number, zeros else, and writes nothing.
@@ -206,6 +220,7 @@ pub trait Subject {
     fn practice_floor(&self, seed: u32) -> PracticeFloor;
     fn bounds(&self, low: &[u8], high: &[u8], step: &[u8]) -> Bounds;
     fn window_costs(&self, costs: &[u8], steps: &[u8]) -> WindowCosts;
+    fn window_tour(&self, costs: &[u8], steps: &[u8], limit: u16) -> WindowTour;
 }
 
 /// The answers of a refusal.
@@ -226,6 +241,10 @@ pub mod refused {
 
     pub fn window_costs(number: u8) -> WindowCosts {
         WindowCosts::new(number, [[0; WINDOWS]; WINDOWS])
+    }
+
+    pub fn window_tour(number: u8) -> WindowTour {
+        WindowTour { number, found: false, order: [0; WINDOWS], sum: 0, tried: 0, least: 0 }
     }
 
     pub fn line(number: u8) -> Line {

@@ -92,13 +92,16 @@ fn a_file_with_another_judge_says_so_in_its_name() {
     let altered = ["line_end.altered", "init.altered", "flow_build.altered", "sector.altered", "leg.altered"];
     assert_eq!(by(Judge::Altered), altered);
     assert_eq!(by(Judge::Counted), ["build", "sector.altered"]);
-    let tables = ["init.table", "sector.table", "leg.table", "refusals.table", "bounds.table", "window_costs.table"];
-    assert_eq!(by(Judge::Table), tables);
+    let tables = ["init.table", "sector.table", "leg.table", "refusals.table", "bounds.table"];
+    let windows = ["window_costs.table", "window_tour.table"];
+    assert_eq!(by(Judge::Table), [&tables[..], &windows[..]].concat());
     let files = ["leg_file_write.model", "leg_file_read.model"];
-    let floors = ["practice.model", "practice_text.model", "bounds.model", "window_costs.model"];
+    let floors = ["practice.model", "practice_text.model", "bounds.model"];
+    let windows = ["window_costs.model", "window_tour.model"];
     // Of the first three, whose cells are the Rust's, the positions.
     let positions = ["init.altered", "build", "sector.altered"];
-    assert_eq!(by(Judge::Model), [&positions[..], &["leg.model"], &files[..], &floors[..]].concat());
+    let models = [&positions[..], &["leg.model"], &files[..], &floors[..], &windows[..]].concat();
+    assert_eq!(by(Judge::Model), models);
     let named = |judge: Judge, end: &str| {
         by(judge).iter().all(|name| name.ends_with(end) || (judge == Judge::Model && positions.contains(name)))
     };
@@ -488,5 +491,44 @@ fn window_costs_show_every_slip() {
     for (slip, text) in slips_of("window costs: ") {
         let taken = shown(*slip, "window_costs.model", agrees);
         assert!(taken || shown(*slip, "window_costs.table", agrees), "not shown: {text}");
+    }
+}
+
+/// The number of a record of a tour, and whether a model answers what it says.
+fn tour_so(model: &Model, r: &mut Reader) -> (u8, bool) {
+    let lengths = [(); 2].map(|()| usize::from(r.byte()));
+    let limit = r.short() as u16;
+    let [costs, steps] = [101, 136].map(|places| r.bytes(places));
+    let beyond = |bytes: &[u8], length: usize| bytes[length..].iter().all(|byte| *byte == 0);
+    assert!([costs, steps].iter().zip(lengths).all(|(bytes, length)| beyond(bytes, length)), "zeros beyond");
+    let (number, found) = (r.byte(), r.byte() == 1);
+    let order = r.bytes(8).try_into().expect("eight bytes");
+    let [sum, tried, least] = [(); 3].map(|()| r.word());
+    let answer = model.window_tour(&costs[..lengths[0]], &steps[..lengths[1]], limit);
+    (number, answer == WindowTour { number, found, order, sum, tried, least })
+}
+
+#[test]
+fn window_tours() {
+    each("window_tour.model", |r| assert_eq!(tour_so(&MODEL, r), (0, true)));
+    let mut numbers = Vec::new();
+    each("window_tour.table", |r| {
+        let (number, agrees) = tour_so(&MODEL, r);
+        assert!(agrees);
+        numbers.push(number);
+    });
+    numbers.sort();
+    numbers.dedup();
+    assert_eq!(numbers, [1, 3, 4, 5, 6, 7, 8, ON_WALL, NOT_2_TO_8, NO_WINDOW_THERE]);
+}
+
+/// Those of the numbers are shown by each of the two calls.
+#[test]
+fn window_tours_show_every_slip() {
+    let agrees = |model: &Model, r: &mut Reader| tour_so(model, r).1;
+    let numbers = slips_of("window costs: ").into_iter().filter(|(slip, _)| format!("{slip:?}").starts_with("List"));
+    for (slip, text) in slips_of("window tour: ").into_iter().chain(numbers) {
+        let taken = shown(*slip, "window_tour.model", agrees);
+        assert!(taken || shown(*slip, "window_tour.table", agrees), "not shown: {text}");
     }
 }

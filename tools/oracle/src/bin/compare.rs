@@ -108,6 +108,9 @@ fn report_clean(group: &Group, clean: &Clean, start: Instant) {
     if clean.squared.inputs > 0 {
         println!("{:<20} held to built fields: {}", "", clean.squared);
     }
+    if clean.toured.inputs > 0 {
+        println!("{:<20} held to their words: {}", "", clean.toured);
+    }
 }
 
 /// How many inputs have a goal or a window cell of cost 255, or a window without a previous field.
@@ -189,6 +192,9 @@ fn compare(side: &dyn Subject, chosen: &Arguments) -> Result<(), String> {
     }
     if all.squared.inputs > 0 {
         println!("held to built fields: {}", all.squared);
+    }
+    if all.toured.inputs > 0 {
+        println!("held to their words: {}", all.toured);
     }
     Ok(())
 }

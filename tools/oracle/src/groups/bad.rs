@@ -4,6 +4,7 @@ use super::Cases;
 use super::bounds::{any_window, two_floors};
 use super::good::{drawn, leg_case};
 use super::legs::closed_leg;
+use super::tours::{any_limit, with_limit};
 use super::windows;
 use crate::cases::Case;
 use crate::floors::{self, Costs, Rng, Step};
@@ -284,4 +285,21 @@ pub fn refused_windows(rng: &mut Rng) -> Case {
 
 pub fn windows(rng: Rng, inputs: usize) -> Cases {
     Box::new(drawn(rng, inputs, bad_windows))
+}
+
+/// Such a list, taken or not, asked for a tour.
+fn bad_tour(rng: &mut Rng) -> Case {
+    let (case, all) = (bad_windows(rng), rng.pick(&[1, 24, 5040]));
+    let limit = any_limit(rng, all);
+    with_limit(case, limit)
+}
+
+/// The same where it is refused for its walls or for a step without window or elsewhere.
+pub fn refused_tour(rng: &mut Rng) -> Case {
+    let (case, limit) = (refused_windows(rng), any_limit(rng, 24));
+    with_limit(case, limit)
+}
+
+pub fn tours(rng: Rng, inputs: usize) -> Cases {
+    Box::new(drawn(rng, inputs, bad_tour))
 }

@@ -113,6 +113,25 @@ pub enum Met {
     LeastBetween,
     /// A way that is cheapest through a cell of another window.
     PastAnother,
+    /// A tour with limit 0; with limit 1, of several orders; with one less than there are orders; with as many; with more.
+    LimitNone,
+    LimitOne,
+    LimitShort,
+    LimitAll,
+    LimitOver,
+    /// Two orders tried have the best sum.
+    Tie,
+    /// Orders are tried, and none counts; a later one than those tried is better.
+    NoTour,
+    BetterBehind,
+    /// The best sum is the least figure, and not 0; it is above it.
+    AtLeastFigure,
+    AboveLeastFigure,
+    /// The best sum, or the least figure, is above 65535.
+    DearTour,
+    DearFigure,
+    /// The best order is not the listed one.
+    TourNotListed,
 }
 
 /// Where a step has its wall.
@@ -179,6 +198,19 @@ impl fmt::Display for Met {
             Met::DearWay => write!(f, "a cost of 10,000 or more"),
             Met::LeastBetween => write!(f, "the least between the ends of a window"),
             Met::PastAnother => write!(f, "the least through another window"),
+            Met::LimitNone => write!(f, "limit 0"),
+            Met::LimitOne => write!(f, "limit 1"),
+            Met::LimitShort => write!(f, "a limit of all orders but one"),
+            Met::LimitAll => write!(f, "of all orders"),
+            Met::LimitOver => write!(f, "of more"),
+            Met::Tie => write!(f, "a tie"),
+            Met::NoTour => write!(f, "no order that counts"),
+            Met::BetterBehind => write!(f, "a better one behind those tried"),
+            Met::AtLeastFigure => write!(f, "a sum at the least figure"),
+            Met::AboveLeastFigure => write!(f, "one above it"),
+            Met::DearTour => write!(f, "a sum above 65535"),
+            Met::DearFigure => write!(f, "a least figure above 65535"),
+            Met::TourNotListed => write!(f, "another order than the listed one"),
         }
     }
 }

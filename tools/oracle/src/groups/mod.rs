@@ -10,17 +10,19 @@ mod leg_files;
 mod legs;
 mod positions;
 mod practice;
+mod tours;
 mod windows;
 
 use std::collections::BTreeMap;
 
-pub use bad::{refused_floors, refused_windows};
+pub use bad::{refused_floors, refused_tour, refused_windows};
 pub use bounds::{any_floors, floors_that_meet, range_kinds};
 pub use legs::{
     Met, Place, closed_leg, leg_kinds, leg_on_walls_that_meets, leg_that_counts, leg_that_meets, wall_kinds,
 };
 pub use positions::{field_that_meets, position_kinds};
 pub use practice::NAMED;
+pub use tours::{any_tour, tour_kinds, tour_that_meets};
 pub use windows::{any_windows, window_kinds, windows_that_meet};
 
 use crate::between::{Between, Bounded};
@@ -35,6 +37,7 @@ use crate::refusals::{FIELDLESS, NO_RANGE, NO_WINDOW_THERE, NOT_2_TO_8, ON_WALL}
 use crate::shrink;
 use crate::squares::{self, Squared};
 use crate::subject::{Call, Subject};
+use crate::tours::{Toured, held as tour_held};
 
 /// Inputs of a group, one by one.
 pub type Cases = Box<dyn Iterator<Item = Case>>;
@@ -79,6 +82,7 @@ pub const GROUPS: &[Group] = &[
     Group { name: PRACTICE, needs: &[Call::PracticeFloor], cases: practice::floors, reaches: &[0] },
     Group { name: BOUNDS, needs: &[Call::Bounds, Call::Sector], cases: bounds::bounds, reaches: &[0] },
     Group { name: WINDOW_COSTS, needs: &[Call::WindowCosts, Call::Sector], cases: windows::costs, reaches: &[0] },
+    Group { name: WINDOW_TOUR, needs: &[Call::WindowTour], cases: tours::tours, reaches: &[0] },
     Group { name: "line refusals", needs: &[Call::Line], cases: bad::lines, reaches: &[0, 13] },
     Group { name: "walk shallow refusals", needs: &[Call::WalkShallow], cases: bad::shallow_walks, reaches: &[0, 13] },
     Group { name: "walk steep refusals", needs: &[Call::WalkSteep], cases: bad::steep_walks, reaches: &[0, 13] },
@@ -121,6 +125,12 @@ pub const GROUPS: &[Group] = &[
         cases: bad::windows,
         reaches: &[0, 1, 3, 4, 5, 6, 7, 8, ON_WALL, NOT_2_TO_8, NO_WINDOW_THERE],
     },
+    Group {
+        name: "window tour refusals",
+        needs: &[Call::WindowTour],
+        cases: bad::tours,
+        reaches: &[0, 1, 3, 4, 5, 6, 7, 8, ON_WALL, NOT_2_TO_8, NO_WINDOW_THERE],
+    },
 ];
 
 /// Fields whose positions are looked for.
@@ -156,6 +166,9 @@ pub const BUILT: Group =
 /// Windows of one sector.
 pub const WINDOW_COSTS: &str = "window costs";
 
+/// Tours of windows.
+pub const WINDOW_TOUR: &str = "window tour";
+
 /// What a group that found no difference saw.
 #[derive(Clone, Default)]
 pub struct Clean {
@@ -175,6 +188,8 @@ pub struct Clean {
     pub between: Between,
     /// The costs that were held to built fields, of accepted calls for window costs.
     pub squared: Squared,
+    /// The tours that were held to their words, of accepted calls.
+    pub toured: Toured,
 }
 
 impl Clean {
@@ -188,6 +203,22 @@ impl Clean {
         self.cleared.add(&other.cleared);
         self.between.add(&other.between);
         self.squared.add(&other.squared);
+        self.toured.add(&other.toured);
+    }
+}
+
+impl Clean {
+    /// Notes what was compared of an input.
+    fn note(&mut self, compared: &Compared) {
+        self.numbers[usize::from(compared.due.number)] += 1;
+        for (count, decided) in self.judged.iter_mut().zip(compared.judges) {
+            *count += usize::from(decided);
+        }
+        self.followed.add(&compared.followed);
+        self.cleared.add(&compared.cleared);
+        self.between.add(&compared.between);
+        self.squared.add(&compared.squared);
+        self.toured.add(&compared.toured);
     }
 }
 
@@ -200,7 +231,8 @@ pub struct Difference {
 }
 
 /// What the oracle says of one input, by which judges, and where a side differs from it; what was followed, if anything,
-/// which arrows were looked at, which floors were built between two, and which costs were held to built fields.
+/// which arrows were looked at, which floors were built between two, which costs were held to built fields, and which tours
+/// to their words.
 struct Compared {
     due: Outcome,
     outcome: Outcome,
@@ -210,13 +242,25 @@ struct Compared {
     cleared: Cleared,
     between: Between,
     squared: Squared,
+    toured: Toured,
 }
 
 impl Compared {
     /// What was compared, and nothing looked at besides.
     fn of(due: Outcome, outcome: Outcome, judges: Judges, found: Vec<String>) -> Self {
-        let (followed, cleared, between, squared) = Default::default();
-        Compared { due, outcome, judges, found, followed, cleared, between, squared }
+        let (followed, cleared, between, squared, toured) = Default::default();
+        Compared { due, outcome, judges, found, followed, cleared, between, squared, toured }
+    }
+
+    /// Holds the tour that both answer to its words (02, Job 14).
+    fn toured(mut self, case: &Case) -> Self {
+        let answer = self.outcome.tour.filter(|answer| self.due.number == 0 && answer.number == 0);
+        let Some(answer) = answer else { return self };
+        match tour_held(&case.costs, &case.steps, case.limit, &answer) {
+            Ok(toured) => self.toured = toured,
+            Err(fault) => self.found.push(fault),
+        }
+        self
     }
 
     /// Holds the costs from window to window that both answer to built fields (02, Job 13).
@@ -283,6 +327,7 @@ impl Group {
             PRACTICE => practice::all(),
             BOUNDS => bounds::all(),
             WINDOW_COSTS => windows::all(),
+            WINDOW_TOUR => tours::all(),
             _ => Vec::new(),
         }
     }
@@ -296,6 +341,7 @@ impl Group {
             PRACTICE => practice::met(case),
             BOUNDS => bounds::met(case),
             WINDOW_COSTS => windows::met(case),
+            WINDOW_TOUR => tours::met(case),
             _ => Vec::new(),
         }
     }
@@ -327,7 +373,7 @@ impl Group {
                 let compared = compared(case, side);
                 Compared { found: Vec::new(), ..compared }.built(case, side)
             }
-            _ => compared(case, side).cleared(case).built(case, side).squared(case, side),
+            _ => compared(case, side).cleared(case).built(case, side).squared(case, side).toured(case),
         }
     }
 
@@ -336,16 +382,9 @@ impl Group {
         for case in (self.cases)(Rng::new(seed), inputs) {
             clean.inputs += 1;
             self.met(&case).into_iter().for_each(|met| *clean.met.entry(met).or_default() += 1);
-            let Compared { due, judges, found, followed, cleared, between, squared, .. } = self.compared(&case, side);
-            clean.numbers[usize::from(due.number)] += 1;
-            for (count, decided) in clean.judged.iter_mut().zip(judges) {
-                *count += usize::from(decided);
-            }
-            clean.followed.add(&followed);
-            clean.cleared.add(&cleared);
-            clean.between.add(&between);
-            clean.squared.add(&squared);
-            if !found.is_empty() {
+            let compared = self.compared(&case, side);
+            clean.note(&compared);
+            if !compared.found.is_empty() {
                 let smallest = shrink::smallest(&case, &|simpler| !self.compared(simpler, side).found.is_empty());
                 let found = self.compared(&smallest, side).found;
                 return Err(Box::new(Difference { input: clean.inputs, smallest, found }));
@@ -373,6 +412,9 @@ impl Group {
             return Some(format!("`{name}` did not meet {lacking} in {inputs} inputs: ask for more by --inputs"));
         }
         if let Some(lacking) = clean.squared.lacks().filter(|_| self.needs.contains(&Call::WindowCosts)) {
+            return Some(format!("`{name}` did not meet {lacking} in {inputs} inputs: ask for more by --inputs"));
+        }
+        if let Some(lacking) = clean.toured.lacks().filter(|_| self.needs.contains(&Call::WindowTour)) {
             return Some(format!("`{name}` did not meet {lacking} in {inputs} inputs: ask for more by --inputs"));
         }
         let has_arrows = self.has_rust() && self.needs.iter().any(|call| [Call::Sector, Call::Leg].contains(call));

@@ -201,4 +201,12 @@ impl Subject for Model {
             None => self.costs_between_windows(costs, steps),
         }
     }
+
+    fn window_tour(&self, costs: &[u8], steps: &[u8], limit: u16) -> WindowTour {
+        let given = Given { windows: true, costs: Some(costs), steps: Some(steps), ..Given::default() };
+        match self.turned_away(&given, &mut []) {
+            Some(number) => self.refused_window_tour(number, limit),
+            None => self.tour_of_windows(costs, steps, limit),
+        }
+    }
 }

@@ -13,9 +13,11 @@ mod positions;
 mod practice;
 mod slips;
 mod window_costs;
+mod window_tour;
 
 pub use leg::{CLOSED, Plan, PlannedStep};
 pub use slips::Slip;
+pub use window_tour::orders;
 
 /// The model, with no slip or with one.
 pub struct Model {
