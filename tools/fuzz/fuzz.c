@@ -14,11 +14,13 @@
  * earlier one not; the sector call has the same positions. A line's end is on the edge, and that of a corner and a goal in
  * unequal columns and rows is mirrored where these are, left to right and top to bottom. Window costs are accepted of two to
  * eight windows of one sector alone, and each is the least cost of a cell of the one window in the field that the sector call
- * builds for the other. A fault, and a run in which no call was accepted or none refused, no leg of several steps planned,
- * none refused with 15, no arrow followed, no diagonal one looked at, init, the sector call, a leg, bounds or window costs
- * never refused with 16, the sector call never with 17, bounds never with 18, window costs never with 19 or 20, no cell sure,
- * no position looked at with and without an earlier corner, no window reached or none cut off from another, or no practice
- * floor with all three costs, is one line on standard error and exit status 1.
+ * builds for the other. A tour of the same windows has the same number; of the orders that it says were tried, each is tried
+ * once more over the window costs. A fault, and a run in which no call was accepted or none refused, no leg of several steps
+ * planned, none refused with 15, no arrow followed, no diagonal one looked at, init, the sector call, a leg, bounds or window
+ * costs never refused with 16, the sector call never with 17, bounds never with 18, window costs never with 19 or 20, no cell
+ * sure, no position looked at with and without an earlier corner, no window reached or none cut off from another, no tour
+ * found or none with another order than the listed one, or no practice floor with all three costs, is one line on standard
+ * error and exit status 1.
  */
 #define _DEFAULT_SOURCE
 #include <stdio.h>
@@ -169,10 +171,10 @@ static int zeros(const void *part, size_t length)
    previous field; how many practice floors had all three costs; how many bounds had no from-to or no window, and how many
    cells were sure; how many positions were looked at, and how many of them beside an earlier corner; how many lists of
    windows had other than two to eight, and how many a step without window or elsewhere; how many windows were reached from
-   another, and how many were not. */
+   another, and how many were not; how many tours were found, and how many had another order than the listed one. */
 static unsigned long accepted, turned_away, planned, closed, followed, diagonal, on_wall[5], fieldless, practised, unranged, sure,
     positioned, earliest;
-static unsigned long miscounted, misplaced, ways_met[2];
+static unsigned long miscounted, misplaced, ways_met[2], toured, reordered;
 
 static void tallied(uint8_t number)
 {
@@ -622,7 +624,103 @@ static void ways(const HanjolumWindowCosts *w, const Fenced *costs, const Fenced
     }
 }
 
-/* Costs from window to window. */
+static void swap(uint8_t *one, uint8_t *other)
+{
+    uint8_t held = *one;
+    *one = *other;
+    *other = held;
+}
+
+/* Makes an order of windows the next one in the dictionary, the first window staying; 0 where there is none. */
+static int next_order(uint8_t *order, int listed)
+{
+    int at = listed - 2, other = listed - 1;
+    while (at > 0 && order[at] > order[at + 1])
+        at--;
+    if (at < 1)
+        return 0;
+    while (order[other] < order[at])
+        other--;
+    swap(order + at, order + other);
+    for (int low = at + 1, high = listed - 1; low < high; low++, high--)
+        swap(order + low, order + high);
+    return 1;
+}
+
+/* What an order comes to, or UINT32_MAX where it uses a 65535. */
+static uint32_t order_sum(const HanjolumWindowCosts *w, const uint8_t *order, int listed)
+{
+    uint32_t sum = 0;
+    for (int i = 1; i < listed; i++) {
+        uint32_t cost = w->rows[order[i - 1]].costs[order[i]];
+        if (cost == UNREACHED)
+            return UINT32_MAX;
+        sum += cost;
+    }
+    return sum;
+}
+
+/* Tries the orders of an accepted tour once more, as many as the limit allows. */
+static void orders(const HanjolumWindowTour *t, const HanjolumWindowCosts *w, int listed, uint16_t limit)
+{
+    uint8_t order[HANJOLUM_WINDOWS] = {0}, best[HANJOLUM_WINDOWS] = {0};
+    uint32_t tried = 0, least = UINT32_MAX;
+    int more = 1;
+    for (int i = 0; i < listed; i++)
+        order[i] = (uint8_t)i;
+    for (; more && tried < limit; more = next_order(order, listed)) {
+        uint32_t sum = order_sum(w, order, listed);
+        tried++;
+        if (sum < least) {
+            memcpy(best, order, sizeof best);
+            least = sum;
+        }
+    }
+    if (t->tried != tried)
+        fail("a tour tried more or fewer orders than the limit allows");
+    if (t->found != (least != UINT32_MAX) || t->sum != (t->found ? least : 0) || memcmp(t->order, best, sizeof best) != 0)
+        fail("a tour is not the best of the orders tried, or not the first of them");
+    for (int i = 0; i < listed; i++)
+        order[i] = (uint8_t)i;
+    toured += t->found;
+    reordered += t->found && memcmp(t->order, order, sizeof order) != 0;
+}
+
+/* The sum of the cheapest entries into the windows but the first, each from another. */
+static uint32_t entries(const HanjolumWindowCosts *w, int listed)
+{
+    uint32_t sum = 0;
+    for (int b = 1; b < listed; b++) {
+        uint32_t least = UNREACHED;
+        for (int a = 0; a < listed; a++)
+            if (a != b && w->rows[a].costs[b] < least)
+                least = w->rows[a].costs[b];
+        sum += least;
+    }
+    return sum;
+}
+
+/* A tour of the windows whose costs are these. */
+static void a_tour(const HanjolumWindowCosts *w, const Fenced *costs, const Fenced *route)
+{
+    static const uint16_t limits[] = {0, 1, 2, 5, 6, 23, 24, 119, 120, 719, 720, 5039, 5040, 5041, 65535};
+    uint16_t limit = below(2) ? limits[below(15)] : (uint16_t)below(below(2) ? 30 : 65536);
+    int listed = (int)(route->length / 8);
+    HanjolumWindowTour t = hanjolum_window_tour(costs->at, costs->length, route->at, route->length, limit);
+    counted(t.number);
+    if (t.number != w->number)
+        fail("a tour has another number than its window costs");
+    if (t.number != 0) {
+        if (t.found || !zeros(t.order, sizeof t.order) || t.sum != 0 || t.tried != 0 || t.least != 0)
+            fail("a refused tour is not zero");
+        return;
+    }
+    orders(&t, w, listed, limit);
+    if (t.least != entries(w, listed) || (t.found && t.sum < t.least))
+        fail("the least figure is not that of the cheapest entries, or a sum goes under it");
+}
+
+/* Costs from window to window, and a tour. */
 static void window_costs(Fenced *costs, Fenced *route)
 {
     windows(costs, route);
@@ -644,6 +742,7 @@ static void window_costs(Fenced *costs, Fenced *route)
         fail("a step without window, or in another sector, is accepted");
     if (w.number == 0)
         ways(&w, costs, route);
+    a_tour(&w, costs, route);
 }
 
 /* One call of each kind that writes a sheet, and one of each that does not. */
@@ -749,14 +848,17 @@ static void report(unsigned long rounds)
         fail("window costs were never refused with 19, or never with 20");
     if (ways_met[0] == 0 || ways_met[1] == 0)
         fail("no window was reached from another, or none was cut off from one");
+    if (toured == 0 || reordered == 0)
+        fail("no tour was found, or none with another order than the listed one");
     printf("%lu rounds of calls, %lu accepted and %lu refused, %lu legs of several steps planned and %lu refused with 15, "
            "arrows followed from %lu cells to the goal's sector, %lu diagonal arrows looked at, "
            "%lu init, %lu sector calls, %lu legs, %lu bounds and %lu window costs refused with 16, %lu sector calls with 17, "
            "%lu bounds with 18, %lu window costs with 19 and %lu with 20, %lu windows reached from another and %lu cut off, "
-           "%lu sure cells, %lu practice floors, %lu positions looked at and %lu of them beside an earlier corner, nothing found\n",
+           "%lu tours, %lu of them in another order than listed, %lu sure cells, %lu practice floors, "
+           "%lu positions looked at and %lu of them beside an earlier corner, nothing found\n",
            rounds, accepted, turned_away, planned, closed, followed, diagonal, on_wall[0], on_wall[1], on_wall[2],
-           on_wall[3], on_wall[4], fieldless, unranged, miscounted, misplaced, ways_met[0], ways_met[1], sure, practised,
-           positioned, earliest);
+           on_wall[3], on_wall[4], fieldless, unranged, miscounted, misplaced, ways_met[0], ways_met[1], toured,
+           reordered, sure, practised, positioned, earliest);
     written();
 }
 

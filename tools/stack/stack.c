@@ -1,6 +1,6 @@
 /*
- * The deepest stack of a leg, and of a call for window costs: plans legs of sixteen steps, and asks for the costs of eight
- * windows, on a painted stack and looks how far down the paint is gone.
+ * The deepest stack of a leg, of a call for window costs and of one for a tour: plans legs of sixteen steps, and asks for
+ * the costs of eight windows and the best of all their orders, on a painted stack and looks how far down the paint is gone.
  * The floors are hard: sectors are changed cell by cell, and a change is kept where the waves do not become fewer and the
  * next step can still be planned. The windows are those of a hard sector: its own and seven more cells of its edges.
  * What goes wrong, a refused call among it, is one line on standard error and exit status 1.
@@ -107,6 +107,13 @@ static void *cost_windows(void *sector)
     return sector;
 }
 
+static void *tour_windows(void *sector)
+{
+    before = (uintptr_t)__builtin_frame_address(0);
+    number = hanjolum_window_tour(sector, HANJOLUM_CELLS, windows, sizeof windows, UINT16_MAX).number;
+    return sector;
+}
+
 /* A window step and seven windows of one cell behind it, of cells on the edges that are no walls; whether there are as
    many. */
 static int make_windows(const uint8_t *costs, const uint8_t *step)
@@ -153,7 +160,7 @@ static void deeper(size_t *deepest, size_t used)
 int main(int argc, char **argv)
 {
     uint8_t *stack = aligned_alloc(4096, STACK);
-    size_t deepest = 0, of_windows = 0;
+    size_t deepest = 0, of_windows = 0, of_tours = 0;
     long most = 0;
     (void)argv;
     if (argc > 1)
@@ -170,15 +177,17 @@ int main(int argc, char **argv)
             uint8_t *costs = floor_costs + step[0] * HANJOLUM_CELLS;
             long waves = harden(costs, step, next);
             most = waves > most ? waves : most;
-            if (i > 0 && make_windows(costs, step))
+            if (i > 0 && make_windows(costs, step)) {
                 deeper(&of_windows, depth(stack, cost_windows, costs));
+                deeper(&of_tours, depth(stack, tour_windows, costs));
+            }
         }
         deeper(&deepest, depth(stack, plan, NULL));
     }
     free(stack);
     if (of_windows == 0)
         fail("no call for window costs was made");
-    printf("%zu bytes of stack at most, with %ld waves; %zu for window costs\n", deepest, most, of_windows);
+    printf("%zu bytes of stack at most, with %ld waves; %zu for window costs, %zu for a tour\n", deepest, most, of_windows, of_tours);
     if (fflush(stdout) != 0)
         fail("standard output cannot be written");
     return 0;

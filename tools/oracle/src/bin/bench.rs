@@ -1,8 +1,8 @@
 //! Speed: our sector call against the Rust's `init`, `build`, `new`, `build` on the same inputs, from the same driver, in
 //! one run; our leg against its sector calls, where every window cell counts, and by itself, where some do not; and our
-//! costs from window to window against the Rust's `init` and `build` for each window. The Rust is the copy altered as
-//! document 02, Jobs 7 and 11 ask, which writes the same bytes. A few inputs are timed at once, and of many rounds the least
-//! time counts: another program that runs adds to a time and never takes from it.
+//! costs from window to window against the Rust's `init` and `build` for each window, and our tours against these. The Rust is
+//! the copy altered as document 02, Jobs 7 and 11 ask, which writes the same bytes. A few inputs are timed at once, and of many
+//! rounds the least time counts: another program that runs adds to a time and never takes from it.
 
 use std::hint::black_box;
 use std::process::ExitCode;
@@ -310,6 +310,31 @@ fn squares() {
     }
 }
 
+/// What the costs from window to window take, and a tour of the same windows with a limit.
+fn measure_tours(inputs: &[Windows], limit: u16) -> [f64; 2] {
+    let mut times: [Times; 2] = Default::default();
+    for _ in 0..ROUNDS {
+        times[0].round(inputs, 1, |input| black_box(Library.window_costs(&input.costs, &input.steps)).number);
+        times[1].round(inputs, 1, |input| black_box(Library.window_tour(&input.costs, &input.steps, limit)).number);
+    }
+    times.map(|side| side.each(inputs.len()))
+}
+
+fn tours() {
+    println!(
+        "nanoseconds a tour: {LISTS} lists of windows on random floors, the least of {ROUNDS} rounds for each; beside the"
+    );
+    println!("costs from window to window that it is made of, and what an order takes");
+    println!("{:<26} {:>9} {:>9} {:>9}", "", "costs", "tour", "an order");
+    for (count, limit) in [(2, 1), (4, 6), (5, 24), (6, 120), (7, 720), (8, 1), (8, 720), (8, 5040)] {
+        let mut rng = Rng::new(7);
+        let inputs: Vec<Windows> = (0..LISTS).map(|_| windows(&mut rng, false, count)).collect();
+        let [costs, tour] = measure_tours(&inputs, limit);
+        let name = format!("{count} windows, {limit} orders");
+        println!("{name:<26} {costs:>9.0} {tour:>9.0} {:>9.1}", (tour - costs) / f64::from(limit));
+    }
+}
+
 fn bench(words: Vec<String>) -> Result<(), String> {
     if let Some(word) = words.first() {
         return Err(format!("`{word}`: bench takes no words"));
@@ -317,11 +342,12 @@ fn bench(words: Vec<String>) -> Result<(), String> {
     if !cfg!(panic = "abort") {
         return Err("not built with the profile `fastest`: use tools/oracle/run bench".to_string());
     }
-    Library::found(&[Call::Sector, Call::Leg, Call::WindowCosts])?;
+    Library::found(&[Call::Sector, Call::Leg, Call::WindowCosts, Call::WindowTour])?;
     println!("the Rust and this driver are built with {}", env!("ORACLE_PROFILE"));
     sectors();
     legs();
     squares();
+    tours();
     Ok(())
 }
 
