@@ -37,6 +37,7 @@ fn agrees(section: u8, record: &[u8]) -> bool {
         13 => seeds::text_agrees(record),
         14 => floors::bounds_agree(record),
         15 => windows::costs_agree(record),
+        16 => windows::tour_agrees(record),
         _ => false,
     }
 }
@@ -115,4 +116,6 @@ fn main() {
     replay(14, b"bounds.table", 1115);
     replay(15, b"window_costs.model", 496);
     replay(15, b"window_costs.table", 496);
+    replay(16, b"window_tour.model", 263);
+    replay(16, b"window_tour.table", 263);
 }

@@ -1,7 +1,8 @@
-// The records of window costs: the costs of a sector and the steps of its windows.
+// The records of window costs and of tours: the costs of a sector and the steps of its windows.
 use cost_square::WindowRow;
 use records::byte_at;
 use records::part;
+use records::short_at;
 use records::size_at;
 use records::word_at;
 
@@ -44,4 +45,38 @@ pub fn costs_agree(record: &[u8]) -> bool {
     );
     let rows = found.rows;
     found.number == byte_at(record, 239) && same_rows(rows, part(record, 240, 496))
+}
+
+// Whether the eight places of an order are those that stand in a byte each.
+fn same_order(order: [u8; 8], bytes: &[u8]) -> bool {
+    let mut i = 0;
+    while i < 8 {
+        if order[i] != byte_at(bytes, i) {
+            return false;
+        }
+        i += 1;
+    }
+    true
+}
+
+// A record: lengths of costs and steps, limit, 101 bytes for the costs, 136 for the steps; number, whether an order is
+// found, the order, its sum, the number tried and the least figure.
+pub fn tour_agrees(record: &[u8]) -> bool {
+    let costs = size_at(record, 0);
+    let steps = size_at(record, 1);
+    if costs > 101 || steps > 136 {
+        return false;
+    }
+    let found = tour::plan_tour(
+        part(record, 4, 4 + costs),
+        part(record, 105, 105 + steps),
+        short_at(record, 2, 3) as u16,
+    );
+    let order = found.order;
+    found.number == byte_at(record, 241)
+        && found.found as u8 == byte_at(record, 242)
+        && same_order(order, part(record, 243, 251))
+        && found.sum == word_at(record, 251)
+        && found.tried == word_at(record, 255)
+        && found.least == word_at(record, 259)
 }
