@@ -16,7 +16,7 @@ module _ (t : tie.After-from-index2) where
   start = t .before .before .before .before
 
   from-inside : Inside (t .before .from-index .result)
-  from-inside = rw (t .before .from-index .ensures) (cell-inside _ (start .pre .0))
+  from-inside = rw (t .before .from-index .ensures) (cell-inside _ (omega (arith, start .pre .0, start .pre .1)))
 
   to-inside : Inside (t .from-index2 .result)
   to-inside = rw (t .from-index2 .ensures) (cell-inside _ (start .pre .1))
