@@ -20,7 +20,7 @@ use Rattle.fields.specs.declared.Stepped.the-variants.{Cell, Outside}
 use Rattle.fields.specs.Cell.{Inside, indexOf, stepped}
 use Rattle.fields.proofs.Steps.{stepped-cell, index-below}
 use Rattle.integration_field.specs.Listed.{Indexes}
-use Rattle.corner_positions.specs.Inner.{isPlaced, Placing, placing, Room, Grown, placedAt, placedTo, placedAround}
+use Rattle.corner_positions.specs.Inner.{isPlaced, Placing, placing, QueueRoom, Grown, placedAt, placedTo, placedAround}
 
 -- ---- one cell
 
@@ -57,14 +57,14 @@ behind-queue s x j l = getD-set-other (s .queue) (s .queued) j x 0 (λ q. absurd
 grown-behind : (s : Placing) (x : ℕ) → Grown s (placing (s .places) (set (s .queue) (s .queued) x) (s .queued))
 grown-behind s x = record { more = omega arith; queue-kept = λ j l. behind-queue s x j l; places-kept = λ z n. refl }
 
-pub queued-few : (s : Placing) → Room s → s .queued ≤ 100
+pub queued-few : (s : Placing) → QueueRoom s → s .queued ≤ 100
 queued-few s r = omega (arith, r .counted, r .full, count-length isPlaced (s .places))
 
 -- there is room for a cell that has no position
-pub has-room : (s : Placing) (x : ℕ) → Room s → x < 100 → getD (s .places) x 0 ≡ 255 → s .queued < 100
+pub has-room : (s : Placing) (x : ℕ) → QueueRoom s → x < 100 → getD (s .places) x 0 ≡ 255 → s .queued < 100
 has-room s x r l e = omega (arith, r .counted, r .full, count-room isPlaced (s .places) x (omega (arith, r .full)) (rw e))
 
-room-behind : (s : Placing) (x : ℕ) → x < 100 → Room s → Room (placing (s .places) (set (s .queue) (s .queued) x) (s .queued))
+room-behind : (s : Placing) (x : ℕ) → x < 100 → QueueRoom s → QueueRoom (placing (s .places) (set (s .queue) (s .queued) x) (s .queued))
 room-behind s x l r = record {
   full = r .full;
   counted = r .counted;
@@ -89,7 +89,7 @@ module _ (entered : List ℕ) (value p : ℕ) where
     placed-one : bit (isPlaced p) ≡ 1
     placed-one = rw (ne-eqb p 255 (λ e. absurd (omega arith)))
 
-    pub room-at : (x : ℕ) (s : Placing) {t : Placing} → x < 100 → Room s → Tried entered value p x s t → Room t
+    pub room-at : (x : ℕ) (s : Placing) {t : Placing} → x < 100 → QueueRoom s → Tried entered value p x s t → QueueRoom t
     room-at x s l r (held e n) = rw e (room-behind s x l r)
     room-at x s l r (apart e n) = rw e (room-behind s x l r)
     room-at x s l r (taken e v w) =
@@ -106,11 +106,11 @@ module _ (entered : List ℕ) (value p : ℕ) where
           };
         })
 
-    pub room-to : (c : FieldCell) (d : CompassDir) (t : Stepped) → stepped c d ≡ t → (s : Placing) → Room s → Room (placedTo entered value p t s)
+    pub room-to : (c : FieldCell) (d : CompassDir) (t : Stepped) → stepped c d ≡ t → (s : Placing) → QueueRoom s → QueueRoom (placedTo entered value p t s)
     room-to c d (Cell n) e s r = room-at (indexOf n) s (index-below n (stepped-cell c d n e .within)) r (tried entered value p (indexOf n) s)
     room-to c d Outside e s r = r
 
-    pub room-around : (c : FieldCell) (ds : List CompassDir) (s : Placing) → Room s → Room (placedAround entered value p c ds s)
+    pub room-around : (c : FieldCell) (ds : List CompassDir) (s : Placing) → QueueRoom s → QueueRoom (placedAround entered value p c ds s)
     unfolding placedAround
     room-around c [] s r = r
     room-around c (d ∷ ds) s r = room-around c ds _ (room-to c d (stepped c d) refl s r)

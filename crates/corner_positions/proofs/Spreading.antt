@@ -33,7 +33,7 @@ use Rattle.integration_field.specs.Walks.{MayEnter, Permitted}
 use Rattle.integration_field.specs.Promise.{Walked, LeastWalks, WalkFrom}
 use Rattle.integration_field.proofs.Least.{least-walks, last-entered}
 use Rattle.integration_field.proofs.Neighbours.{Neighbour, later, neighbour-beside, beside-neighbour}
-use Rattle.corner_positions.specs.Inner.{enteredFrom, Placing, placing, Room, Grown, placedAt, placedTo, placedAround, BuiltOn, Mine, Spread}
+use Rattle.corner_positions.specs.Inner.{enteredFrom, Placing, placing, QueueRoom, Grown, placedAt, placedTo, placedAround, BuiltOn, Mine, Spread}
 use Rattle.corner_positions.proofs.Room.{Tried, taken, held, apart, tried, grown-none, grown-then, grown-at, behind-queue, has-room, room-to}
 
 module _ (costs before corners built entered : List ℕ) (f : BuiltOn costs before corners built entered) where
@@ -119,7 +119,7 @@ module _ (costs before corners built entered : List ℕ) (f : BuiltOn costs befo
       closed = λ j z k. (let l : j < s .queued = omega (arith, d .behind) in rw (behind-queue s x j l) (d .closed j z k));
     }
 
-    pub spread-at : (x : ℕ) (s : Placing) {t : Placing} → x < 100 → Room s → (getD entered x 0 ≡ value → Mine costs before corners built entered x i)
+    pub spread-at : (x : ℕ) (s : Placing) {t : Placing} → x < 100 → QueueRoom s → (getD entered x 0 ≡ value → Mine costs before corners built entered x i)
         → Spreads s → Tried entered value i x s t → Spreads t
     spread-at x s h r m d (held e n) = rw e (spread-behind x s d)
     spread-at x s h r m d (apart e n) = rw e (spread-behind x s d)
@@ -170,7 +170,7 @@ module _ (costs before corners built entered : List ℕ) (f : BuiltOn costs befo
         })
 
     -- a cell that was tried holds the position or an earlier one, if a move into it keeps the built costs exact
-    pub tried-least : (x : ℕ) (s : Placing) {t : Placing} → x < 100 → Room s → Spreads s → Tried entered value i x s t → getD entered x 0 ≡ value
+    pub tried-least : (x : ℕ) (s : Placing) {t : Placing} → x < 100 → QueueRoom s → Spreads s → Tried entered value i x s t → getD entered x 0 ≡ value
         → getD (t .places) x 0 ≤ i
     tried-least x s h r d (held e n) v = rw e (d .no-later x h n)
     tried-least x s h r d (apart e n) v = absurd (n v)
@@ -187,7 +187,7 @@ module _ (costs before corners built entered : List ℕ) (f : BuiltOn costs befo
     abbrev Mines : FieldCell → List CompassDir → Type 0
     Mines c ds = (z : ℕ) → Neighbour c ds z → getD entered z 0 ≡ value → Mine costs before corners built entered z i
 
-    step-around : (c : FieldCell) (d : CompassDir) (t : Stepped) → stepped c d ≡ t → (s : Placing) → Room s → Mines c (d ∷ []) → Spreads s
+    step-around : (c : FieldCell) (d : CompassDir) (t : Stepped) → stepped c d ≡ t → (s : Placing) → QueueRoom s → Mines c (d ∷ []) → Spreads s
         → Around c (d ∷ []) s (placedTo entered value i t s)
     step-around c d (Cell n) e s r m q =
         let x = indexOf n in
@@ -226,7 +226,7 @@ module _ (costs before corners built entered : List ℕ) (f : BuiltOn costs befo
           index = b .index;
         }
 
-    pub around : (c : FieldCell) (ds : List CompassDir) (s : Placing) → Room s → Mines c ds → Spreads s → Around c ds s (placedAround entered value i c ds s)
+    pub around : (c : FieldCell) (ds : List CompassDir) (s : Placing) → QueueRoom s → Mines c ds → Spreads s → Around c ds s (placedAround entered value i c ds s)
     unfolding placedAround
     around c [] s r m q = record { around-spread = q; around-grown = grown-none s; around-least = λ z b v. absurd (List·Memᴰ·not-nil (b .listed)) }
     around c (d ∷ ds) s r m q =
@@ -247,7 +247,7 @@ module _ (costs before corners built entered : List ℕ) (f : BuiltOn costs befo
 
   -- ---- one cell of the queue gone around from
 
-  pub gone-more : (i gone : ℕ) (s : Placing) → i < 255 → Room s → gone < s .queued → Spread costs before corners built entered i gone s
+  pub gone-more : (i gone : ℕ) (s : Placing) → i < 255 → QueueRoom s → gone < s .queued → Spread costs before corners built entered i gone s
       → let y = getD (s .queue) gone 0 in
       Spread costs before corners built entered i (suc gone) (placedAround entered (Now y) i (cellAt y) orthogonal s)
   gone-more i gone s small r h d =

@@ -19,7 +19,7 @@ use Rattle.fields.specs.Neighbours.{BesideAt}
 use Rattle.waves.specs.Walks.{start}
 use Rattle.integration_field.specs.Word.{low}
 use Rattle.integration_field.specs.Listed.{Indexes, noPositions}
-use Rattle.corner_positions.specs.Inner.{isPlaced, enteredFrom, Placing, placing, Room, Grown, placedAt, BuiltOn, Mine, Spread, Sources, Gone, Decided}
+use Rattle.corner_positions.specs.Inner.{isPlaced, enteredFrom, Placing, placing, QueueRoom, Grown, placedAt, BuiltOn, Mine, Spread, Sources, Gone, Decided}
 use Rattle.corner_positions.proofs.Room.{Tried, taken, held, apart, tried, grown-at}
 use Rattle.corner_positions.proofs.Spreading.{least, lowered, entered-at, spread-at, tried-least}
 
@@ -37,7 +37,7 @@ module _ (costs before corners built entered : List ℕ) (f : BuiltOn costs befo
           let z : getD built x 0 - getD costs x 0 ≡ 65536 = rw (ne-eqb _ _ q) at e in
           absurd (omega (arith, w .now-is))
 
-  module _ (i : ℕ) (small : i < 255) (h : i < length corners) (s : Placing) (r : Room s) (d : Gone costs before corners built entered i s) where
+  module _ (i : ℕ) (small : i < 255) (h : i < length corners) (s : Placing) (r : QueueRoom s) (d : Gone costs before corners built entered i s) where
     abbrev corner : ℕ
     corner = getD corners i 0
 
@@ -82,7 +82,7 @@ module _ (costs before corners built entered : List ℕ) (f : BuiltOn costs befo
               omega (arith, one, g .places-kept (getD corners j 0) (λ a. absurd (omega arith)))
 
   -- after the last corner
-  pub decided : (s : Placing) → Room s → Gone costs before corners built entered (length corners) s → Decided costs before corners built entered (s .places)
+  pub decided : (s : Placing) → QueueRoom s → Gone costs before corners built entered (length corners) s → Decided costs before corners built entered (s .places)
   decided s r d = record {
     decided-full = r .full;
     decided-mine = d .spread .mine;
@@ -112,6 +112,6 @@ module _ (costs before corners built entered : List ℕ) (f : BuiltOn costs befo
     sources = λ j l e. absurd (omega arith);
   }
 
-pub room-none : (queue : List ℕ) → length queue ≡ 101 → Room (placing noPositions queue 0)
+pub room-none : (queue : List ℕ) → length queue ≡ 101 → QueueRoom (placing noPositions queue 0)
 unfolding count
 room-none queue e = record { full = refl; counted = refl; indexes = record { full = e; count-in = omega arith; cells-in = λ j l. absurd (omega arith) } }

@@ -46,7 +46,7 @@ abbrev pub placing : List ℕ → List ℕ → ℕ → Placing
 placing places queue queued = record { places = places; queue = queue; queued = queued }
 
 -- each cell that has a position is queued, so that there is room for one that has none
-pub record Room (s : Placing) : Type 0 where
+pub record QueueRoom (s : Placing) : Type 0 where
   pub full : length (s .places) ≡ 100
   pub counted : count isPlaced (s .places) ≡ s .queued
   pub indexes : Indexes 101 (s .queue) (s .queued)

@@ -13,7 +13,7 @@ ghost use Rattle.fields.specs.Cell.{cellAt, stepped};
 ghost use Rattle.integration_field.specs.Listed.{Indexes, noPositions};
 ghost use Rattle.integration_field.specs.Build.{build};
 ghost use Rattle.integration_field.specs.Position.{isUnplaced, positions};
-ghost use Rattle.corner_positions.specs.Inner.{enteredFrom, isTaken, placing, Room, Grown, placedAt, placedTo, placedAround, keptOf, Lowered, BuiltOn, Spread, Gone, Decided};
+ghost use Rattle.corner_positions.specs.Inner.{enteredFrom, isTaken, placing, QueueRoom, Grown, placedAt, placedTo, placedAround, keptOf, Lowered, BuiltOn, Spread, Gone, Decided};
 
 // The value that no cell holds.
 const LEFT_ALONE: u32 = 65536;
@@ -81,7 +81,7 @@ fn place_at(
     position: u8,
     index: usize,
 ) -> usize
-    requires { ⌜ (index < 100) × Room (placing (now positions) (now queue) queued) ⌝ }
+    requires { ⌜ (index < 100) × QueueRoom (placing (now positions) (now queue) queued) ⌝ }
     ensures { λ r. ⌜ placing (now (positions .exit)) (now (queue .exit)) r ≡ placedAt (now (entered .entry)) value position index (placing (now (positions .entry)) (now (queue .entry)) queued) ⌝ }
 {
     let old = positions[index];
@@ -104,7 +104,7 @@ fn place_towards(
     cell: usize,
     dir: CompassDir,
 ) -> usize
-    requires { ⌜ Room (placing (now positions) (now queue) queued) ⌝ }
+    requires { ⌜ QueueRoom (placing (now positions) (now queue) queued) ⌝ }
     ensures { λ r. ⌜ placing (now (positions .exit)) (now (queue .exit)) r ≡ placedTo (now (entered .entry)) value position (stepped (cellAt cell) dir) (placing (now (positions .entry)) (now (queue .entry)) queued) ⌝ }
 {
     let from = FieldCell::from_index(cell);
@@ -125,7 +125,7 @@ fn place_around(
     position: u8,
     cell: usize,
 ) -> usize
-    requires { ⌜ (position < 255) × Room (placing (now positions) (now queue) queued) ⌝ }
+    requires { ⌜ (position < 255) × QueueRoom (placing (now positions) (now queue) queued) ⌝ }
     ensures { λ r. ⌜ placing (now (positions .exit)) (now (queue .exit)) r ≡ placedAround (now (entered .entry)) value position (cellAt cell) orthogonal (placing (now (positions .entry)) (now (queue .entry)) queued) ⌝ }
 {
     let north = place_towards(
@@ -180,8 +180,8 @@ fn spread(
     queued: usize,
     position: u8,
 ) -> usize
-    requires { ⌜ (position < 255) × ((gone ≤ queued) × Room (placing (now positions) (now queue) queued)) ⌝ }
-    ensures { λ r. ⌜ (Room (placing (now (positions .exit)) (now (queue .exit)) r)) × (Grown (placing (now (positions .entry)) (now (queue .entry)) queued) (placing (now (positions .exit)) (now (queue .exit)) r)) × ((costs before corners : List ℕ) → BuiltOn costs before corners (now (built .entry)) (now (entered .entry)) → Spread costs before corners (now (built .entry)) (now (entered .entry)) position gone (placing (now (positions .entry)) (now (queue .entry)) queued) → Spread costs before corners (now (built .entry)) (now (entered .entry)) position r (placing (now (positions .exit)) (now (queue .exit)) r)) ⌝ }
+    requires { ⌜ (position < 255) × ((gone ≤ queued) × QueueRoom (placing (now positions) (now queue) queued)) ⌝ }
+    ensures { λ r. ⌜ (QueueRoom (placing (now (positions .exit)) (now (queue .exit)) r)) × (Grown (placing (now (positions .entry)) (now (queue .entry)) queued) (placing (now (positions .exit)) (now (queue .exit)) r)) × ((costs before corners : List ℕ) → BuiltOn costs before corners (now (built .entry)) (now (entered .entry)) → Spread costs before corners (now (built .entry)) (now (entered .entry)) position gone (placing (now (positions .entry)) (now (queue .entry)) queued) → Spread costs before corners (now (built .entry)) (now (entered .entry)) position r (placing (now (positions .exit)) (now (queue .exit)) r)) ⌝ }
 {
     let mut count = queued;
     let mut i = gone;
@@ -204,8 +204,8 @@ fn place_corner(
     position: u8,
     corner: usize,
 ) -> usize
-    requires { ⌜ (corner < 100) × ((position < 255) × Room (placing (now positions) (now queue) queued)) ⌝ }
-    ensures { λ r. ⌜ (Room (placing (now (positions .exit)) (now (queue .exit)) r)) × ((costs before corners : List ℕ) → BuiltOn costs before corners (now (built .entry)) (now (entered .entry)) → position < length corners → getD corners position 0 ≡ corner → Gone costs before corners (now (built .entry)) (now (entered .entry)) position (placing (now (positions .entry)) (now (queue .entry)) queued) → Gone costs before corners (now (built .entry)) (now (entered .entry)) (position + 1) (placing (now (positions .exit)) (now (queue .exit)) r)) ⌝ }
+    requires { ⌜ (corner < 100) × ((position < 255) × QueueRoom (placing (now positions) (now queue) queued)) ⌝ }
+    ensures { λ r. ⌜ (QueueRoom (placing (now (positions .exit)) (now (queue .exit)) r)) × ((costs before corners : List ℕ) → BuiltOn costs before corners (now (built .entry)) (now (entered .entry)) → position < length corners → getD corners position 0 ≡ corner → Gone costs before corners (now (built .entry)) (now (entered .entry)) position (placing (now (positions .entry)) (now (queue .entry)) queued) → Gone costs before corners (now (built .entry)) (now (entered .entry)) (position + 1) (placing (now (positions .exit)) (now (queue .exit)) r)) ⌝ }
 {
     let more = place_at(
         entered,

@@ -6,7 +6,7 @@ use borrow.Author.Needs.{needs}
 use Rattle.utilities.specs.declared.CompassDir.{CompassDir}
 use Rattle.utilities.specs.declared.CompassDir.the-variants.{North, East, South, West}
 use Rattle.fields.specs.Cell.{stepped, cellAt}
-use Rattle.corner_positions.specs.Inner.{Placing, placing, Room, placedTo, placedAround}
+use Rattle.corner_positions.specs.Inner.{Placing, placing, QueueRoom, placedTo, placedAround}
 use Rattle.corner_positions.proofs.Room.{room-to}
 use Rattle.corner_positions.proofs.place_around.Statement.{statement}
 use Rattle.corner_positions.proofs.place_around.Tie as tie
@@ -15,7 +15,7 @@ use Rattle.corner_positions.proofs.place_around.Tie as tie
 abbrev go : tie.Start → CompassDir → Placing → Placing
 go s d = placedTo (now (s .args .entered)) (s .args .value) (s .args .position) (stepped (cellAt (s .args .cell)) d)
 
-room : (s : tie.Start) (d : CompassDir) (p q : Placing) → q ≡ go s d p → Room p → Room q
+room : (s : tie.Start) (d : CompassDir) (p q : Placing) → q ≡ go s d p → QueueRoom p → QueueRoom q
 room s d p q e r =
     let c = cellAt (s .args .cell) in
     rw e (room-to (now (s .args .entered)) (s .args .value) (s .args .position) (s .pre .0) c d (stepped c d) refl p r)

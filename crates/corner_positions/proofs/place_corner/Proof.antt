@@ -6,7 +6,7 @@ use Prim.Native.Nat.{ℕ, _<_}
 use denote.Ref.{now}
 use borrow.Author.Needs.{needs}
 use lib.ListN.{length, getD}
-use Rattle.corner_positions.specs.Inner.{Placing, placing, Room, Grown, placedAt, BuiltOn, Spread, Gone}
+use Rattle.corner_positions.specs.Inner.{Placing, placing, QueueRoom, Grown, placedAt, BuiltOn, Spread, Gone}
 use Rattle.corner_positions.proofs.Room.{tried, room-at, grown-at}
 use Rattle.corner_positions.proofs.Starting.{corner-spread, gone-next}
 use Rattle.corner_positions.proofs.place_corner.Statement.{statement}
@@ -17,7 +17,7 @@ entry s = placing (now (s .args .positions)) (now (s .args .queue)) (s .args .qu
 
 -- what trying the corner leaves
 module _ (s : tie.Start) (t : Placing) (e : t ≡ placedAt (now (s .args .entered)) 65536 (s .args .position) (s .args .corner) (entry s)) where
-  room : Room t
+  room : QueueRoom t
   room = rw e (room-at _ _ _ (s .pre .1 .0) (s .args .corner) (entry s) (s .pre .0) (s .pre .1 .1) (tried _ _ _ _ (entry s)))
 
   grown : Grown (entry s) t

@@ -9,7 +9,7 @@ use denote.Ref.{now}
 use lib.ListN.{length, getD, take}
 use lib.Seq.{getD-take}
 use Rattle.integration_field.specs.Listed.{Indexes, noPositions}
-use Rattle.corner_positions.specs.Inner.{Placing, placing, Room, BuiltOn, Gone, Decided}
+use Rattle.corner_positions.specs.Inner.{Placing, placing, QueueRoom, BuiltOn, Gone, Decided}
 use Rattle.corner_positions.proofs.Starting.{room-none, gone-none, decided}
 use Rattle.corner_positions.proofs.Labels.{given-corners}
 use Rattle.corner_positions.proofs.place_corners.Statement.{statement}
@@ -17,7 +17,7 @@ use Rattle.corner_positions.proofs.place_corners.Tie as tie
 
 -- whichever costs and cells are meant
 pub record Holds (built entered corners : List ℕ) (i : ℕ) (s : Placing) : Type 0 where
-  pub room : Room s
+  pub room : QueueRoom s
   pub gone : (costs before : List ℕ) → BuiltOn costs before corners built entered → Gone costs before corners built entered i s
 
 -- the position is the turn's number

@@ -12,7 +12,7 @@ use lib.ListN.{getD}
 use Rattle.utilities.specs.Compass.{orthogonal}
 use Rattle.fields.specs.Cell.{cellAt}
 use Rattle.integration_field.specs.Word.{low}
-use Rattle.corner_positions.specs.Inner.{Placing, placing, Room, Grown, placedAround, BuiltOn, Spread}
+use Rattle.corner_positions.specs.Inner.{Placing, placing, QueueRoom, Grown, placedAround, BuiltOn, Spread}
 use Rattle.corner_positions.proofs.Room.{room-around, grown-none, grown-then, grown-around}
 use Rattle.corner_positions.proofs.Spreading.{gone-more}
 use Rattle.corner_positions.proofs.spread.Statement.{statement}
@@ -20,7 +20,7 @@ use Rattle.corner_positions.proofs.spread.Tie as tie
 
 -- whichever field is meant
 pub record Holds (built entered : List ℕ) (position gone : ℕ) (first : Placing) (i : ℕ) (s : Placing) : Type 0 where
-  pub room : Room s
+  pub room : QueueRoom s
   pub within : i ≤ s .queued
   pub grown : Grown first s
   pub spreads : (costs before corners : List ℕ) → BuiltOn costs before corners built entered → Spread costs before corners built entered position gone first
