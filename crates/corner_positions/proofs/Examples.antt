@@ -22,6 +22,11 @@ pub has-one : placedAt (2 ∷ 2 ∷ []) 2 4 0 (placing (1 ∷ 255 ∷ []) (1 ∷
 unfolding placedAt
 has-one = refl
 
+-- a neighbour of value 2 is the cheapest of a cell that is entered from 5, and hands on nothing: its walk would come to less
+pub not-from-the-cheapest : placedAt (2 ∷ 5 ∷ []) 2 4 1 (placing (1 ∷ 255 ∷ []) (0 ∷ 9 ∷ []) 1) ≡ placing (1 ∷ 255 ∷ []) (0 ∷ 1 ∷ []) 1
+unfolding placedAt
+not-from-the-cheapest = refl
+
 -- a wall, a cell in sight and one flagged GOAL keep none, another keeps its own
 pub wall-keeps-none : keptOf 0x200FFFF 7 ≡ 255
 wall-keeps-none = refl
