@@ -1,6 +1,6 @@
 // Compares our calls with recorded answers, a file for each section: prints how many records agree and a sum of all
 // their bytes, or the first record that differs. The answers are the published Rust's; a file that has another judge has
-// its name behind a dot: the Rust altered in one rule, the table of refusals, or the model.
+// its name behind a dot: the Rust altered in two rules, the table of refusals, or the model.
 mod files;
 mod floors;
 mod flow;
