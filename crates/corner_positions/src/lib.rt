@@ -29,13 +29,6 @@ fn narrow(index: usize) -> u8
     index as u8
 }
 
-// An index out of a byte.
-fn widen(index: u8) -> usize
-    ensures { λ r. ⌜ r ≡ index ⌝ }
-{
-    index as usize
-}
-
 // The value from which a move into a cell arrives at its built cost; `LEFT_ALONE` where building left the cell as it was.
 fn entered_at(cost: u8, before: u32, built: u32) -> u32
     requires { ⌜ ((built ≡ before → ⊥) → cost ≤ built) ⌝ }
@@ -122,52 +115,20 @@ fn place_around(
     queue: &mut [u8; 101],
     queued: usize,
     value: u32,
-    position: u8,
+    place: u8,
     cell: usize,
 ) -> usize
-    requires { ⌜ (position < 255) × QueueRoom (placing (now positions) (now queue) queued) ⌝ }
-    ensures { λ r. ⌜ placing (now (positions .exit)) (now (queue .exit)) r ≡ placedAround (now (entered .entry)) value position (cellAt cell) orthogonal (placing (now (positions .entry)) (now (queue .entry)) queued) ⌝ }
+    requires { ⌜ (place < 255) × QueueRoom (placing (now positions) (now queue) queued) ⌝ }
+    ensures { λ r. ⌜ placing (now (positions .exit)) (now (queue .exit)) r ≡ placedAround (now (entered .entry)) value place (cellAt cell) orthogonal (placing (now (positions .entry)) (now (queue .entry)) queued) ⌝ }
 {
-    let north = place_towards(
-        entered,
-        positions,
-        queue,
-        queued,
-        value,
-        position,
-        cell,
-        CompassDir::North,
-    );
-    let east = place_towards(
-        entered,
-        positions,
-        queue,
-        north,
-        value,
-        position,
-        cell,
-        CompassDir::East,
-    );
-    let south = place_towards(
-        entered,
-        positions,
-        queue,
-        east,
-        value,
-        position,
-        cell,
-        CompassDir::South,
-    );
-    place_towards(
-        entered,
-        positions,
-        queue,
-        south,
-        value,
-        position,
-        cell,
-        CompassDir::West,
-    )
+    let north = CompassDir::North;
+    let east = CompassDir::East;
+    let south = CompassDir::South;
+    let west = CompassDir::West;
+    let one = place_towards(entered, positions, queue, queued, value, place, cell, north);
+    let two = place_towards(entered, positions, queue, one, value, place, cell, east);
+    let three = place_towards(entered, positions, queue, two, value, place, cell, south);
+    place_towards(entered, positions, queue, three, value, place, cell, west)
 }
 
 // A position spreads from the queued cells that were not gone around from. Answers how many are queued then.
@@ -186,7 +147,7 @@ fn spread(
     let mut count = queued;
     let mut i = gone;
     while i < count {
-        let cell = widen(queue[i]);
+        let cell = fields::index_of(queue[i]);
         let value = integration_bits::low_bits(built[cell]);
         count = place_around(entered, positions, queue, count, value, position, cell);
         i += 1;

@@ -102,3 +102,10 @@ impl FieldCell {
         Stepped::Outside
     }
 }
+
+// A cell's index that is kept in a byte, as a number of an index's width.
+pub fn index_of(entry: u8) -> usize
+    ensures { λ r. ⌜ r ≡ entry ⌝ }
+{
+    entry as usize
+}

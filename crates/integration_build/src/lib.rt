@@ -23,13 +23,6 @@ fn wide(cost: u8) -> u32
     cost as u32
 }
 
-// A wavefront's entry, which is the index of a cell, as a number of an index's width.
-fn index_of(entry: u8) -> usize
-    ensures { λ r. ⌜ r ≡ entry ⌝ }
-{
-    entry as usize
-}
-
 // Whether a sum offered to a cell is written there: neither wall nor in sight, and strictly smaller.
 fn is_written(old: u32, sum: u32) -> bool
     ensures { λ r. ⌜ r ≡ isWritten old sum ⌝ }
@@ -93,7 +86,7 @@ fn offer_wave(
 {
     let mut i = 0;
     while i < count {
-        let cell = index_of(wave[i]);
+        let cell = fields::index_of(wave[i]);
         let value = integration_bits::low_bits(before[cell]);
         offer_around(cells, costs, value, cell);
         i += 1;

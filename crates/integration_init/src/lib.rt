@@ -39,13 +39,6 @@ struct Counts {
     queued: usize,
 }
 
-// A wave's entry, which is the index of a cell, as a number of an index's width.
-fn index_of(entry: u8) -> usize
-    ensures { λ r. ⌜ r ≡ entry ⌝ }
-{
-    entry as usize
-}
-
 // Whether the cell at an index is a wall.
 fn is_wall_at(cells: &[u32; 100], n: usize) -> bool
     requires { ⌜ n < 100 ⌝ }
@@ -362,7 +355,7 @@ fn look_wave(
     };
     let mut i = 0;
     while i < size {
-        let from = index_of(wavefront[i]);
+        let from = fields::index_of(wavefront[i]);
         counts = look_around(
             cells,
             corners,

@@ -13,12 +13,12 @@ use Rattle.corner_positions.proofs.place_around.Tie as tie
 
 -- one direction, from the call's arguments
 abbrev go : tie.Start → CompassDir → Placing → Placing
-go s d = placedTo (now (s .args .entered)) (s .args .value) (s .args .position) (stepped (cellAt (s .args .cell)) d)
+go s d = placedTo (now (s .args .entered)) (s .args .value) (s .args .place) (stepped (cellAt (s .args .cell)) d)
 
 room : (s : tie.Start) (d : CompassDir) (p q : Placing) → q ≡ go s d p → QueueRoom p → QueueRoom q
 room s d p q e r =
     let c = cellAt (s .args .cell) in
-    rw e (room-to (now (s .args .entered)) (s .args .value) (s .args .position) (s .pre .0) c d (stepped c d) refl p r)
+    rw e (room-to (now (s .args .entered)) (s .args .value) (s .args .place) (s .pre .0) c d (stepped c d) refl p r)
 
 -- the places after each call, and the room there
 abbrev start-1 : tie.After-place-towards → tie.Start

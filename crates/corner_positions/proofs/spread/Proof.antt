@@ -36,14 +36,14 @@ abbrev μ-loop : tie.MeasureT-loop
 loop-holds : tie.Need-loop-holds Inv-loop μ-loop
 loop-holds c = record { room = c .pre .1 .1; within = c .pre .1 .0; grown = grown-none _; spreads = λ costs before corners f d. d }
 
-element-copy-out-widen : tie.Need-element-copy-out-widen Inv-loop μ-loop
-element-copy-out-widen c = omega (arith, c .before .loop .inv .room .indexes .count-in)
+element-copy-out-index-of : tie.Need-element-copy-out-index-of Inv-loop μ-loop
+element-copy-out-index-of c = omega (arith, c .before .loop .inv .room .indexes .count-in)
 
 -- the queued cell of a turn is one of the sector
-queued-in : (c : tie.After-widen Inv-loop μ-loop) → c .widen .result < 100
+queued-in : (c : tie.After-index-of Inv-loop μ-loop) → c .index-of .result < 100
 queued-in c =
     let l = c .before .before .before .loop in
-    rw (c .widen .ensures) (l .inv .room .indexes .cells-in (l .i) (omega arith))
+    rw (c .index-of .ensures) (l .inv .room .indexes .cells-in (l .i) (omega arith))
 
 mul-low-bits : tie.Need-mul-low-bits Inv-loop μ-loop
 mul-low-bits c = omega (arith, queued-in c)
@@ -73,9 +73,9 @@ loop-again c =
     let y : ℕ = getD (l .queue) (l .i) 0 in
     let here : l .i < l .count = omega arith in
     let value : valued .low-bits .result ≡ low (getD (now (a .built)) y 0) =
-    valued .low-bits .ensures ∙ ap (λ (k : ℕ). low (getD (now (a .built)) k 0)) (named .widen .ensures) in
+    valued .low-bits .ensures ∙ ap (λ (k : ℕ). low (getD (now (a .built)) k 0)) (named .index-of .ensures) in
     let new = c .place-around .ensures
-    ∙ ap₂ (λ (v k : ℕ). placedAround (now (a .entered)) v (a .position) (cellAt k) orthogonal old) value (named .widen .ensures) in
+    ∙ ap₂ (λ (v k : ℕ). placedAround (now (a .entered)) v (a .position) (cellAt k) orthogonal old) value (named .index-of .ensures) in
     rw (new, add-one (l .i)) (record {
       room = room-around (now (a .entered)) _ (a .position) (turn .before .pre .0) (cellAt y) orthogonal old (l .inv .room);
       within = omega (arith, grown-around (now (a .entered)) (low (getD (now (a .built)) y 0)) (a .position) (cellAt y) orthogonal old .more);
@@ -97,7 +97,7 @@ spread-spec =
     Inv-loop
     μ-loop
     loop-holds
-    element-copy-out-widen
+    element-copy-out-index-of
     (λ c κs. search needs)
     mul-low-bits
     element-copy-out-low-bits

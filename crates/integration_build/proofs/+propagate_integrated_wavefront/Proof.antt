@@ -50,7 +50,8 @@ module _ (t : ℕ) where
 
   offer-wave-requires : lts.Need-offer-wave-requires (calls t) (at t) go.Post
   offer-wave-requires c κs =
-      let p = c .before .before .before .before .before .before .pre .1 in
+      let some = c .before .before in
+      let p = some .before .before .before .before .pre .1 in
       (p .0, p .1 .1)
 
   changed-requires : lts.Need-changed-requires (calls t) (at t) go.Post
@@ -66,7 +67,7 @@ module _ (t : ℕ) where
       settles-still _ _ _ _ _ _ (m .offer-wave .ensures) (found .changed .ensures) _ (c .if3 .taken)
 
   sub-fuel : lts.Need-sub-propagate-integrated-wavefront (calls t) (at t) go.Post
-  sub-fuel c = some-fuel (c .before .before .before .before .before .before .before)
+  sub-fuel c = let found = c .before .before .before in some-fuel (found .before .before .before .before)
 
   go-requires : lts.Need-propagate-integrated-wavefront-requires (calls t) (at t) go.Post
   go-requires c κs =
@@ -78,7 +79,8 @@ module _ (t : ℕ) where
 
   add-waves : lts.Need-add-result (calls t) (at t) go.Post
   add-waves c =
-      let m = c .before .before .before .before .before .before .before .before in
+      let found = c .before .before .before .before in
+      let m = found .before .before .before .before in
       omega (arith, c .propagate-integrated-wavefront .ensures .within, start m .fits .fuel, some-fuel m)
 
   returns-4 : lts.Need-returns-4 (calls t) (at t) go.Post
