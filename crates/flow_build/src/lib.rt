@@ -1,160 +1,241 @@
-// The flow field of an integration field: each cell looks around, and its byte gets the direction of the best neighbour.
+// The flow field of an integration field: all cells look around together, one direction a pass, and each byte gets the direction of the best
+// neighbour.
 use fields::FieldCell;
 use fields::Stepped;
 use flow_bits::BITS_DEFAULT;
 use flow_bits::BITS_IMPASSABLE;
 use flow_bits::BITS_PATHABLE;
-use flow_byte::Look;
 use integration_field::IntegrationField;
 use utilities::CompassDir;
 ghost use mathlib.Core.Path.{_≡_};
-ghost use mathlib.Core.List.{[], _∷_};
-ghost use Prim.Native.Nat.{_<_};
+ghost use mathlib.Core.Bool.{true};
+ghost use Prim.Native.Nat.{_+_, _*_, _<_};
 ghost use lib.ListN.{length};
 ghost use Rattle.fields.specs.Cell.{Inside, indexOf};
-ghost use Rattle.flow_byte.specs.Look.{seen, lookAt, lookAlong, lookAround, pointed, lookedByte, builtByte, flowBuild};
+ghost use Rattle.flow_byte.specs.Look.{lookAround, flowBuild};
 ghost use Rattle.arrows.specs.Promise.{BuildArrows};
 ghost use Rattle.flow_build.specs.Flow.{buildNumber, buildSheet};
+ghost use Rattle.flow_build.specs.Inner.{LooksHeld, LooksOn, cellKey, cellKeys, seenKey, isNoted, keyAfter, bitsAfter, isKept, NoneLooks, heldByte, byteAfter, heldBytes, nothingFound};
 
-// What a look makes of a neighbour, with the best direction so far and its cost.
-fn see(
-    cells: &[u32; 100],
-    from: FieldCell,
-    dir: CompassDir,
-    to: FieldCell,
-    best: CompassDir,
-    value: u32,
-) -> Look
-    requires { ⌜ Inside from × Inside to ⌝ }
-    ensures { λ r. ⌜ r ≡ seen (now (cells .entry)) (indexOf from) dir (indexOf to) best value ⌝ }
+// The key of a goal or a portal, and of a look that has taken one.
+const KEY_TAKEN: u32 = 0;
+
+// The key of a cell that no cost has reached, and of a look that has ended at one.
+const KEY_ENDED: u32 = 1;
+
+// The key of a wall, and of a look that has found nothing: above every other.
+const KEY_NOTHING: u32 = 65537;
+
+// What a look goes by at a cell, as one number, the key: the lower, the better. Two more than the cost, save where the look takes the cell, ends
+// at it or passes over it.
+fn key_of(cost: u32) -> u32
+    ensures { λ r. ⌜ r ≡ cellKey cost ⌝ }
 {
-    let cost = cells[to.row * 10 + to.column];
     if integration_bits::is_impassable(cost) {
-        return Look::Looking(best, value);
-    }
-    let in_row = cells[from.row * 10 + to.column];
-    let in_column = cells[to.row * 10 + from.column];
-    if integration_bits::passes_wall(from, to, in_row, in_column) {
-        return Look::Looking(best, value);
+        return KEY_NOTHING;
     }
     if integration_bits::is_goal(cost) {
-        return Look::Taken(dir);
+        return KEY_TAKEN;
     }
     if integration_bits::is_portal(cost) {
-        return Look::Taken(dir);
+        return KEY_TAKEN;
     }
     let low = integration_bits::low_bits(cost);
     if low == 65535 {
-        return Look::Ended(best);
+        return KEY_ENDED;
     }
-    if low < value {
-        return Look::Looking(dir, low);
-    }
-    Look::Looking(best, value)
+    low + 2
 }
 
-// A look that has not ended goes on in a direction; there is nothing to see outside the sector.
-fn look_on(cells: &[u32; 100], index: usize, dir: CompassDir, best: CompassDir, value: u32) -> Look
-    requires { ⌜ index < 100 ⌝ }
-    ensures { λ r. ⌜ r ≡ lookAt (now (cells .entry)) index (Look.Looking best value) dir ⌝ }
+// The keys of all cells.
+fn keys_of(cells: &[u32; 100]) -> [u32; 100]
+    ensures { λ r. ⌜ r ≡ cellKeys (now (cells .entry)) ⌝ }
 {
-    let cell = FieldCell::from_index(index);
-    let Stepped::Cell(next) = cell.get_in_compass_direction(dir) else {
-        return Look::Looking(best, value);
-    };
-    see(cells, cell, dir, next, best, value)
+    let mut keys: [u32; 100] = [0; 100];
+    let mut i = 0;
+    while i < 100 {
+        keys[i] = key_of(cells[i]);
+        i += 1;
+    }
+    keys
 }
 
-// A look that has ended stays so.
-fn look_at(cells: &[u32; 100], index: usize, look: Look, dir: CompassDir) -> Look
-    requires { ⌜ index < 100 ⌝ }
-    ensures { λ r. ⌜ r ≡ lookAt (now (cells .entry)) index look dir ⌝ }
+// The key of a neighbour as a cell sees it: nothing, where the move is diagonal and passes a wall.
+fn seen_key(cells: &[u32; 100], keys: &[u32; 100], from: FieldCell, to: FieldCell) -> u32
+    requires { ⌜ (Inside from × Inside to) × (now keys ≡ cellKeys (now cells)) ⌝ }
+    ensures { λ r. ⌜ r ≡ seenKey (now (cells .entry)) (indexOf from) (indexOf to) ⌝ }
 {
-    match look {
-        Look::Looking(best, value) => look_on(cells, index, dir, best, value),
-        Look::Taken(taken) => Look::Taken(taken),
-        Look::Ended(best) => Look::Ended(best),
+    let key = keys[to.row * 10 + to.column];
+    let in_row = cells[from.row * 10 + to.column];
+    let in_column = cells[to.row * 10 + from.column];
+    if integration_bits::passes_wall(from, to, in_row, in_column) {
+        return KEY_NOTHING;
+    }
+    key
+}
+
+// Whether a look goes by what it sees: it has not ended, and what it sees is better than all before. One that has taken a goal or a portal has
+// the least key, and nothing is better.
+fn is_noted(seen: u32, key: u32) -> bool
+    ensures { λ r. ⌜ r ≡ isNoted seen key ⌝ }
+{
+    (key != KEY_ENDED) & (seen < key)
+}
+
+// The key of a look after what it has seen.
+fn key_after(seen: u32, key: u32) -> u32
+    ensures { λ r. ⌜ r ≡ keyAfter seen key ⌝ }
+{
+    if is_noted(seen, key) { seen } else { key }
+}
+
+// The bits of its direction: a cell that ends the look leaves it the best so far.
+fn bits_after(seen: u32, key: u32, dir: u8, bits: u8) -> u8
+    ensures { λ r. ⌜ r ≡ bitsAfter seen key dir bits ⌝ }
+{
+    if is_noted(seen, key) & (seen != KEY_ENDED) {
+        dir
+    } else {
+        bits
     }
 }
 
-// A look goes on in four directions, one after the other.
-fn look_along(
+// The look of one cell goes on in a direction; there is nothing to see outside the sector.
+fn look_from(
     cells: &[u32; 100],
-    index: usize,
-    look: Look,
-    first: CompassDir,
-    second: CompassDir,
-    third: CompassDir,
-    fourth: CompassDir,
-) -> Look
-    requires { ⌜ index < 100 ⌝ }
-    ensures { λ r. ⌜ r ≡ lookAlong (now (cells .entry)) index (first ∷ second ∷ third ∷ fourth ∷ []) look ⌝ }
+    keys: &[u32; 100],
+    from: FieldCell,
+    dir: CompassDir,
+    best: &mut [u32; 100],
+    bits: &mut [u8; 100],
+)
+    requires { ⌜ Inside from × (now keys ≡ cellKeys (now cells)) ⌝ }
+    ensures { λ _. ⌜ LooksOn (now (cells .entry)) dir (indexOf from) (indexOf from + 1) (now (best .entry)) (now (bits .entry)) (now (best .exit)) (now (bits .exit)) ⌝ }
 {
-    let one = look_at(cells, index, look, first);
-    let two = look_at(cells, index, one, second);
-    let three = look_at(cells, index, two, third);
-    look_at(cells, index, three, fourth)
+    let Stepped::Cell(to) = from.get_in_compass_direction(dir) else {
+        return;
+    };
+    let seen = seen_key(cells, keys, from, to);
+    let pointed = flow_bits::convert_compass_dir_to_bits_dir(dir);
+    let index = from.row * 10 + from.column;
+    let key = best[index];
+    let found = bits[index];
+    // both are written in either case: no branch depends on a cell
+    best[index] = key_after(seen, key);
+    bits[index] = bits_after(seen, key, pointed, found);
 }
 
-// A cell looks at its sides, then at its corners.
-fn look_around(cells: &[u32; 100], index: usize) -> Look
-    requires { ⌜ index < 100 ⌝ }
-    ensures { λ r. ⌜ r ≡ lookAround (now (cells .entry)) index ⌝ }
+// The looks of a row's cells go on in a direction.
+fn look_from_row(
+    cells: &[u32; 100],
+    keys: &[u32; 100],
+    row: usize,
+    dir: CompassDir,
+    best: &mut [u32; 100],
+    bits: &mut [u8; 100],
+)
+    requires { ⌜ (row < 10) × (now keys ≡ cellKeys (now cells)) ⌝ }
+    ensures { λ _. ⌜ LooksOn (now (cells .entry)) dir (row * 10) (row * 10 + 10) (now (best .entry)) (now (bits .entry)) (now (best .exit)) (now (bits .exit)) ⌝ }
 {
-    let sides = look_along(
-        cells,
-        index,
-        Look::Looking(CompassDir::Zero, 65535),
-        CompassDir::North,
-        CompassDir::East,
-        CompassDir::South,
-        CompassDir::West,
-    );
-    look_along(
-        cells,
-        index,
-        sides,
-        CompassDir::NorthEast,
-        CompassDir::SouthEast,
-        CompassDir::SouthWest,
-        CompassDir::NorthWest,
-    )
-}
-
-// The byte with a direction or-ed on; impassable where there is none.
-fn point(byte: u8, dir: CompassDir) -> u8
-    ensures { λ r. ⌜ r ≡ pointed byte dir ⌝ }
-{
-    let bits = flow_bits::convert_compass_dir_to_bits_dir(dir);
-    if bits == BITS_DEFAULT {
-        return byte | BITS_IMPASSABLE;
+    let mut column = 0;
+    while column < 10 {
+        look_from(cells, keys, FieldCell { column, row }, dir, best, bits);
+        column += 1;
     }
-    byte | (BITS_PATHABLE + bits)
 }
 
-// The byte of a cell that has looked.
-fn looked_byte(byte: u8, look: Look) -> u8
-    ensures { λ r. ⌜ r ≡ lookedByte byte look ⌝ }
+// One pass: the looks of all cells go on in a direction.
+fn look_in_direction(
+    cells: &[u32; 100],
+    keys: &[u32; 100],
+    dir: CompassDir,
+    best: &mut [u32; 100],
+    bits: &mut [u8; 100],
+)
+    requires { ⌜ now keys ≡ cellKeys (now cells) ⌝ }
+    ensures { λ _. ⌜ LooksOn (now (cells .entry)) dir 0 100 (now (best .entry)) (now (bits .entry)) (now (best .exit)) (now (bits .exit)) ⌝ }
 {
-    match look {
-        Look::Looking(best, _) => point(byte, best),
-        Look::Taken(dir) => point(byte, dir),
-        Look::Ended(best) => point(byte | BITS_IMPASSABLE, best),
+    let mut row = 0;
+    while row < 10 {
+        look_from_row(cells, keys, row, dir, best, bits);
+        row += 1;
     }
+}
+
+// All cells look at their sides, then at their corners.
+fn look_around(cells: &[u32; 100], best: &mut [u32; 100], bits: &mut [u8; 100])
+    ensures { λ _. ⌜ (LooksHeld nothingFound (now (best .entry)) (now (bits .entry)) → LooksHeld (lookAround (now (cells .entry))) (now (best .exit)) (now (bits .exit))) ⌝ }
+{
+    let keys = keys_of(cells);
+    look_in_direction(cells, &keys, CompassDir::North, best, bits);
+    look_in_direction(cells, &keys, CompassDir::East, best, bits);
+    look_in_direction(cells, &keys, CompassDir::South, best, bits);
+    look_in_direction(cells, &keys, CompassDir::West, best, bits);
+    look_in_direction(cells, &keys, CompassDir::NorthEast, best, bits);
+    look_in_direction(cells, &keys, CompassDir::SouthEast, best, bits);
+    look_in_direction(cells, &keys, CompassDir::SouthWest, best, bits);
+    look_in_direction(cells, &keys, CompassDir::NorthWest, best, bits);
+}
+
+// Whether a cell keeps its byte: it can be walked already, or is impassable.
+fn is_kept(byte: u8) -> bool
+    ensures { λ r. ⌜ r ≡ isKept byte ⌝ }
+{
+    flow_bits::is_pathable(byte) | flow_bits::is_impassable(byte)
+}
+
+// Whether no cell looks.
+fn none_looks(sheet: &[u8]) -> bool
+    requires { ⌜ length (now sheet) ≡ 100 ⌝ }
+    ensures { λ r. ⌜ (r ≡ true → NoneLooks (now (sheet .entry))) ⌝ }
+{
+    let mut i = 0;
+    while i < 100 {
+        if !is_kept(sheet[i]) {
+            return false;
+        }
+        i += 1;
+    }
+    true
+}
+
+// The byte of a cell that has looked: the direction or-ed on; impassable where there is none, and where the look has ended.
+fn looked_byte(byte: u8, key: u32, bits: u8) -> u8
+    ensures { λ r. ⌜ r ≡ heldByte byte key bits ⌝ }
+{
+    let start = if key == KEY_ENDED {
+        byte | BITS_IMPASSABLE
+    } else {
+        byte
+    };
+    let pointed = if bits == BITS_DEFAULT {
+        BITS_IMPASSABLE
+    } else {
+        BITS_PATHABLE | bits
+    };
+    start | pointed
 }
 
 // A cell's byte, from the byte that it had.
-fn calculate_flow_cell(cells: &[u32; 100], index: usize, byte: u8) -> u8
-    requires { ⌜ index < 100 ⌝ }
-    ensures { λ r. ⌜ r ≡ builtByte (now (cells .entry)) index byte ⌝ }
+fn calculate_flow_cell(byte: u8, key: u32, bits: u8) -> u8
+    ensures { λ r. ⌜ r ≡ byteAfter byte key bits ⌝ }
 {
-    if flow_bits::is_pathable(byte) {
+    if is_kept(byte) {
         return byte;
     }
-    if flow_bits::is_impassable(byte) {
-        return byte;
+    looked_byte(byte, key, bits)
+}
+
+// The bytes of all cells, by what their looks have come to.
+fn point_cells(best: &[u32; 100], bits: &[u8; 100], sheet: &mut [u8])
+    requires { ⌜ length (now sheet) ≡ 100 ⌝ }
+    ensures { λ _. ⌜ now (sheet .exit) ≡ heldBytes (now (best .entry)) (now (bits .entry)) (now (sheet .entry)) ⌝ }
+{
+    let mut i = 0;
+    while i < 100 {
+        sheet[i] = calculate_flow_cell(sheet[i], best[i], bits[i]);
+        i += 1;
     }
-    looked_byte(byte, look_around(cells, index))
 }
 
 // The bytes of all cells.
@@ -162,11 +243,13 @@ fn calculate_flow_cells(cells: &[u32; 100], sheet: &mut [u8])
     requires { ⌜ length (now sheet) ≡ 100 ⌝ }
     ensures { λ _. ⌜ now (sheet .exit) ≡ flowBuild (now (cells .entry)) (now (sheet .entry)) ⌝ }
 {
-    let mut i = 0;
-    while i < 100 {
-        sheet[i] = calculate_flow_cell(cells, i, sheet[i]);
-        i += 1;
+    if none_looks(sheet) {
+        return;
     }
+    let mut best: [u32; 100] = [KEY_NOTHING; 100];
+    let mut bits: [u8; 100] = [BITS_DEFAULT; 100];
+    look_around(cells, &mut best, &mut bits);
+    point_cells(&best, &bits, sheet);
 }
 
 // The flow field of an integration field, by hand: from the sheet's bytes, whatever they are.

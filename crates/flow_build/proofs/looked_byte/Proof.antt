@@ -1,46 +1,26 @@
--- `flow_build::looked_byte` meets its contract: by what the look came to.
+-- `flow_build::looked_byte` meets its contract: by whether the look has ended, and whether it has a direction.
 -- Assumes nothing.
-use borrow.Author.Needs.{needs}
+use mathlib.Core.Logic.{⊎-elim}
+use borrow.Author.Tests.{eq-eqb, ne-eqb}
+use Rattle.flow_build.specs.Inner.{heldByte}
 use Rattle.flow_build.proofs.looked_byte.Statement.{statement}
 use Rattle.flow_build.proofs.looked_byte.Tie as tie
 
-enum-known-look : tie.Need-enum-known-look
-enum-known-look c = search needs
-
-point-requires : tie.Need-point-requires
-point-requires c κs = search needs
-
-enum-known-look-2 : tie.Need-enum-known-look-2
-enum-known-look-2 c = search needs
-
-point-requires-2 : tie.Need-point-requires-2
-point-requires-2 c κs = search needs
-
-enum-known-look-3 : tie.Need-enum-known-look-3
-enum-known-look-3 c = search needs
-
-point-requires-3 : tie.Need-point-requires-3
-point-requires-3 c κs = search needs
-
 returns : tie.Need-returns
-returns c = rw (c .before .before .look .given .1) (c .point .ensures)
-
-returns-2 : tie.Need-returns-2
-returns-2 c = rw (c .before .before .look2 .given .1) (c .point2 .ensures)
-
-returns-3 : tie.Need-returns-3
-returns-3 c = rw (c .before .before .look3 .given .1) (c .point3 .ensures)
+unfolding heldByte
+returns c =
+    let on = c .before .before in
+    let a = on .before .before .args in
+    ⊎-elim
+    (λ u. ⊎-elim
+    (λ w. rw (u .1, w .1, eq-eqb (a .key) 1 (u .0 .taken), eq-eqb (a .bits) 0 (w .0 .taken)))
+    (λ w. rw (u .1, w .1, eq-eqb (a .key) 1 (u .0 .taken), ne-eqb (a .bits) 0 (w .0 .left)))
+    (on .if2 .came))
+    (λ u. ⊎-elim
+    (λ w. rw (u .1, w .1, ne-eqb (a .key) 1 (u .0 .left), eq-eqb (a .bits) 0 (w .0 .taken)))
+    (λ w. rw (u .1, w .1, ne-eqb (a .key) 1 (u .0 .left), ne-eqb (a .bits) 0 (w .0 .left)))
+    (on .if2 .came))
+    (on .before .if1 .came)
 
 pub looked-byte-spec : {M : Type 1} → statement M
-looked-byte-spec =
-    tie.close
-    (tie.spec
-    enum-known-look
-    point-requires
-    enum-known-look-2
-    point-requires-2
-    enum-known-look-3
-    point-requires-3
-    returns
-    returns-2
-    returns-3)
+looked-byte-spec = tie.close (tie.spec returns)

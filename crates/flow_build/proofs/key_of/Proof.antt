@@ -1,0 +1,81 @@
+-- `flow_build::key_of` meets its contract: each test in the order of the definition.
+-- Assumes nothing.
+use mathlib.Core.Path.{_≡_, sym, _∙_}
+use mathlib.Core.Bool.{false}
+use borrow.Author.Tests.{eq-eqb, ne-eqb}
+use Rattle.integration_field.specs.Word.{isGoal, isPortal, isImpassable}
+use Rattle.flow_build.specs.Inner.{cellKey}
+use borrow.Author.Needs.{needs}
+use Rattle.flow_build.proofs.key_of.Statement.{statement}
+use Rattle.flow_build.proofs.key_of.Tie as tie
+
+-- what each test has left
+no-wall : (c : tie.Else1) → isImpassable (c .before .before .args .cost) ≡ false
+no-wall c = sym (c .before .is-impassable .ensures) ∙ c .if1 .left
+
+no-goal : (c : tie.Else2) → isGoal (c .before .before .before .before .args .cost) ≡ false
+no-goal c = sym (c .before .is-goal .ensures) ∙ c .if2 .left
+
+no-portal : (c : tie.Else3) → isPortal (c .before .before .before .before .before .before .args .cost) ≡ false
+no-portal c = sym (c .before .is-portal .ensures) ∙ c .if3 .left
+
+is-impassable-requires : tie.Need-is-impassable-requires
+is-impassable-requires c κs = search needs
+
+returns : tie.Need-returns
+unfolding cellKey
+returns c = rw (sym (c .before .is-impassable .ensures) ∙ c .if1 .taken)
+
+is-goal-requires : tie.Need-is-goal-requires
+is-goal-requires c κs = search needs
+
+returns-2 : tie.Need-returns-2
+unfolding cellKey
+returns-2 c = rw (no-wall (c .before .before), sym (c .before .is-goal .ensures) ∙ c .if2 .taken)
+
+is-portal-requires : tie.Need-is-portal-requires
+is-portal-requires c κs = search needs
+
+returns-3 : tie.Need-returns-3
+unfolding cellKey
+returns-3 c = rw (no-wall (c .before .before .before .before), no-goal (c .before .before), sym (c .before .is-portal .ensures) ∙ c .if3 .taken)
+
+low-bits-requires : tie.Need-low-bits-requires
+low-bits-requires c κs = search needs
+
+returns-4 : tie.Need-returns-4
+unfolding cellKey
+returns-4 c =
+    let m = c .before .before in
+    rw (no-wall (m .before .before .before .before), no-goal (m .before .before), no-portal m, eq-eqb _ 65535 (sym (c .before .low-bits .ensures) ∙ c .if4 .taken))
+
+add-result : tie.Need-add-result
+add-result c = search needs
+
+returns-5 : tie.Need-returns-5
+unfolding cellKey
+returns-5 c =
+    let m = c .before .before in
+    let e = c .before .low-bits .ensures in
+    rw (
+      no-wall (m .before .before .before .before),
+      no-goal (m .before .before),
+      no-portal m,
+      ← e,
+      ne-eqb (c .before .low-bits .result) 65535 (c .if4 .left),
+    )
+
+pub key-of-spec : {M : Type 1} → statement M
+key-of-spec =
+    tie.close
+    (tie.spec
+    is-impassable-requires
+    returns
+    is-goal-requires
+    returns-2
+    is-portal-requires
+    returns-3
+    low-bits-requires
+    returns-4
+    add-result
+    returns-5)

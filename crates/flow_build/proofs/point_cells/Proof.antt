@@ -1,0 +1,95 @@
+-- `flow_build::point_cells` meets its contract: the bytes passed are by the looks, and those ahead are the old ones.
+-- Assumes nothing.
+use mathlib.Core.Path.{_≡_, ap, _∙_}
+use mathlib.Core.List.{List}
+use Prim.Native.Nat.{ℕ, _≤_, _-_}
+use native.Mathlib.Omega.{arith}
+use borrow.Author.Needs.{needs}
+use denote.Ref.{now}
+use lib.ListN.{getD}
+use Rattle.flow_byte.proofs.Sheets.{Filled, fill-none, fill-more, fill-all, still-old}
+use Rattle.flow_build.specs.Inner.{byteAfter}
+use Rattle.flow_build.proofs.point_cells.Statement.{statement}
+use Rattle.flow_build.proofs.point_cells.Tie as tie
+
+-- the byte of cell k, by the two arrays and the old bytes
+abbrev rule : List ℕ → List ℕ → List ℕ → ℕ → ℕ
+rule best bits old k = byteAfter (getD old k 0) (getD best k 0) (getD bits k 0)
+
+abbrev Inv-loop : tie.InvT-loop
+Inv-loop best bits sheet₀ i₀ sheet i = (i ≤ 100) × Filled (rule best bits sheet₀) sheet₀ i sheet
+
+abbrev μ-loop : tie.MeasureT-loop
+μ-loop best bits sheet₀ i₀ sheet i = 100 - i
+
+loop-holds : tie.Need-loop-holds Inv-loop μ-loop
+loop-holds c =
+    let a = c .before .args in
+    (search needs, fill-none (rule (now (a .best)) (now (a .bits)) (now (a .sheet))) (now (a .sheet)))
+
+slice-read-calculate-flow-cell : tie.Need-slice-read-calculate-flow-cell Inv-loop μ-loop
+slice-read-calculate-flow-cell c = omega (arith, c .before .before .before .before .pre, c .before .before .loop .inv .1 .long)
+
+mul-calculate-flow-cell : tie.Need-mul-calculate-flow-cell Inv-loop μ-loop
+mul-calculate-flow-cell c = omega arith
+
+element-copy-out-calculate-flow-cell :
+    tie.Need-element-copy-out-calculate-flow-cell Inv-loop μ-loop
+element-copy-out-calculate-flow-cell c = omega arith
+
+element-copy-out-calculate-flow-cell-2 :
+    tie.Need-element-copy-out-calculate-flow-cell-2 Inv-loop μ-loop
+element-copy-out-calculate-flow-cell-2 c = omega arith
+
+calculate-flow-cell-requires : tie.Need-calculate-flow-cell-requires Inv-loop μ-loop
+calculate-flow-cell-requires c κs = search needs
+
+slice-write-sheet : tie.Need-slice-write-sheet Inv-loop μ-loop
+slice-write-sheet c = omega (arith, c .before .before .before .before .before .before .before .pre, c .before .before .before .before .before .loop .inv .1 .long)
+
+add-i : tie.Need-add-i Inv-loop μ-loop
+add-i c = omega arith
+
+loop-less : tie.Need-loop-less Inv-loop μ-loop
+loop-less c = omega arith
+
+loop-again : tie.Need-loop-again Inv-loop μ-loop
+loop-again c =
+    let l = c .before .before .before .before .before .loop in
+    let s = c .before .before .before .before .before .before .before in
+    let a = s .args in
+    let old = now (a .sheet) in
+    let g = rule (now (a .best)) (now (a .bits)) old in
+    let same = still-old g old (l .i) (l .sheet) (l .inv .1) in
+    let byte = c .calculate-flow-cell .ensures ∙ ap (λ (b : ℕ). byteAfter b (getD (now (a .best)) (l .i) 0) (getD (now (a .bits)) (l .i) 0)) same in
+    (omega arith, fill-more g old (l .i) (l .sheet) _ (omega (arith, s .pre)) byte (l .inv .1))
+
+same-length : tie.Need-same-length Inv-loop μ-loop
+same-length c = c .before .loop .inv .1 .long
+
+returns : tie.Need-returns Inv-loop μ-loop
+returns c =
+    let l = c .before .loop in
+    let s = c .before .before .before in
+    let a = s .args in
+    let e : l .i ≡ 100 = omega arith in
+    fill-all (rule (now (a .best)) (now (a .bits)) (now (a .sheet))) (now (a .sheet)) 100 (l .sheet) (s .pre) (rw e at (l .inv .1))
+
+pub point-cells-spec : {M : Type 1} → statement M
+point-cells-spec =
+    tie.close
+    (tie.spec
+    Inv-loop
+    μ-loop
+    loop-holds
+    slice-read-calculate-flow-cell
+    mul-calculate-flow-cell
+    element-copy-out-calculate-flow-cell
+    element-copy-out-calculate-flow-cell-2
+    calculate-flow-cell-requires
+    slice-write-sheet
+    add-i
+    loop-less
+    loop-again
+    same-length
+    returns)

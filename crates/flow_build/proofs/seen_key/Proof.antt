@@ -1,0 +1,97 @@
+-- `flow_build::seen_key` meets its contract: the diagonal rule, then the key at the neighbour's place.
+-- Assumes nothing.
+use mathlib.Core.Path.{_≡_, sym, ap, _∙_}
+use mathlib.Core.List.{List}
+use Prim.Native.Nat.{ℕ}
+use denote.Ref.{now}
+use lib.ListN.{getD}
+use Rattle.utilities.proofs.Lists.{table-at}
+use Rattle.fields.specs.Cell.{indexOf}
+use Rattle.fields.proofs.Steps.{index-below}
+use Rattle.integration_field.specs.Diagonal.{passesWall}
+use Rattle.integration_field.proofs.Diagonal.{passes-at}
+use Rattle.flow_build.specs.Inner.{cellKey, seenKey}
+use borrow.Author.Needs.{needs}
+use Rattle.flow_build.proofs.seen_key.Statement.{statement}
+use Rattle.flow_build.proofs.seen_key.Tie as tie
+
+-- where the diagonal rule was asked: the start, and the answer is the rule's
+module _ (m : tie.After-passes-wall) where
+  abbrev start : tie.Start
+  start = m .before .before .before .before .before .before .before .before .before .before
+
+  barred : passesWall (now (start .args .cells)) (indexOf (start .args .from)) (indexOf (start .args .to)) ≡ m .passes-wall .result
+  barred = passes-at (now (start .args .cells)) (start .args .from) (start .args .to) (start .pre .0 .0) (start .pre .0 .1) ∙ sym (m .passes-wall .ensures)
+
+mul-key : tie.Need-mul-key
+mul-key c = search needs
+
+add-key : tie.Need-add-key
+add-key c = search needs
+
+mul-key-2 : tie.Need-mul-key-2
+mul-key-2 c = search needs
+
+element-copy-out-key : tie.Need-element-copy-out-key
+element-copy-out-key c = search needs
+
+mul-in-row : tie.Need-mul-in-row
+mul-in-row c = search needs
+
+add-in-row : tie.Need-add-in-row
+add-in-row c = search needs
+
+mul-in-row-2 : tie.Need-mul-in-row-2
+mul-in-row-2 c = search needs
+
+element-copy-out-in-row : tie.Need-element-copy-out-in-row
+element-copy-out-in-row c = search needs
+
+mul-in-column : tie.Need-mul-in-column
+mul-in-column c = search needs
+
+add-in-column : tie.Need-add-in-column
+add-in-column c = search needs
+
+mul-in-column-2 : tie.Need-mul-in-column-2
+mul-in-column-2 c = search needs
+
+element-copy-out-in-column : tie.Need-element-copy-out-in-column
+element-copy-out-in-column c = search needs
+
+passes-wall-requires : tie.Need-passes-wall-requires
+passes-wall-requires c κs = search needs
+
+returns : tie.Need-returns
+unfolding seenKey
+returns c = rw (barred (c .before) ∙ c .if1 .taken)
+
+returns-2 : tie.Need-returns-2
+unfolding seenKey
+returns-2 c =
+    let s = start (c .before) in
+    let a = s .args in
+    let n = indexOf (a .to) in
+    let at : ℕ → ℕ = λ k. cellKey (getD (now (a .cells)) k 0) in
+    rw (barred (c .before) ∙ c .if1 .left)
+    (ap (λ (l : List ℕ). getD l n 0) (s .pre .1) ∙ table-at at 0 100 n (index-below (a .to) (s .pre .0 .1)))
+
+pub seen-key-spec : {M : Type 1} → statement M
+seen-key-spec =
+    tie.close
+    (tie.spec
+    mul-key
+    add-key
+    mul-key-2
+    element-copy-out-key
+    mul-in-row
+    add-in-row
+    mul-in-row-2
+    element-copy-out-in-row
+    mul-in-column
+    add-in-column
+    mul-in-column-2
+    element-copy-out-in-column
+    passes-wall-requires
+    returns
+    returns-2)
