@@ -34,7 +34,8 @@ use Rattle.flow_bits.specs.Byte.{bitsOf}
 use Rattle.flow_byte.specs.declared.Look.{Look}
 use Rattle.flow_byte.specs.declared.Look.the-variants.{Looking, Taken, Ended}
 use Rattle.flow_byte.specs.Look.{seen, seenAt, lookAt, lookAround, pointed, lookedByte, builtByte, flowBuild}
-use Rattle.flow_build.specs.Inner.{lookKey, lookDir, LookHeld, LooksHeld, nothingFound, cellKey, seenKey, isNoted, keyAfter, bitsAfter, lookedTo, LooksOn, isKept, NoneLooks, heldByte, heldBytes}
+use Rattle.flow_build.specs.Inner.{lookKey, lookDir, LookHeld, LooksHeld, nothingFound, cellKey, seenKey, isNoted}
+use Rattle.flow_build.specs.Inner.{keyAfter, bitsAfter, lookedTo, LooksOn, isKept, NoneLooks, heldByte, heldBytes}
 
 -- ---- one key against another
 
@@ -201,11 +202,21 @@ module _ (cells : List ℕ) (i : ℕ) (h : i < 100) (d : CompassDir) (keys bits 
 
 module _ (cells : List ℕ) (d : CompassDir) {keys bits keys′ bits′ : List ℕ} {looks : ℕ → Look} where
   pub pass-on : LooksOn cells d 0 100 keys bits keys′ bits′ → LooksHeld looks keys bits → LooksHeld (λ k. lookAt cells k (looks k) d) keys′ bits′
-  pass-on on all =
-      let first : LooksHeld (lookedTo cells d 0 looks) keys bits
-      = record { keys-full = all .keys-full; bits-full = all .bits-full; each = λ k h. held-same (looked-out cells d looks k 0 (omega arith)) refl refl (all .each k h) } in
-      let last = on looks first in
-      record { keys-full = last .keys-full; bits-full = last .bits-full; each = λ k h. held-same (sym (looked-in cells d looks k 100 h)) refl refl (last .each k h) }
+  pass-on on all = record {
+    keys-full = last .keys-full;
+    bits-full = last .bits-full;
+    each = λ k h. held-same (sym (looked-in cells d looks k 100 h)) refl refl (last .each k h);
+  }
+    where
+      first : LooksHeld (lookedTo cells d 0 looks) keys bits
+      first = record {
+        keys-full = all .keys-full;
+        bits-full = all .bits-full;
+        each = λ k h. held-same (looked-out cells d looks k 0 (omega arith)) refl refl (all .each k h);
+      }
+
+      last : LooksHeld (lookedTo cells d 100 looks) keys′ bits′
+      last = on looks first
 
 -- one after the other
 pub on-to : (cells : List ℕ) (d : CompassDir) (m n p : ℕ) {k b k′ b′ : List ℕ} → n ≡ p → LooksOn cells d m n k b k′ b′ → LooksOn cells d m p k b k′ b′
@@ -219,7 +230,9 @@ pub new-looks : LooksHeld nothingFound (replicate 100 65537) (replicate 100 0)
 new-looks = record {
   keys-full = length-replicate {A = ℕ} 100 65537;
   bits-full = length-replicate {A = ℕ} 100 0;
-  each = λ k h. held (Looking Zero 65535) (getD-replicate {A = ℕ} 100 k 65537 0 h, getD-replicate {A = ℕ} 100 k 0 0 h) (omega (arith, getD-replicate {A = ℕ} 100 k 65537 0 h));
+  each = λ k h.
+      let e = getD-replicate {A = ℕ} 100 k 65537 0 h in
+      held (Looking Zero 65535) (e, getD-replicate {A = ℕ} 100 k 0 0 h) (omega (arith, e));
 }
 
 -- ---- the bytes

@@ -47,7 +47,12 @@ returns-4 : tie.Need-returns-4
 unfolding cellKey
 returns-4 c =
     let m = c .before .before in
-    rw (no-wall (m .before .before .before .before), no-goal (m .before .before), no-portal m, eq-eqb _ 65535 (sym (c .before .low-bits .ensures) ∙ c .if4 .taken))
+    rw (
+      no-wall (m .before .before .before .before),
+      no-goal (m .before .before),
+      no-portal m,
+      eq-eqb _ 65535 (sym (c .before .low-bits .ensures) ∙ c .if4 .taken),
+    )
 
 add-result : tie.Need-add-result
 add-result c = search needs

@@ -54,7 +54,10 @@ returns c =
     (from-index step ∙ c .enum-told .given .1)
 
 seen-key-requires : tie.Need-seen-key-requires
-seen-key-requires c κs = let s = start c in ((s .pre .0, stepped-cell _ _ _ (sym (step c .get-in-compass-direction .ensures .0) ∙ c .before .to .given .1) .within), s .pre .1)
+seen-key-requires c κs =
+    let p = start c .pre in
+    let e = sym (step c .get-in-compass-direction .ensures .0) ∙ c .before .to .given .1 in
+    ((p .0, stepped-cell _ _ _ e .within), p .1)
 
 convert-compass-dir-to-bits-dir-requires : tie.Need-convert-compass-dir-to-bits-dir-requires
 convert-compass-dir-to-bits-dir-requires c κs = search needs
@@ -91,7 +94,8 @@ element-write-bits c = search needs
 
 returns-2 : tie.Need-returns-2
 returns-2 c =
-    let looked = c .before .before .before .before .before .before .before in
+    let turned = c .before .before .before .before .before .before in
+    let looked = turned .before in
     let m = looked .before in
     let s = start m in
     let a = s .args in
@@ -104,8 +108,8 @@ returns-2 c =
     let k : c .before .key-after .result ≡ keyAfter x key = c .before .key-after .ensures ∙ ap (λ (y : ℕ). keyAfter y key) e in
     let b : c .bits-after .result ≡ bitsAfter x key (bitsOf (a .dir)) found =
     c .bits-after .ensures
-    ∙ ap (λ (y : ℕ). bitsAfter y key (c .before .before .before .before .before .before .convert-compass-dir-to-bits-dir .result) found) e
-    ∙ ap (λ (y : ℕ). bitsAfter x key y found) (c .before .before .before .before .before .before .convert-compass-dir-to-bits-dir .ensures) in
+    ∙ ap (λ (y : ℕ). bitsAfter y key (turned .convert-compass-dir-to-bits-dir .result) found) e
+    ∙ ap (λ (y : ℕ). bitsAfter x key y found) (turned .convert-compass-dir-to-bits-dir .ensures) in
     rw (k, b) (on-cell cells i (index-below (a .from) (s .pre .0)) (a .dir) (now (a .best)) (now (a .bits)) (to m) (arrives m))
 
 pub look-from-spec : {M : Type 1} → statement M

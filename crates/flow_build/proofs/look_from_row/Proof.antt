@@ -18,7 +18,10 @@ loop-holds : tie.Need-loop-holds Inv-loop μ-loop
 loop-holds c = let a = c .args in (omega arith, on-to (now (a .cells)) (a .dir) (a .row * 10) (a .row * 10) (a .row * 10 + 0) (omega arith) (λ looks h. h))
 
 look-from-requires : tie.Need-look-from-requires Inv-loop μ-loop
-look-from-requires c κs = let turn = c .before .before in (record { column-in = turn .loop-test .taken; row-in = turn .before .before .pre .0 }, turn .before .before .pre .1)
+look-from-requires c κs =
+    let turn = c .before .before in
+    let p = turn .before .before .pre in
+    (record { column-in = turn .loop-test .taken; row-in = p .0 }, p .1)
 
 add-column : tie.Need-add-column Inv-loop μ-loop
 add-column c = omega arith

@@ -45,7 +45,9 @@ calculate-flow-cell-requires : tie.Need-calculate-flow-cell-requires Inv-loop μ
 calculate-flow-cell-requires c κs = search needs
 
 slice-write-sheet : tie.Need-slice-write-sheet Inv-loop μ-loop
-slice-write-sheet c = omega (arith, c .before .before .before .before .before .before .before .pre, c .before .before .before .before .before .loop .inv .1 .long)
+slice-write-sheet c =
+    let turn = c .before .before .before .before in
+    omega (arith, turn .before .before .before .pre, turn .before .loop .inv .1 .long)
 
 add-i : tie.Need-add-i Inv-loop μ-loop
 add-i c = omega arith

@@ -23,45 +23,6 @@ module _ (m : tie.After-passes-wall) where
   barred : passesWall (now (start .args .cells)) (indexOf (start .args .from)) (indexOf (start .args .to)) ≡ m .passes-wall .result
   barred = passes-at (now (start .args .cells)) (start .args .from) (start .args .to) (start .pre .0 .0) (start .pre .0 .1) ∙ sym (m .passes-wall .ensures)
 
-mul-key : tie.Need-mul-key
-mul-key c = search needs
-
-add-key : tie.Need-add-key
-add-key c = search needs
-
-mul-key-2 : tie.Need-mul-key-2
-mul-key-2 c = search needs
-
-element-copy-out-key : tie.Need-element-copy-out-key
-element-copy-out-key c = search needs
-
-mul-in-row : tie.Need-mul-in-row
-mul-in-row c = search needs
-
-add-in-row : tie.Need-add-in-row
-add-in-row c = search needs
-
-mul-in-row-2 : tie.Need-mul-in-row-2
-mul-in-row-2 c = search needs
-
-element-copy-out-in-row : tie.Need-element-copy-out-in-row
-element-copy-out-in-row c = search needs
-
-mul-in-column : tie.Need-mul-in-column
-mul-in-column c = search needs
-
-add-in-column : tie.Need-add-in-column
-add-in-column c = search needs
-
-mul-in-column-2 : tie.Need-mul-in-column-2
-mul-in-column-2 c = search needs
-
-element-copy-out-in-column : tie.Need-element-copy-out-in-column
-element-copy-out-in-column c = search needs
-
-passes-wall-requires : tie.Need-passes-wall-requires
-passes-wall-requires c κs = search needs
-
 returns : tie.Need-returns
 unfolding seenKey
 returns c = rw (barred (c .before) ∙ c .if1 .taken)
@@ -77,21 +38,9 @@ returns-2 c =
     (ap (λ (l : List ℕ). getD l n 0) (s .pre .1) ∙ table-at at 0 100 n (index-below (a .to) (s .pre .0 .1)))
 
 pub seen-key-spec : {M : Type 1} → statement M
-seen-key-spec =
-    tie.close
-    (tie.spec
-    mul-key
-    add-key
-    mul-key-2
-    element-copy-out-key
-    mul-in-row
-    add-in-row
-    mul-in-row-2
-    element-copy-out-in-row
-    mul-in-column
-    add-in-column
-    mul-in-column-2
-    element-copy-out-in-column
-    passes-wall-requires
-    returns
-    returns-2)
+seen-key-spec = tie.close (tie.spec
+    (λ c. search needs) (λ c. search needs) (λ c. search needs) (λ c. search needs)
+    (λ c. search needs) (λ c. search needs) (λ c. search needs) (λ c. search needs)
+    (λ c. search needs) (λ c. search needs) (λ c. search needs) (λ c. search needs)
+    (λ c κs. search needs)
+    returns returns-2)
