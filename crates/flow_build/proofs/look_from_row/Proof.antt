@@ -21,7 +21,7 @@ look-from-requires : tie.Need-look-from-requires Inv-loop μ-loop
 look-from-requires c κs =
     let turn = c .before .before in
     let p = turn .before .before .pre in
-    (record { column-in = turn .loop-test .taken; row-in = p .0 }, p .1)
+    (record { column-in = omega (arith, turn .loop-test .taken); row-in = p .0 }, p .1)
 
 add-column : tie.Need-add-column Inv-loop μ-loop
 add-column c = omega arith
