@@ -184,19 +184,18 @@ fn is_kept(byte: u8) -> bool
     flow_bits::is_pathable(byte) | flow_bits::is_impassable(byte)
 }
 
-// Whether no cell looks.
+// Whether no cell looks. All cells are tested in either case: no branch depends on one.
 fn none_looks(sheet: &[u8]) -> bool
     requires { ⌜ length (now sheet) ≡ 100 ⌝ }
     ensures { λ r. ⌜ (r ≡ true → NoneLooks (now (sheet .entry))) ⌝ }
 {
+    let mut kept = true;
     let mut i = 0;
     while i < 100 {
-        if !is_kept(sheet[i]) {
-            return false;
-        }
+        kept = kept & is_kept(sheet[i]);
         i += 1;
     }
-    true
+    kept
 }
 
 // The byte of a cell that has looked: the direction or-ed on; impassable where there is none, and where the look has ended.
