@@ -3,6 +3,5 @@ pub mod Marks
 pub mod Looks
 pub mod Waves
 pub mod Lines
-pub mod Walls
 pub mod Starts
 pub mod Answers

@@ -15,7 +15,6 @@ use route::WindowCells;
 use started_field::InitAnswer;
 use utilities::CompassDir;
 ghost use mathlib.Core.Path.{_≡_};
-ghost use mathlib.Core.Bool.{false};
 ghost use mathlib.Core.List.{List, [], map};
 ghost use Prim.Native.Nat.{ℕ, suc, _+_, _<_, _≤_};
 ghost use lib.ListN.{length, take};
@@ -24,13 +23,13 @@ ghost use Rattle.fields.specs.Cell.{cellAt, indexOf, stepped};
 ghost use Rattle.integration_field.specs.Listed.{padded, Indexes, withCorners};
 ghost use Rattle.route.specs.Target.{targetOf};
 ghost use Rattle.integration_field.specs.Diagonal.{wallAt};
-ghost use Rattle.line_end_table.specs.Ends.{HoldsEnds};
 ghost use Rattle.route.specs.Inner.{heldCells, heldTarget, WindowHeld, TargetHeld};
 ghost use Rattle.started_field.specs.Started.{startedAt, startedFrom, started, initRefused, initAnswer, StartedField};
 ghost use Rattle.started_field.specs.CornerLine.{cornerLine};
-ghost use Rattle.started_field.specs.Sight.{wallOr, walls, marked, stopped, lineMarked, extended, unlessWall, sideTried, wallMet, neighbourLooked, looked, lookedAround, waveLooked, sightAfter};
+ghost use Rattle.started_field.specs.Sight.{wallOr, walls, marked, stopped, lineMarked, extended, unlessWall, sideTried, wallMet};
+ghost use Rattle.started_field.specs.Sight.{neighbourLooked, looked, lookedAround, waveLooked, sightAfter};
 ghost use Rattle.least_walks.specs.Promise.{OnceBuilt};
-ghost use Rattle.integration_init.specs.Held.{sightOf, Holds, Ready, Applied, AppliedAll, HoldsAll, ReadyAll, InWave, Drawn, NoWall, Lent};
+ghost use Rattle.integration_init.specs.Held.{sightOf, Holds, Ready, Applied, AppliedAll, HoldsAll, ReadyAll, InWave, Drawn};
 ghost use Rattle.integration_init.specs.Stages.{windowPut, goalPut, BeforeSight, sightPut};
 
 // How many corners are listed, and how many cells the wave has queued.
@@ -72,7 +71,8 @@ fn mark(
     value: u32,
 ) -> usize
     requires { ⌜ (Ready (now cells) (now corners) count) × ((n < 100) × (value < 65536)) ⌝ }
-    ensures { λ r. ⌜ Applied (marked value n) (now (cells .entry)) (now (corners .entry)) count (now (cells .exit)) (now (corners .exit)) r ⌝ }
+    ensures { λ r. ⌜ Applied (marked value n)
+        (now (cells .entry)) (now (corners .entry)) count (now (cells .exit)) (now (corners .exit)) r ⌝ }
 {
     let old = cells[n];
     if integration_bits::is_blocked(old) {
@@ -107,7 +107,8 @@ fn mark_line(
     wavefront_cost: u32,
 ) -> usize
     requires { ⌜ (Ready (now cells) (now corners) count) × ((Drawn (line .cells) (line .count)) × ((corner < 100) × («wavefront_cost» ≤ 100))) ⌝ }
-    ensures { λ r. ⌜ Applied (lineMarked «wavefront_cost» 0 corner (map indexOf (take (line .count) (line .cells)))) (now (cells .entry)) (now (corners .entry)) count (now (cells .exit)) (now (corners .exit)) r ⌝ }
+    ensures { λ r. ⌜ Applied (lineMarked «wavefront_cost» 0 corner (map indexOf (take (line .count) (line .cells))))
+        (now (cells .entry)) (now (corners .entry)) count (now (cells .exit)) (now (corners .exit)) r ⌝ }
 {
     let drawn = line.cells;
     let length = line.count;
@@ -137,13 +138,13 @@ fn extend_los_corner(
     corner: usize,
     goal: usize,
     wavefront_cost: u32,
-    ends: &[u8],
 ) -> usize
-    requires { ⌜ (Ready (now cells) (now corners) count) × (InWave (HoldsEnds (now ends)) «wavefront_cost» goal corner) ⌝ }
-    ensures { λ r. ⌜ Applied (extended (cornerLine goal) «wavefront_cost» corner) (now (cells .entry)) (now (corners .entry)) count (now (cells .exit)) (now (corners .exit)) r ⌝ }
+    requires { ⌜ (Ready (now cells) (now corners) count) × (InWave «wavefront_cost» goal corner) ⌝ }
+    ensures { λ r. ⌜ Applied (extended (cornerLine goal) «wavefront_cost» corner)
+        (now (cells .entry)) (now (corners .entry)) count (now (cells .exit)) (now (corners .exit)) r ⌝ }
 {
     let from = FieldCell::from_index(corner);
-    let end = FieldCell::from_index(line_end_table::read_end(ends, corner, goal));
+    let end = FieldCell::from_index(line_end_table::read_end(corner, goal));
     let line = bresenham::get_cells_between_points(from, end);
     mark_line(cells, corners, count, corner, line, wavefront_cost)
 }
@@ -158,10 +159,10 @@ fn try_side(
     side: CompassDir,
     goal: usize,
     wavefront_cost: u32,
-    ends: &[u8],
 ) -> usize
-    requires { ⌜ (Ready (now cells) (now corners) count) × ((InWave (HoldsEnds (now ends)) «wavefront_cost» goal from) × (wall < 100)) ⌝ }
-    ensures { λ r. ⌜ Applied (sideTried (cornerLine goal) «wavefront_cost» from wall side) (now (cells .entry)) (now (corners .entry)) count (now (cells .exit)) (now (corners .exit)) r ⌝ }
+    requires { ⌜ (Ready (now cells) (now corners) count) × ((InWave «wavefront_cost» goal from) × (wall < 100)) ⌝ }
+    ensures { λ r. ⌜ Applied (sideTried (cornerLine goal) «wavefront_cost» from wall side)
+        (now (cells .entry)) (now (corners .entry)) count (now (cells .exit)) (now (corners .exit)) r ⌝ }
 {
     let Stepped::Cell(_) = open_side(cells, from, side) else {
         return count;
@@ -170,7 +171,7 @@ fn try_side(
         return count;
     };
     let index = corner.as_1d_index();
-    extend_los_corner(cells, corners, count, index, goal, wavefront_cost, ends)
+    extend_los_corner(cells, corners, count, index, goal, wavefront_cost)
 }
 
 // Tries both sides of a wall, across the direction in which it was met.
@@ -183,10 +184,10 @@ fn meet_wall(
     dir: CompassDir,
     goal: usize,
     wavefront_cost: u32,
-    ends: &[u8],
 ) -> usize
-    requires { ⌜ (Ready (now cells) (now corners) count) × ((InWave (HoldsEnds (now ends)) «wavefront_cost» goal from) × (wall < 100)) ⌝ }
-    ensures { λ r. ⌜ Applied (wallMet (cornerLine goal) «wavefront_cost» from wall dir) (now (cells .entry)) (now (corners .entry)) count (now (cells .exit)) (now (corners .exit)) r ⌝ }
+    requires { ⌜ (Ready (now cells) (now corners) count) × ((InWave «wavefront_cost» goal from) × (wall < 100)) ⌝ }
+    ensures { λ r. ⌜ Applied (wallMet (cornerLine goal) «wavefront_cost» from wall dir)
+        (now (cells .entry)) (now (corners .entry)) count (now (cells .exit)) (now (corners .exit)) r ⌝ }
 {
     let side = dir.lower_side();
     let listed = try_side(
@@ -198,7 +199,6 @@ fn meet_wall(
         side,
         goal,
         wavefront_cost,
-        ends,
     );
     try_side(
         cells,
@@ -209,7 +209,6 @@ fn meet_wall(
         side.inverse(),
         goal,
         wavefront_cost,
-        ends,
     )
 }
 
@@ -224,10 +223,11 @@ fn look_at(
     n: usize,
     goal: usize,
     wavefront_cost: u32,
-    ends: &[u8],
 ) -> Counts
-    requires { ⌜ (ReadyAll (now cells) (now corners) (counts .corners) (now queue) (counts .queued)) × ((InWave (Lent (now ends) (now cells)) «wavefront_cost» goal from) × (n < 100)) ⌝ }
-    ensures { λ r. ⌜ AppliedAll (neighbourLooked (cornerLine goal) «wavefront_cost» from dir n) (now (cells .entry)) (now (corners .entry)) (counts .corners) (now (queue .entry)) (counts .queued) (now (cells .exit)) (now (corners .exit)) (r .corners) (now (queue .exit)) (r .queued) ⌝ }
+    requires { ⌜ (ReadyAll (now cells) (now corners) (counts .corners) (now queue) (counts .queued)) × ((InWave «wavefront_cost» goal from) × (n < 100)) ⌝ }
+    ensures { λ r. ⌜ AppliedAll (neighbourLooked (cornerLine goal) «wavefront_cost» from dir n)
+        (now (cells .entry)) (now (corners .entry)) (counts .corners) (now (queue .entry)) (counts .queued)
+        (now (cells .exit)) (now (corners .exit)) (r .corners) (now (queue .exit)) (r .queued) ⌝ }
 {
     let listed = counts.corners;
     let queued = counts.queued;
@@ -239,17 +239,7 @@ fn look_at(
         return counts;
     }
     if integration_bits::is_impassable(cost) {
-        let corners = meet_wall(
-            cells,
-            corners,
-            listed,
-            from,
-            n,
-            dir,
-            goal,
-            wavefront_cost,
-            ends,
-        );
+        let corners = meet_wall(cells, corners, listed, from, n, dir, goal, wavefront_cost);
         return Counts { corners, queued };
     }
     if integration_bits::is_los(cost) {
@@ -273,10 +263,11 @@ fn look(
     dir: CompassDir,
     goal: usize,
     wavefront_cost: u32,
-    ends: &[u8],
 ) -> Counts
-    requires { ⌜ (ReadyAll (now cells) (now corners) (counts .corners) (now queue) (counts .queued)) × (InWave (Lent (now ends) (now cells)) «wavefront_cost» goal from) ⌝ }
-    ensures { λ r. ⌜ AppliedAll (looked (cornerLine goal) «wavefront_cost» from dir (stepped (cellAt from) dir)) (now (cells .entry)) (now (corners .entry)) (counts .corners) (now (queue .entry)) (counts .queued) (now (cells .exit)) (now (corners .exit)) (r .corners) (now (queue .exit)) (r .queued) ⌝ }
+    requires { ⌜ (ReadyAll (now cells) (now corners) (counts .corners) (now queue) (counts .queued)) × (InWave «wavefront_cost» goal from) ⌝ }
+    ensures { λ r. ⌜ AppliedAll (looked (cornerLine goal) «wavefront_cost» from dir (stepped (cellAt from) dir))
+        (now (cells .entry)) (now (corners .entry)) (counts .corners) (now (queue .entry)) (counts .queued)
+        (now (cells .exit)) (now (corners .exit)) (r .corners) (now (queue .exit)) (r .queued) ⌝ }
 {
     let Stepped::Cell(neighbour) = FieldCell::from_index(from).get_in_compass_direction(dir) else {
         return counts;
@@ -292,7 +283,6 @@ fn look(
         n,
         goal,
         wavefront_cost,
-        ends,
     )
 }
 
@@ -305,10 +295,11 @@ fn look_around(
     from: usize,
     goal: usize,
     wavefront_cost: u32,
-    ends: &[u8],
 ) -> Counts
-    requires { ⌜ (ReadyAll (now cells) (now corners) (counts .corners) (now queue) (counts .queued)) × (InWave (Lent (now ends) (now cells)) «wavefront_cost» goal from) ⌝ }
-    ensures { λ r. ⌜ AppliedAll (lookedAround (cornerLine goal) «wavefront_cost» from orthogonal) (now (cells .entry)) (now (corners .entry)) (counts .corners) (now (queue .entry)) (counts .queued) (now (cells .exit)) (now (corners .exit)) (r .corners) (now (queue .exit)) (r .queued) ⌝ }
+    requires { ⌜ (ReadyAll (now cells) (now corners) (counts .corners) (now queue) (counts .queued)) × (InWave «wavefront_cost» goal from) ⌝ }
+    ensures { λ r. ⌜ AppliedAll (lookedAround (cornerLine goal) «wavefront_cost» from orthogonal)
+        (now (cells .entry)) (now (corners .entry)) (counts .corners) (now (queue .entry)) (counts .queued)
+        (now (cells .exit)) (now (corners .exit)) (r .corners) (now (queue .exit)) (r .queued) ⌝ }
 {
     // It always is a cell of the sector: said to the compiler, which then leaves a test out of each look.
     if 99 < from {
@@ -327,7 +318,6 @@ fn look_around(
             dir,
             goal,
             wavefront_cost,
-            ends,
         );
         side += 1;
     }
@@ -344,10 +334,12 @@ fn look_wave(
     next: &mut [u8; 100],
     goal: usize,
     wavefront_cost: u32,
-    ends: &[u8],
 ) -> Counts
-    requires { ⌜ (Ready (now cells) (now corners) count) × ((Indexes 100 (now wavefront) size) × ((length (now next) ≡ 100) × (InWave (Lent (now ends) (now cells)) «wavefront_cost» goal goal))) ⌝ }
-    ensures { λ r. ⌜ HoldsAll (waveLooked (cornerLine goal) «wavefront_cost» (take size (now (wavefront .entry))) (sightOf (now (cells .entry)) (now (corners .entry)) count [])) (now (cells .exit)) (now (corners .exit)) (r .corners) (now (next .exit)) (r .queued) ⌝ }
+    requires { ⌜ (Ready (now cells) (now corners) count)
+        × ((Indexes 100 (now wavefront) size) × ((length (now next) ≡ 100) × ((«wavefront_cost» ≤ 100) × (goal < 100)))) ⌝ }
+    ensures { λ r. ⌜ HoldsAll (waveLooked (cornerLine goal) «wavefront_cost» (take size (now (wavefront .entry)))
+        (sightOf (now (cells .entry)) (now (corners .entry)) count []))
+        (now (cells .exit)) (now (corners .exit)) (r .corners) (now (next .exit)) (r .queued) ⌝ }
 {
     let mut counts = Counts {
         corners: count,
@@ -356,16 +348,7 @@ fn look_wave(
     let mut i = 0;
     while i < size {
         let from = fields::index_of(wavefront[i]);
-        counts = look_around(
-            cells,
-            corners,
-            next,
-            counts,
-            from,
-            goal,
-            wavefront_cost,
-            ends,
-        );
+        counts = look_around(cells, corners, next, counts, from, goal, wavefront_cost);
         i += 1;
     }
     counts
@@ -381,10 +364,11 @@ fn propagate_los(
     goal: usize,
     wavefront_cost: u32,
     falling: usize,
-    ends: &[u8],
 ) -> usize
-    requires { ⌜ (Ready (now cells) (now corners) count) × ((Indexes 100 (now wavefront) size) × ((goal < 100) × ((«wavefront_cost» + falling ≤ 101) × (Lent (now ends) (now cells))))) ⌝ }
-    ensures { λ r. ⌜ ((before : List ℕ) (k : ℕ) → «wavefront_cost» ≡ suc k → sightOf (now (cells .entry)) (now (corners .entry)) count (take size (now (wavefront .entry))) ≡ sightAfter (cornerLine goal) before goal k → Holds (sightAfter (cornerLine goal) before goal (k + falling)) (now (cells .exit)) (now (corners .exit)) r) ⌝ }
+    requires { ⌜ (Ready (now cells) (now corners) count) × ((Indexes 100 (now wavefront) size) × ((goal < 100) × («wavefront_cost» + falling ≤ 101))) ⌝ }
+    ensures { λ r. ⌜ ((before : List ℕ) (k : ℕ) → «wavefront_cost» ≡ suc k
+        → sightOf (now (cells .entry)) (now (corners .entry)) count (take size (now (wavefront .entry))) ≡ sightAfter (cornerLine goal) before goal k
+        → Holds (sightAfter (cornerLine goal) before goal (k + falling)) (now (cells .exit)) (now (corners .exit)) r) ⌝ }
 {
     if falling == 0 {
         return count;
@@ -402,7 +386,6 @@ fn propagate_los(
         &mut next,
         goal,
         wavefront_cost,
-        ends,
     );
     let listed = counts.corners;
     let queued = counts.queued;
@@ -415,40 +398,7 @@ fn propagate_los(
         goal,
         wavefront_cost + 1,
         falling - 1,
-        ends,
     )
-}
-
-// Whether some cell is a wall: where it answers no, none is.
-fn has_wall(cells: &[u32; 100]) -> bool
-    requires { ⌜ length (now cells) ≡ 100 ⌝ }
-    ensures { λ r. ⌜ (r ≡ false → NoWall (now (cells .entry))) ⌝ }
-{
-    let mut found = false;
-    let mut i = 0;
-    while i < 100 {
-        found = found | is_wall_at(cells, i);
-        i += 1;
-    }
-    found
-}
-
-// Spreads sight from the goal. Line ends are read from the table, which is laid out only where some cell is a wall: without one no line
-// is drawn. Answers how many corners are listed.
-fn spread_sight(
-    cells: &mut [u32; 100],
-    corners: &mut [usize; 100],
-    wavefront: &[u8; 100],
-    goal: usize,
-) -> usize
-    requires { ⌜ (Ready (now cells) (now corners) 0) × ((Indexes 100 (now wavefront) 1) × (goal < 100)) ⌝ }
-    ensures { λ r. ⌜ ((before : List ℕ) → sightOf (now (cells .entry)) (now (corners .entry)) 0 (take 1 (now (wavefront .entry))) ≡ sightAfter (cornerLine goal) before goal 0 → Holds (sightAfter (cornerLine goal) before goal 100) (now (cells .exit)) (now (corners .exit)) r) ⌝ }
-{
-    if has_wall(cells) {
-        let ends = line_end_table::ends::line_ends();
-        return propagate_los(cells, corners, 0, wavefront, 1, goal, 1, 100, &ends);
-    }
-    propagate_los(cells, corners, 0, wavefront, 1, goal, 1, 100, b"")
 }
 
 // A cell's word as its cost gives it.
@@ -527,7 +477,16 @@ fn with_sight(given: IntegrationField, goal: usize) -> IntegrationField
     let mut corners = field.los_corners;
     let mut wavefront: [u8; 100] = [0; 100];
     wavefront[0] = goal as u8;
-    let count = spread_sight(&mut field.field, &mut corners, &wavefront, goal);
+    let count = propagate_los(
+        &mut field.field,
+        &mut corners,
+        0,
+        &wavefront,
+        1,
+        goal,
+        1,
+        100,
+    );
     field.los_corners = corners;
     field.count = count;
     field

@@ -1,19 +1,20 @@
--- A table that passes one test, which antt computes entry by entry, holds the line end of each pair.
---     every-end     the table
+-- A row that passes one test, which antt computes goal by goal, holds the line ends of its corner.
+--     row-holds    a row that passes
+--     no-row       a number that is none of those below 100 is no corner
 -- Assumes nothing.
-use mathlib.Core.Path.{_≡_, _∙_, subst, sym}
+use mathlib.Core.Path.{_≡_, subst, sym}
 use mathlib.Core.Bool.{Bool, true, false}
-use mathlib.Core.List.{List, [], _∷_}
-use Prim.Native.Nat.{ℕ, zero, suc, _+_, _*_, _/_, _%_, _<_}
-use native.Mathlib.Nat.{add-zero, zero-add, add-suc, suc-add, le-of-suc-le-suc, not-suc-le-zero}
+use mathlib.Core.List.{List}
+use Prim.Native.Nat.{ℕ, zero, suc, _≤_, _<_}
 use native.Mathlib.Omega.{arith}
+use native.Mathlib.Decide.{ℕ-discrete}
 use lib.Dec.{T, eqb, eqb→eq}
-use lib.ListN.{length, getD}
+use lib.ListN.{length}
 use Rattle.fields.specs.Cell.{cellAt, indexOf}
 use Rattle.line_end.specs.LineEnd.{lineEnd}
-use Rattle.line_end_table.specs.Ends.{HoldsEnds}
+use Rattle.line_end_table.specs.Ends.{endOf, HoldsRow}
 
--- ---- a test of each entry, for any table
+-- ---- a test of each number below another
 abbrev both : Bool → Bool → Bool
 both true b = b
 both false b = false
@@ -26,34 +27,40 @@ both-right : (a b : Bool) → T (both a b) → T b
 both-right true b t = t
 both-right false b t = absurd t
 
--- the test f passes at each entry of the list and its place, counted from i
-abbrev every : (ℕ → ℕ → Bool) → ℕ → List ℕ → Bool
-every f i [] = true
-every f i (x ∷ xs) = both (f i x) (every f (suc i) xs)
+-- the test f passes at each number below n
+abbrev every : (ℕ → Bool) → ℕ → Bool
+every f zero = true
+every f (suc n) = both (f n) (every f n)
 
-from : (f : ℕ → ℕ → Bool) (xs : List ℕ) (i : ℕ) → T (every f i xs) → (k : ℕ) → k < length xs → T (f (i + k) (getD xs k 0))
-from f [] i t k h = absurd (not-suc-le-zero h)
-from f (x ∷ xs) i t zero h = subst (λ (m : ℕ). T (f m x)) (sym (add-zero i)) (both-left (f i x) (every f (suc i) xs) t)
-from f (x ∷ xs) i t (suc k) h =
-    subst (λ (m : ℕ). T (f m (getD xs k 0))) (suc-add i k ∙ sym (add-suc i k))
-    (from f xs (suc i) (both-right (f i x) (every f (suc i) xs) t) k (le-of-suc-le-suc h))
+at : (f : ℕ → Bool) (n : ℕ) → T (every f n) → (k : ℕ) → k < n → T (f k)
+at f zero t k h = absurd (omega arith)
+at f (suc n) t k h = elim (ℕ-discrete k n) [
+  | yes e ↦ subst (λ (m : ℕ). T (f m)) (sym e) (both-left (f n) (every f n) t)
+  | no q ↦ at f n (both-right (f n) (every f n) t) k (omega arith)
+]
 
--- ---- the test of line ends
--- the end of the pair that stands at place k
-abbrev endAt : ℕ → ℕ
-endAt k = indexOf (lineEnd (cellAt (k / 100)) (cellAt (k % 100)))
+-- ---- the rows
+-- a place of the row is the end of its goal
+abbrev isEnd : ℕ → List ℕ → ℕ → Bool
+isEnd corner row goal = eqb (endOf row goal) (indexOf (lineEnd (cellAt corner) (cellAt goal)))
 
--- each entry is that of its place
-abbrev pub Passes : List ℕ → Type 0
-Passes ends = T (every (λ k x. eqb x (endAt k)) 0 ends)
+-- each place is
+abbrev pub Passes : ℕ → List ℕ → Type 0
+Passes corner row = T (every (isEnd corner row) 100)
 
-pub every-end : (ends : List ℕ) → length ends ≡ 10000 → Passes ends → HoldsEnds ends
-every-end ends long t = record { long = long; each = λ corner goal p q. at corner goal p q }
-  where
-    at : (corner goal : ℕ) → corner < 100 → goal < 100 → getD ends (corner * 100 + goal) 0 ≡ indexOf (lineEnd (cellAt corner) (cellAt goal))
-    at corner goal p q =
-        let k = corner * 100 + goal in
-        let c : k / 100 ≡ corner = omega arith in
-        let g : k % 100 ≡ goal = omega arith in
-        let passed = subst (λ (m : ℕ). T (eqb (getD ends k 0) (endAt m))) (zero-add k) (from (λ k x. eqb x (endAt k)) ends 0 t k (rw long (omega arith))) in
-        rw (c, g) at (eqb→eq (getD ends k 0) (endAt k) passed)
+pub row-holds : (k : ℕ) {corner : ℕ} {row : List ℕ} → corner ≡ k → length row ≡ 13 → Passes k row → corner < 100 → HoldsRow corner row
+row-holds k {corner} {row} e long t h =
+    let passed : HoldsRow k row = record { long = long; each = λ goal g. eqb→eq _ _ (at (isEnd k row) 100 t goal g) } in
+    rw e passed
+
+-- x is none of the numbers below n
+abbrev pub NoneOf : ℕ → ℕ → Type 0
+NoneOf x zero = Unit {0}
+NoneOf x (suc n) = NoneOf x n × (x ≡ n → ⊥)
+
+past : (n x : ℕ) → NoneOf x n → n ≤ x
+past zero x r = omega arith
+past (suc n) x r = let h = past n x (r .0) in elim (ℕ-discrete x n) [ yes e ↦ absurd (r .1 e) | no q ↦ omega arith ]
+
+pub no-row : {corner : ℕ} {row : List ℕ} → NoneOf corner 100 → corner < 100 → HoldsRow corner row
+no-row {corner} r h = absurd (omega (arith, past 100 corner r))

@@ -15,7 +15,6 @@ use Rattle.started_field.proofs.Waves.{ended}
 use Rattle.integration_init.specs.Held.{sightOf, Holds}
 use Rattle.integration_init.proofs.Held.{held-all, all-ready}
 use Rattle.integration_init.proofs.Looks.{all-begins}
-use Rattle.integration_init.proofs.Walls.{lent-wave}
 use Rattle.integration_init.proofs.Waves.{wave-next, held-as, held-same, held-wavefront}
 use Rattle.integration_init.proofs.propagate_los.Reads as go
 use Rattle.integration_init.proofs.propagate_los.Kinds as kinds
@@ -24,80 +23,98 @@ use Rattle.integration_init.proofs.look_wave.Reads as wave
 use Rattle.integration_init.proofs.+propagate_los.{statement}
 use Rattle.integration_init.proofs.+propagate_los.Tie.{close}
 
-abbrev μ : Measures 4 kinds.ps ℕ
+abbrev μ : Measures 3 kinds.ps ℕ
 μ κs a = a .1 .1 .1 .1 .1 .1 .1 .0
 
--- what the function is given at the measure t, and what a call of it asks below t
-abbrev at : ℕ → In 4 kinds.ps
-at t = and 4 kinds.ps (is 4 kinds.ps μ t) go.Pre
+-- what the function is given at the measure t, what a call of it asks below t, and what its calls ask and ensure
+abbrev at : ℕ → In 3 kinds.ps
+at t = and 3 kinds.ps (is 3 kinds.ps μ t) go.Pre
 
-abbrev below : ℕ → In 4 kinds.ps
-below t = and 4 kinds.ps (falls 4 kinds.ps _<_ μ t) go.Pre
+abbrev below : ℕ → In 3 kinds.ps
+below t = and 3 kinds.ps (falls 3 kinds.ps _<_ μ t) go.Pre
+
+abbrev calls : ℕ → lts.Claims
+calls t = (wave.Asked, wave.Learnt, below t, go.Post)
 
 module _ (t : ℕ) where
+  -- the places: what the function is given; where it was seen that neither falling nor size is 0; where the next wave is queued
+  abbrev Start : Type 0
+  Start = lts.Start (calls t) (at t) go.Post
+
+  abbrev Left : Type 0
+  Left = lts.Else2 (calls t) (at t) go.Post
+
+  abbrev Looked : Type 0
+  Looked = lts.After-look-wave (calls t) (at t) go.Post
+
+  abbrev start : Left → Start
+  start c = c .before .before
+
+  abbrev left : Looked → Left
+  left c = c .before .before .before .before
+
   -- the sight at entry
-  abbrev entry : lts.Start (wave.Asked, wave.Learnt, below t, go.Post) (at t) go.Post → Sight
-  entry c = let a = c .args in sightOf (now (a .cells)) (now (a .corners)) (a .count) (take (a .size) (now (a .wavefront)))
+  abbrev entry : Start → Sight
+  entry s = let a = s .args in sightOf (now (a .cells)) (now (a .corners)) (a .count) (take (a .size) (now (a .wavefront)))
 
   -- arrays that are left as they are hold the sight at entry
-  same : (c : lts.Start (wave.Asked, wave.Learnt, below t, go.Post) (at t) go.Post) (s : Sight) → entry c ≡ s
-      → Holds s (now (c .args .cells)) (now (c .args .corners)) (c .args .count)
-  same c s e = let a = c .args in held-as (take (a .size) (now (a .wavefront))) (c .pre .1 .0) e
+  same : (s : Start) (t : Sight) → entry s ≡ t → Holds t (now (s .args .cells)) (now (s .args .corners)) (s .args .count)
+  same s t e = let a = s .args in held-as (take (a .size) (now (a .wavefront))) (s .pre .1 .0) e
 
-  returns : lts.Need-returns (wave.Asked, wave.Learnt, below t, go.Post) (at t) go.Post
+  -- there is a wave left
+  falls-on : (c : Left) → 0 < start c .args .falling
+  falls-on c = pos-of-ne-zero (c .before .if1 .left)
+
+  -- the wave's cost is at most 100
+  wave-in : (c : Left) → start c .args .wavefront-cost ≤ 100
+  wave-in c = omega (arith, falls-on c, start c .pre .1 .1 .1 .1)
+
+  returns : lts.Need-returns (calls t) (at t) go.Post
   returns c before k e f =
-      let s = c .before .before in
+      let s = c .before in
       let a = s .args in
       let p : k ≡ k + a .falling = omega (arith, c .if1 .taken) in
       same s _ (f ∙ ap (sightAfter (cornerLine (a .goal)) before (a .goal)) p)
 
-  returns-2 : lts.Need-returns-2 (wave.Asked, wave.Learnt, below t, go.Post) (at t) go.Post
+  returns-2 : lts.Need-returns-2 (calls t) (at t) go.Post
   returns-2 c before k e f =
-      let s = c .before .before .before in
+      let s = c .before .before in
       let a = s .args in
       let empty : take (a .size) (now (a .wavefront)) ≡ [] = ap (λ (n : ℕ). take n (now (a .wavefront))) (c .if2 .taken) in
       let over = sym (ap (λ (s : Sight). s .queue) f) ∙ empty in
       same s _ (f ∙ sym (ended (cornerLine (a .goal)) before (a .goal) k (k + a .falling) (omega arith) over))
 
-  look-wave-requires : lts.Need-look-wave-requires (wave.Asked, wave.Learnt, below t, go.Post) (at t) go.Post
+  look-wave-requires : lts.Need-look-wave-requires (calls t) (at t) go.Post
   look-wave-requires c κs =
-      let tested = c .before .before .before .before in
-      let s = tested .before .before in
-      let p = s .pre .1 in
-      let h : 0 < s .args .falling = pos-of-ne-zero (tested .if1 .left) in
-      let last : s .args .wavefront-cost ≤ 100 = omega (arith, p .1 .1 .1 .0) in
-      (p .0, (p .1 .0, (refl, record { wave-in = last; goal-in = p .1 .1 .0; from-in = p .1 .1 .0; table = p .1 .1 .1 .1 })))
+      let l = c .before .before .before in
+      let p = start l .pre .1 in
+      (p .0, (p .1 .0, (refl, (wave-in l, p .1 .1 .0))))
 
-  add-cost : lts.Need-add-propagate-los (wave.Asked, wave.Learnt, below t, go.Post) (at t) go.Post
-  add-cost c = omega (arith, c .before .before .before .before .before .before .before .before .before .before .pre .1 .1 .1 .1 .0)
+  add-cost : lts.Need-add-propagate-los (calls t) (at t) go.Post
+  add-cost c = let looked = c .before .before .before in omega (arith, wave-in (left looked))
 
-  sub-falling : lts.Need-sub-propagate-los (wave.Asked, wave.Learnt, below t, go.Post) (at t) go.Post
-  sub-falling c = pos-of-ne-zero (c .before .before .before .before .before .before .before .before .if1 .left)
+  sub-falling : lts.Need-sub-propagate-los (calls t) (at t) go.Post
+  sub-falling c = let looked = c .before .before .before in falls-on (left looked)
 
-  propagate-los-requires : lts.Need-propagate-los-requires (wave.Asked, wave.Learnt, below t, go.Post) (at t) go.Post
+  propagate-los-requires : lts.Need-propagate-los-requires (calls t) (at t) go.Post
   propagate-los-requires c κs =
       let looked = c .before .before .before in
-      let tested = looked .before .before .before .before .before in
-      let s = tested .before .before in
+      let s = start (left looked) in
       let a = s .args in
       let p = s .pre .1 .1 .1 in
-      let h : 0 < a .falling = pos-of-ne-zero (tested .if1 .left) in
+      let h = falls-on (left looked) in
       let less : a .falling - 1 < t = omega (arith, s .pre .0) in
-      let last : a .wavefront-cost ≤ 100 = omega (arith, p .1 .0) in
-      let sum : a .wavefront-cost + 1 + (a .falling - 1) ≤ 101 = omega (arith, p .1 .0) in
+      let sum : a .wavefront-cost + 1 + (a .falling - 1) ≤ 101 = omega (arith, p .1) in
       let ready = all-ready (looked .look-wave .ensures) in
-      let begun = sightOf (now (a .cells)) (now (a .corners)) (a .count) [] in
-      let lent = lent-wave (cornerLine (a .goal)) (a .wavefront-cost) last _ begun (take (a .size) (now (a .wavefront))) (p .1 .1) in
-      (less, (all-begins ready, (held-wavefront ready, (p .0, (sum, rw (looked .look-wave .ensures .held .cells-held) lent)))))
+      (less, (all-begins ready, (held-wavefront ready, (p .0, sum))))
 
-  returns-3 : lts.Need-returns-3 (wave.Asked, wave.Learnt, below t, go.Post) (at t) go.Post
+  returns-3 : lts.Need-returns-3 (calls t) (at t) go.Post
   returns-3 c before k e f =
       let looked = c .before .before .before .before in
-      let tested = looked .before .before .before .before .before in
-      let s = tested .before .before in
+      let s = start (left looked) in
       let a = s .args in
       let line = cornerLine (a .goal) in
-      let h : 0 < a .falling = pos-of-ne-zero (tested .if1 .left) in
+      let h = falls-on (left looked) in
       let more : a .wavefront-cost + 1 ≡ suc (suc k) = omega arith in
       let p : suc k + (a .falling - 1) ≡ k + a .falling = omega arith in
       let wave-is = held-all (looked .look-wave .ensures) ∙ wave-next line before (a .goal) k (a .wavefront-cost) (entry s) e f in
@@ -105,5 +122,5 @@ module _ (t : ℕ) where
 
 pub +propagate-los-spec : {M : Type 1} → statement M
 +propagate-los-spec =
-    close μ λ t. lts.spec (wave.Asked, wave.Learnt, below t, go.Post) (at t) go.Post
+    close μ λ t. lts.spec (calls t) (at t) go.Post
     (returns t) (returns-2 t) (look-wave-requires t) (add-cost t) (sub-falling t) (propagate-los-requires t) (returns-3 t)

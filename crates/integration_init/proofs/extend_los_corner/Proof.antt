@@ -1,5 +1,5 @@
--- `integration_init::extend_los_corner` meets its contract: the end that the table holds is the definition's and lies in the sector, and so the
--- line is the definition's.
+-- `integration_init::extend_los_corner` meets its contract: the end that the table holds is the definition's and lies in the sector, and so
+-- the line is the definition's.
 -- Assumes nothing.
 use mathlib.Core.Path.{_≡_, sym, ap, ap₂, subst, _∙_}
 use borrow.Author.Needs.{needs}
@@ -21,7 +21,7 @@ abbrev Ended : Type 0
 Ended = tie.After-from-index2
 
 abbrev start : Ended → tie.Start
-start c = c .before .before .before .before
+start c = c .before .before .before
 
 abbrev from : Ended → FieldCell
 from c = c .before .before .from-index .result
@@ -46,7 +46,7 @@ end-within : (c : Ended) → Inside (end c)
 end-within c = subst Inside (sym (end-is c)) (defined-inside c)
 
 read-end-requires : tie.Need-read-end-requires
-read-end-requires c κs = let w = c .before .before .pre .1 in (w .table, w .from-in, w .goal-in)
+read-end-requires c κs = let w = c .before .pre .1 in (w .from-in, w .goal-in)
 
 mark-line-requires : tie.Need-mark-line-requires
 mark-line-requires c κs =

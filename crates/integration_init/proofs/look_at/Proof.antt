@@ -11,13 +11,12 @@ use Rattle.integration_field.specs.Word.{isLos, isGoal, isBlocked, isImpassable
 use Rattle.started_field.specs.Sight.{wallMet, neighbourLooked}
 use Rattle.started_field.specs.CornerLine.{cornerLine}
 use Rattle.integration_init.proofs.Looks.{all-begins, wall-held, seen-room, seen-held}
-use Rattle.integration_init.proofs.Walls.{table-met}
 use Rattle.integration_init.proofs.look_at.Statement.{statement}
 use Rattle.integration_init.proofs.look_at.Tie as tie
 
 -- the places behind each test that did not hold, and what the function is given
 abbrev start₁ : tie.Else1 → tie.Start
-start₁ c = c .before .before .before .before
+start₁ c = c .before .before .before
 
 abbrev start₂ : tie.Else2 → tie.Start
 start₂ c = start₁ (c .before .before)
@@ -46,7 +45,7 @@ not-los c = sym (c .before .is-los .ensures) ∙ c .if4 .left
 
 returns : tie.Need-returns
 unfolding neighbourLooked
-returns c = rw (sym (c .before .is-blocked .ensures) ∙ c .if1 .taken) (c .before .before .before .before .pre .0)
+returns c = rw (sym (c .before .is-blocked .ensures) ∙ c .if1 .taken) (c .before .before .before .pre .0)
 
 returns-2 : tie.Need-returns-2
 unfolding neighbourLooked
@@ -54,7 +53,6 @@ returns-2 c =
     let tested = c .before .before in
     rw (not-blocked tested, sym (c .before .is-goal .ensures) ∙ c .if2 .taken) (start₁ tested .pre .0)
 
--- a wall: the table is there
 wall-is : (c : tie.Then3) → isImpassable (word (start₂ (c .before .before))) ≡ true
 wall-is c = sym (c .before .is-impassable .ensures) ∙ c .if3 .taken
 
@@ -62,9 +60,7 @@ meet-wall-requires : tie.Need-meet-wall-requires
 meet-wall-requires c κs =
     let met = c .before .before in
     let s = start₂ (met .before .before) in
-    let w = s .pre .1 .0 in
-    let ends = table-met _ (now (s .args .cells)) (s .args .n) (wall-is met) (w .table) in
-    (all-begins (s .pre .0), (record { wave-in = w .wave-in; goal-in = w .goal-in; from-in = w .from-in; table = ends }, s .pre .1 .1))
+    (all-begins (s .pre .0), s .pre .1)
 
 returns-3 : tie.Need-returns-3
 unfolding neighbourLooked

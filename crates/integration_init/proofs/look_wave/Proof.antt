@@ -11,72 +11,81 @@ use lib.Seq.{slice}
 use Rattle.utilities.specs.Compass.{orthogonal}
 use Rattle.started_field.specs.Sight.{Sight, lookedAround, waveLooked}
 use Rattle.started_field.specs.CornerLine.{cornerLine}
-use Rattle.integration_init.specs.Held.{sightOf, ReadyAll, Lent}
+use Rattle.integration_init.specs.Held.{sightOf, ReadyAll}
 use Rattle.integration_init.proofs.Held.{held-all, all-ready}
 use Rattle.integration_init.proofs.Looks.{wave-step, wave-end}
-use Rattle.integration_init.proofs.Walls.{lent-around}
 use Rattle.integration_init.proofs.look_wave.Statement.{statement}
 use Rattle.integration_init.proofs.look_wave.Tie as tie
 
 abbrev Inv-loop : tie.InvT-loop
-Inv-loop cells₀ corners₀ count wavefront size next₀ goal wavefront-cost ends counts₀ i₀ cells corners next counts i =
+Inv-loop cells₀ corners₀ count wavefront size next₀ goal wavefront-cost counts₀ i₀ cells corners next counts i =
     (i ≤ size)
-    × (ReadyAll cells corners (counts .corners) next (counts .queued)
+    × ReadyAll cells corners (counts .corners) next (counts .queued)
     × (waveLooked (cornerLine goal) wavefront-cost (take size wavefront) (sightOf cells₀ corners₀ count [])
     ≡ waveLooked (cornerLine goal) wavefront-cost (slice i size wavefront) (sightOf cells corners (counts .corners) (take (counts .queued) next)))
-    × Lent ends cells)
 
 abbrev μ-loop : tie.MeasureT-loop
-μ-loop cells₀ corners₀ count wavefront size next₀ goal wavefront-cost ends counts₀ i₀ cells corners next counts i = size - i
+μ-loop cells₀ corners₀ count wavefront size next₀ goal wavefront-cost counts₀ i₀ cells corners next counts i = size - i
+
+-- the places: the turn of the loop, its test, where the wave's cell is known, and what the function is given
+abbrev Turn : Type 0
+Turn = tie.At-loop Inv-loop μ-loop
+
+abbrev Told : Type 0
+Told = tie.After-index-of Inv-loop μ-loop
+
+abbrev start : Turn → tie.Start Inv-loop μ-loop
+start c = c .before
+
+abbrev tested : Told → tie.In-loop Inv-loop μ-loop
+tested c = c .before .before
+
+abbrev turn : Told → Turn
+turn c = tested c .before
+
+-- what the arrays hold before the looks from that cell
+abbrev held : Turn → Sight
+held c = let l = c .loop in sightOf (l .cells) (l .corners) (l .counts .corners) (take (l .counts .queued) (l .next))
 
 loop-holds : tie.Need-loop-holds Inv-loop μ-loop
 loop-holds c =
-    let p = c .before .pre in (
-      search needs,
-      (record { room = p .0 .room; held = p .0 .held; full = p .1 .1 .0; queue-held = refl; queued-held = refl }, refl, p .1 .1 .1 .table),
-    )
+    let p = c .pre in
+    (search needs, record { room = p .0 .room; held = p .0 .held; full = p .1 .1 .0; queue-held = refl; queued-held = refl }, refl)
 
 look-around-requires : tie.Need-look-around-requires Inv-loop μ-loop
 look-around-requires c κs =
     let told = c .before .before .before in
-    let turn = told .before .before in
-    let l = turn .before .loop in
-    let s = turn .before .before .before in
-    let w = s .pre .1 .1 .1 in
-    let from-in : told .index-of .result < 100 = omega (arith, told .index-of .ensures, s .pre .1 .0 .cells-in (l .i) (turn .loop-test .taken)) in
-    (l .inv .1 .0, record { wave-in = w .wave-in; goal-in = w .goal-in; from-in = from-in; table = l .inv .1 .2 })
+    let l = turn told .loop in
+    let p = start (turn told) .pre .1 in
+    let from-in : told .index-of .result < 100 = omega (arith, told .index-of .ensures, p .0 .cells-in (l .i) (tested told .loop-test .taken)) in
+    (l .inv .1, record { wave-in = p .1 .1 .0; goal-in = p .1 .1 .1; from-in = from-in })
 
 loop-again : tie.Need-loop-again Inv-loop μ-loop
 loop-again c =
     let told = c .before .before .before .before in
-    let turn = told .before .before in
-    let l = turn .before .loop in
-    let s = turn .before .before .before in
+    let l = turn told .loop in
+    let s = start (turn told) in
     let a = s .args in
-    let w = s .pre .1 .1 .1 in
     let line = cornerLine (a .goal) in
     let long : a .size ≤ length (now (a .wavefront)) = omega (arith, s .pre .1 .0 .full, s .pre .1 .0 .count-in) in
-    let held : Sight = sightOf (l .cells) (l .corners) (l .counts .corners) (take (l .counts .queued) (l .next)) in
     let rest : Sight → Sight = waveLooked line (a .wavefront-cost) (slice (l .i + 1) (a .size) (now (a .wavefront))) in (
       search needs,
-      (
-        all-ready (c .look-around .ensures),
-        l .inv .1 .1
-            ∙ wave-step line (a .wavefront-cost) (now (a .wavefront)) (a .size) (l .i) held (turn .loop-test .taken) long
-            ∙ ap (λ (n : ℕ). rest (lookedAround line (a .wavefront-cost) n orthogonal held)) (sym (told .index-of .ensures))
-            ∙ ap rest (sym (held-all (c .look-around .ensures))),
-        rw (c .look-around .ensures .held .cells-held)
-            (lent-around line (a .wavefront-cost) (w .wave-in) _ held _ _ (l .inv .1 .2)),
-      ),
+      all-ready (c .look-around .ensures),
+      l .inv .2
+          ∙ wave-step line (a .wavefront-cost) (now (a .wavefront)) (a .size) (l .i) (held (turn told)) (tested told .loop-test .taken) long
+          ∙ ap (λ (n : ℕ). rest (lookedAround line (a .wavefront-cost) n orthogonal (held (turn told)))) (sym (told .index-of .ensures))
+          ∙ ap rest (sym (held-all (c .look-around .ensures))),
     )
 
 returns : tie.Need-returns Inv-loop μ-loop
-returns c = let a = c .before .before .before .args in let l = c .before .loop in
-    let s : Sight = sightOf (l .cells) (l .corners) (l .counts .corners) (take (l .counts .queued) (l .next)) in
+returns c =
+    let l = c .before .loop in
+    let a = start (c .before) .args in
+    let s = held (c .before) in
     let e : l .i ≡ a .size = omega arith in
-    rw (l .inv .1 .1
+    rw (l .inv .2
     ∙ ap (λ (k : ℕ). waveLooked (cornerLine (a .goal)) (a .wavefront-cost) (slice k (a .size) (now (a .wavefront))) s) e
-    ∙ wave-end (cornerLine (a .goal)) (a .wavefront-cost) (now (a .wavefront)) (a .size) s) (l .inv .1 .0)
+    ∙ wave-end (cornerLine (a .goal)) (a .wavefront-cost) (now (a .wavefront)) (a .size) s) (l .inv .1)
 
 pub look-wave-spec : {M : Type 1} → statement M
 look-wave-spec = tie.close (tie.spec

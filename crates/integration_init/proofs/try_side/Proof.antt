@@ -16,7 +16,7 @@ use Rattle.integration_init.proofs.try_side.Tie as tie
 
 -- the places: behind the look beside the cell, and behind the one beside the wall, with what the function is given
 abbrev start₁ : tie.After-open-side → tie.Start
-start₁ c = c .before .before .before
+start₁ c = c .before .before
 
 abbrev first : tie.After-open-side2 → tie.After-open-side
 first c = c .before .before .before .before
@@ -69,7 +69,7 @@ extend-los-corner-requires c κs =
     let told = c .before .before in
     let s = start₂ (at-wall (told .before)) in
     let w = s .pre .1 .0 in
-    (s .pre .0, record { wave-in = w .wave-in; goal-in = w .goal-in; from-in = index told .1; table = w .table })
+    (s .pre .0, record { wave-in = w .wave-in; goal-in = w .goal-in; from-in = index told .1 })
 
 returns-3 : tie.Need-returns-3
 unfolding sideTried
