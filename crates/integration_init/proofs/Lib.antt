@@ -1,5 +1,6 @@
 pub mod Held
 pub mod Marks
+pub mod Masks
 pub mod Looks
 pub mod Waves
 pub mod Lines

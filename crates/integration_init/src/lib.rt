@@ -15,6 +15,7 @@ use route::WindowCells;
 use started_field::InitAnswer;
 use utilities::CompassDir;
 ghost use mathlib.Core.Path.{_≡_};
+ghost use mathlib.Core.Bool.{not, _||_};
 ghost use mathlib.Core.List.{List, [], map};
 ghost use Prim.Native.Nat.{ℕ, suc, _+_, _<_, _≤_};
 ghost use lib.ListN.{length, take};
@@ -22,6 +23,7 @@ ghost use Rattle.utilities.specs.Compass.{orthogonal};
 ghost use Rattle.fields.specs.Cell.{cellAt, indexOf, stepped};
 ghost use Rattle.integration_field.specs.Listed.{padded, Indexes, withCorners};
 ghost use Rattle.route.specs.Target.{targetOf};
+ghost use Rattle.integration_field.specs.Word.{isLos, isGoal, isBlocked, isImpassable};
 ghost use Rattle.integration_field.specs.Diagonal.{wallAt};
 ghost use Rattle.route.specs.Inner.{heldCells, heldTarget, WindowHeld, TargetHeld};
 ghost use Rattle.started_field.specs.Started.{startedAt, startedFrom, started, initRefused, initAnswer, StartedField};
@@ -212,7 +214,15 @@ fn meet_wall(
     )
 }
 
-// Looks at neighbour n of cell `from`: it is left as it is, or is a wall and met, or comes into sight and is queued.
+// Whether a neighbour comes into sight: its word has neither BLOCKED nor GOAL nor IMPASSABLE nor LOS, which one mask tells.
+fn comes_into_sight(cost: u32) -> bool
+    ensures { λ r. ⌜ r ≡ not ((isBlocked cost || isGoal cost) || (isImpassable cost || isLos cost)) ⌝ }
+{
+    cost & (INT_BITS_WAVE_BLOCKED | INT_BITS_GOAL | INT_BITS_IMPASSABLE | INT_BITS_LOS) == 0
+}
+
+// Looks at neighbour n of cell `from`: it comes into sight and is queued, or is a wall and met, or is left as it is. Whether it comes into
+// sight is asked first, with one test; the others are for the rest.
 fn look_at(
     cells: &mut [u32; 100],
     corners: &mut [usize; 100],
@@ -232,6 +242,14 @@ fn look_at(
     let listed = counts.corners;
     let queued = counts.queued;
     let cost = cells[n];
+    if comes_into_sight(cost) {
+        cells[n] = wavefront_cost + INT_BITS_LOS;
+        queue[queued] = n as u8;
+        return Counts {
+            corners: listed,
+            queued: queued + 1,
+        };
+    }
     if integration_bits::is_blocked(cost) {
         return counts;
     }
@@ -242,15 +260,8 @@ fn look_at(
         let corners = meet_wall(cells, corners, listed, from, n, dir, goal, wavefront_cost);
         return Counts { corners, queued };
     }
-    if integration_bits::is_los(cost) {
-        return counts;
-    }
-    cells[n] = wavefront_cost + INT_BITS_LOS;
-    queue[queued] = n as u8;
-    Counts {
-        corners: listed,
-        queued: queued + 1,
-    }
+    // It is in sight already.
+    counts
 }
 
 // Looks at the neighbour of cell `from` in one direction, where there is one.
