@@ -1,1 +1,2 @@
 pub mod Wavefront
+pub mod Inner

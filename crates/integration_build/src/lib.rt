@@ -5,16 +5,20 @@ use integration_field::BuildAnswer;
 use integration_field::IntegrationField;
 use utilities::CompassDir;
 ghost use mathlib.Core.Path.{_≡_};
+ghost use mathlib.Core.Bool.{_&&_};
 ghost use Prim.Native.Nat.{_<_, _≤_};
+ghost use lib.Dec.{eqb};
 ghost use lib.ListN.{length, take};
 ghost use Rattle.utilities.specs.Compass.{orthogonal};
+ghost use Rattle.utilities.specs.Padded.{padded as paddedTo};
 ghost use Rattle.fields.specs.Cell.{cellAt, stepped};
 ghost use Rattle.integration_field.specs.Listed.{listOf, padded, Indexes};
-ghost use Rattle.integration_field.specs.Wave.{isWritten, relaxed, offered, offeredAround, offeredBy, changedFrom};
+ghost use Rattle.integration_field.specs.Wave.{isWritten, relaxed, offered, offeredAround, offeredBy};
 ghost use Rattle.integration_field.specs.Answer.{answerOf, allCells, Accepted, buildAnswer};
 ghost use Rattle.integration_field.specs.Promise.{LeastWalks, Counted, EarliestCorners};
 ghost use Rattle.least_walks.specs.Promise.{BuildsStarted};
 ghost use Rattle.integration_build.specs.Wavefront.{Settles};
+ghost use Rattle.integration_build.specs.Inner.{ChangedCells};
 
 // A cost byte as a number of a cell's width.
 fn wide(cost: u8) -> u32
@@ -36,88 +40,119 @@ fn is_written(old: u32, sum: u32) -> bool
     sum < integration_bits::low_bits(old)
 }
 
-// A sum offered to a cell.
-fn relax(cells: &mut [u32; 100], index: usize, sum: u32)
-    requires { ⌜ index < 100 ⌝ }
-    ensures { λ _. ⌜ now (cells .exit) ≡ relaxed sum index (now (cells .entry)) ⌝ }
+// Whether an offer is the first of this wave that is written to a cell: the cell still held its word from before the wave.
+fn is_first(written: bool, old: u32, before: u32) -> bool
+    ensures { λ r. ⌜ r ≡ (written && eqb old before) ⌝ }
 {
-    let old = cells[index];
-    // written in either case: no branch depends on a cell
-    let new = if is_written(old, sum) { sum } else { old };
-    cells[index] = new;
+    written & (old == before)
 }
 
-// A value offered to the neighbour in one direction: the sum is compared before it is cut to 16 bits.
-fn offer_towards(cells: &mut [u32; 100], costs: &[u8], value: u32, cell: usize, dir: CompassDir)
-    requires { ⌜ (value < 65536) × (length (now costs) ≡ 100) ⌝ }
-    ensures { λ _. ⌜ now (cells .exit) ≡ offered (now (costs .entry)) value (stepped (cellAt cell) dir) (now (cells .entry)) ⌝ }
+// A sum offered to a cell. The first that is written to it lists the cell, so that each changed cell is listed once. Answers how many are listed.
+fn relax(
+    cells: &mut [u32; 100],
+    before: &[u32; 100],
+    next: &mut [u8; 101],
+    found: usize,
+    index: usize,
+    sum: u32,
+) -> usize
+    requires { ⌜ (index < 100) × ChangedCells (now before) (now cells) (now next) found ⌝ }
+    ensures offers { λ _. ⌜ now (cells .exit) ≡ relaxed sum index (now (cells .entry)) ⌝ }
+    ensures changes { λ r. ⌜ ChangedCells (now (before .entry)) (now (cells .exit)) (now (next .exit)) r ⌝ }
+{
+    let old = cells[index];
+    let written = is_written(old, sum);
+    // Both are written in either case, and the list has a place more than there are cells: no branch depends on a cell.
+    let new = if written { sum } else { old };
+    cells[index] = new;
+    next[found] = index as u8;
+    let first = is_first(written, old, before[index]);
+    found + first as usize
+}
+
+// A value offered to the neighbour in one direction: the sum is compared before it is cut to 16 bits. Answers how many cells are listed.
+fn offer_towards(
+    cells: &mut [u32; 100],
+    costs: &[u8],
+    before: &[u32; 100],
+    next: &mut [u8; 101],
+    found: usize,
+    value: u32,
+    cell: usize,
+    dir: CompassDir,
+) -> usize
+    requires { ⌜ (value < 65536) × ((length (now costs) ≡ 100) × ChangedCells (now before) (now cells) (now next) found) ⌝ }
+    ensures offers { λ _. ⌜ now (cells .exit) ≡ offered (now (costs .entry)) value (stepped (cellAt cell) dir) (now (cells .entry)) ⌝ }
+    ensures changes { λ r. ⌜ ChangedCells (now (before .entry)) (now (cells .exit)) (now (next .exit)) r ⌝ }
 {
     let from = FieldCell::from_index(cell);
     let Stepped::Cell(neighbour) = from.get_in_compass_direction(dir) else {
-        return;
+        return found;
     };
     let index = neighbour.as_1d_index();
     let cost = wide(costs[index]);
     let sum = value + cost;
-    relax(cells, index, sum);
+    relax(cells, before, next, found, index, sum)
 }
 
-// A value offered to the four neighbours.
-fn offer_around(cells: &mut [u32; 100], costs: &[u8], value: u32, cell: usize)
-    requires { ⌜ (value < 65536) × (length (now costs) ≡ 100) ⌝ }
-    ensures { λ _. ⌜ now (cells .exit) ≡ offeredAround (now (costs .entry)) value (cellAt cell) orthogonal (now (cells .entry)) ⌝ }
+// A value offered to the four neighbours. Answers how many cells are listed.
+fn offer_around(
+    cells: &mut [u32; 100],
+    costs: &[u8],
+    before: &[u32; 100],
+    next: &mut [u8; 101],
+    found: usize,
+    value: u32,
+    cell: usize,
+) -> usize
+    requires { ⌜ (value < 65536) × ((length (now costs) ≡ 100) × ChangedCells (now before) (now cells) (now next) found) ⌝ }
+    ensures offers { λ _. ⌜ now (cells .exit) ≡ offeredAround (now (costs .entry)) value (cellAt cell) orthogonal (now (cells .entry)) ⌝ }
+    ensures changes { λ r. ⌜ ChangedCells (now (before .entry)) (now (cells .exit)) (now (next .exit)) r ⌝ }
 {
-    offer_towards(cells, costs, value, cell, CompassDir::North);
-    offer_towards(cells, costs, value, cell, CompassDir::East);
-    offer_towards(cells, costs, value, cell, CompassDir::South);
-    offer_towards(cells, costs, value, cell, CompassDir::West);
+    let north = CompassDir::North;
+    let east = CompassDir::East;
+    let south = CompassDir::South;
+    let west = CompassDir::West;
+    let one = offer_towards(cells, costs, before, next, found, value, cell, north);
+    let two = offer_towards(cells, costs, before, next, one, value, cell, east);
+    let three = offer_towards(cells, costs, before, next, two, value, cell, south);
+    offer_towards(cells, costs, before, next, three, value, cell, west)
 }
 
-// The offers of a wavefront's cells, each from the value that the wave before left.
+// The offers of a wavefront's cells, each from the value that the wave before left. The cells that they change are listed; answers how many.
 fn offer_wave(
     cells: &mut [u32; 100],
     costs: &[u8],
     before: &[u32; 100],
-    wave: &[u8; 100],
+    wave: &[u8; 101],
     count: usize,
-)
-    requires { ⌜ (Indexes 100 (now wave) count) × (length (now costs) ≡ 100) ⌝ }
-    ensures { λ _. ⌜ now (cells .exit) ≡ offeredBy (now (costs .entry)) (now (before .entry)) (take count (now (wave .entry))) (now (cells .entry)) ⌝ }
+    next: &mut [u8; 101],
+) -> usize
+    requires { ⌜ (Indexes 101 (now wave) count) × ((length (now costs) ≡ 100) × ChangedCells (now before) (now cells) (now next) 0) ⌝ }
+    ensures offers { λ _. ⌜ now (cells .exit) ≡ offeredBy (now (costs .entry)) (now (before .entry)) (take count (now (wave .entry))) (now (cells .entry)) ⌝ }
+    ensures changes { λ r. ⌜ ChangedCells (now (before .entry)) (now (cells .exit)) (now (next .exit)) r ⌝ }
 {
+    let mut found = 0;
     let mut i = 0;
     while i < count {
         let cell = fields::index_of(wave[i]);
         let value = integration_bits::low_bits(before[cell]);
-        offer_around(cells, costs, value, cell);
+        found = offer_around(cells, costs, before, next, found, value, cell);
         i += 1;
     }
+    found
 }
 
-// The cells that a wave changed, each once, in the order of their indexes. Answers how many.
-fn changed(before: &[u32; 100], after: &[u32; 100], next: &mut [u8; 100]) -> usize
-    requires { ⌜ (length (now before) ≡ 100) × ((length (now after) ≡ 100) × (length (now next) ≡ 100)) ⌝ }
-    ensures { λ r. ⌜ (Indexes 100 (now (next .exit)) r) × (take r (now (next .exit)) ≡ changedFrom 0 (now (before .entry)) (now (after .entry))) ⌝ }
-{
-    let mut count = 0;
-    let mut i = 0;
-    while i < 100 {
-        // written before it is known to count: no branch depends on a cell
-        next[count] = i as u8;
-        count += (before[i] != after[i]) as usize;
-        i += 1;
-    }
-    count
-}
-
-// The waves from a wavefront on, one a call, at most `fuel` of them. Answers how many changed a cell.
+// The waves from a wavefront on, one a call, at most `fuel` of them. Answers how many changed a cell. A wavefront has 100 places for cells and
+// one behind them, which is written and never read.
 fn propagate_integrated_wavefront(
     costs: &[u8],
     cells: &mut [u32; 100],
-    wavefront: &[u8; 100],
+    wavefront: &[u8; 101],
     count: usize,
     fuel: usize,
 ) -> usize
-    requires { ⌜ (Indexes 100 (now wavefront) count) × ((length (now cells) ≡ 100) × (length (now costs) ≡ 100)) ⌝ }
+    requires { ⌜ (Indexes 101 (now wavefront) count) × ((count ≤ 100) × ((length (now cells) ≡ 100) × (length (now costs) ≡ 100))) ⌝ }
     ensures { λ r. ⌜ Settles (now (costs .entry)) (now (cells .entry)) (take count (now (wavefront .entry))) fuel (now (cells .exit)) r ⌝ }
 {
     if fuel == 0 {
@@ -128,9 +163,8 @@ fn propagate_integrated_wavefront(
         return 0;
     }
     let before = *cells;
-    offer_wave(cells, costs, &before, wavefront, count);
-    let mut next: [u8; 100] = [0; 100];
-    let some = changed(&before, cells, &mut next);
+    let mut next: [u8; 101] = [0; 101];
+    let some = offer_wave(cells, costs, &before, wavefront, count, &mut next);
     if some == 0 {
         return 0;
     }
@@ -166,11 +200,11 @@ fn clear_beyond(corners: &mut [usize; 100], count: usize)
 }
 
 // Wave 0: the listed corners, and 0 in the places beyond them.
-fn corner_wave(corners: &[usize; 100], count: usize) -> [u8; 100]
+fn corner_wave(corners: &[usize; 100], count: usize) -> [u8; 101]
     requires { ⌜ Indexes 100 (now corners) count ⌝ }
-    ensures { λ r. ⌜ r ≡ padded (take count (now (corners .entry))) ⌝ }
+    ensures { λ r. ⌜ r ≡ paddedTo 101 0 (take count (now (corners .entry))) ⌝ }
 {
-    let mut cells: [u8; 100] = [0; 100];
+    let mut cells: [u8; 101] = [0; 101];
     let mut i = 0;
     while i < count {
         cells[i] = corners[i] as u8;

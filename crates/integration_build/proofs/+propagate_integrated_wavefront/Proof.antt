@@ -1,16 +1,16 @@
 -- `integration_build::propagate_integrated_wavefront` meets its contract. It calls itself with one less of `fuel`, which is its measure.
 -- Assumes nothing.
-use mathlib.Core.Path.{refl, _∙_}
-use Prim.Native.Nat.{ℕ, _+_, _-_, _<_}
+use mathlib.Core.Path.{refl}
+use Prim.Native.Nat.{ℕ, _-_, _<_}
 use native.Mathlib.Nat.{pos-of-ne-zero}
 use native.Mathlib.Omega.{arith}
 use borrow.Fn.Kinds.{In}
 use borrow.Fn.PlainCycle.{Measures, is, falls, and}
-use Rattle.integration_build.proofs.Recursion.{new-length, settles-none, settles-empty, settles-still, settles-more}
+use Rattle.integration_build.proofs.Changed.{changed-none, changed-few}
+use Rattle.integration_build.proofs.Recursion.{settles-none, settles-empty, settles-still, settles-more}
 use Rattle.integration_build.proofs.propagate_integrated_wavefront.Reads as go
 use Rattle.integration_build.proofs.propagate_integrated_wavefront.Kinds as kinds
 use Rattle.integration_build.proofs.+propagate_integrated_wavefront.Lts-propagate_integrated_wavefront as lts
-use Rattle.integration_build.proofs.changed.Reads as changed
 use Rattle.integration_build.proofs.offer_wave.Reads as offers
 use Rattle.integration_build.proofs.+propagate_integrated_wavefront.{statement}
 use Rattle.integration_build.proofs.+propagate_integrated_wavefront.Tie.{close}
@@ -26,7 +26,7 @@ abbrev below : ℕ → In 3 kinds.ps
 below t = and 3 kinds.ps (falls 3 kinds.ps _<_ μ t) go.Pre
 
 abbrev calls : ℕ → lts.Claims
-calls t = (offers.Asked, offers.Learnt, changed.Asked, changed.Learnt, below t, go.Post)
+calls t = (offers.Asked, offers.Learnt, below t, go.Post)
 
 module _ (t : ℕ) where
   -- where the wave's offers are made; where it was seen that there is fuel; the call
@@ -34,7 +34,7 @@ module _ (t : ℕ) where
   Made = lts.After-offer-wave (calls t) (at t) go.Post
 
   abbrev fuelled : Made → lts.Else1 (calls t) (at t) go.Post
-  fuelled m = m .before .before .before .before .before
+  fuelled m = m .before .before .before .before .before .before
 
   abbrev start : Made → lts.Start (calls t) (at t) go.Post
   start m = fuelled m .before .before
@@ -50,48 +50,41 @@ module _ (t : ℕ) where
 
   offer-wave-requires : lts.Need-offer-wave-requires (calls t) (at t) go.Post
   offer-wave-requires c κs =
-      let some = c .before .before in
+      let some = c .before .before .before in
       let p = some .before .before .before .before .pre .1 in
-      (p .0, p .1 .1)
-
-  changed-requires : lts.Need-changed-requires (calls t) (at t) go.Post
-  changed-requires c κs =
-      let m = c .before .before .before in
-      let long = start m .pre .1 .1 .0 in
-      (long, (new-length _ _ _ (m .offer-wave .ensures) ∙ long, refl))
+      (p .0, (p .1 .1 .1, changed-none _ _ (p .1 .1 .0) refl))
 
   returns-3 : lts.Need-returns-3 (calls t) (at t) go.Post
   returns-3 c =
-      let found = c .before in
-      let m = found .before .before .before .before in
-      settles-still _ _ _ _ _ _ (m .offer-wave .ensures) (found .changed .ensures) _ (c .if3 .taken)
+      let m = c .before in
+      let made = m .offer-wave .ensures in
+      settles-still _ _ _ _ _ _ (start m .pre .1 .1 .1 .0) (made .0) (made .1) _ (c .if3 .taken)
 
   sub-fuel : lts.Need-sub-propagate-integrated-wavefront (calls t) (at t) go.Post
-  sub-fuel c = let found = c .before .before .before in some-fuel (found .before .before .before .before)
+  sub-fuel c = some-fuel (c .before .before .before)
 
   go-requires : lts.Need-propagate-integrated-wavefront-requires (calls t) (at t) go.Post
   go-requires c κs =
-      let found = c .before .before .before in
-      let m = found .before .before .before .before in
+      let m = c .before .before .before in
       let p = start m .pre in
+      let found = m .offer-wave .ensures .1 in
       let less : start m .args .fuel - 1 < t = omega (arith, p .0, some-fuel m) in
-      (less, (found .changed .ensures .0, (new-length _ _ _ (m .offer-wave .ensures) ∙ p .1 .1 .0, p .1 .1 .1)))
+      (less, (found .indexes, (changed-few found, (found .full, p .1 .1 .1 .1))))
 
   add-waves : lts.Need-add-result (calls t) (at t) go.Post
   add-waves c =
-      let found = c .before .before .before .before in
-      let m = found .before .before .before .before in
+      let m = c .before .before .before .before in
       omega (arith, c .propagate-integrated-wavefront .ensures .within, start m .fits .fuel, some-fuel m)
 
   returns-4 : lts.Need-returns-4 (calls t) (at t) go.Post
   returns-4 c =
       let more = c .before .before .before in
-      let found = more .before in
-      let m = found .before .before .before .before in
-      settles-more _ _ _ _ _ _ (m .offer-wave .ensures) (found .changed .ensures) _ _ _ (fuelled m .if1 .left) (more .if3 .left)
+      let m = more .before in
+      let made = m .offer-wave .ensures in
+      settles-more _ _ _ _ _ _ (start m .pre .1 .1 .1 .0) (made .0) (made .1) _ _ _ (fuelled m .if1 .left) (more .if3 .left)
       (c .propagate-integrated-wavefront .ensures)
 
 pub +propagate-integrated-wavefront-spec : {M : Type 1} → statement M
 +propagate-integrated-wavefront-spec =
     close μ λ t. lts.spec (calls t) (at t) go.Post
-    (returns t) (returns-2 t) (offer-wave-requires t) (changed-requires t) (returns-3 t) (sub-fuel t) (go-requires t) (add-waves t) (returns-4 t)
+    (returns t) (returns-2 t) (offer-wave-requires t) (returns-3 t) (sub-fuel t) (go-requires t) (add-waves t) (returns-4 t)

@@ -7,7 +7,8 @@ use native.Mathlib.Omega.{arith}
 use lib.ListN.{length}
 use denote.Ref.{now}
 use borrow.Author.Needs.{needs}
-use Rattle.integration_field.specs.Listed.{padded, listOf}
+use Rattle.utilities.specs.Padded.{padded as paddedTo}
+use Rattle.integration_field.specs.Listed.{listOf}
 use Rattle.integration_field.specs.Build.{Built, build}
 use Rattle.integration_field.specs.Position.{positions}
 use Rattle.integration_build.proofs.Recursion.{listed, corners-indexes, built-cells, built-is}
@@ -28,20 +29,22 @@ corner-wave-requires : tie.Need-corner-wave-requires
 corner-wave-requires c κs =
     let m = c .before .before in
     let s = start m in
-    corners-indexes (now (s .args .costs)) (s .args .given) (long s) (s .pre) _ (m .clear-beyond .ensures)
+    corners-indexes (now (s .args .costs)) (s .args .given) (long s) (s .pre) 100 (omega arith) _ (m .clear-beyond .ensures) _ (omega arith)
 
 -- the first wave is the list as well
-wave : (c : tie.After-corner-wave) → let s = start (c .before .before .before) in c .corner-wave .result ≡ padded (listOf (s .args .given))
+wave : (c : tie.After-corner-wave) → let s = start (c .before .before .before) in c .corner-wave .result ≡ paddedTo 101 0 (listOf (s .args .given))
 wave c =
     let m = c .before .before .before in
     let s = start m in
-    c .corner-wave .ensures ∙ ap padded (listed (now (s .args .costs)) (s .args .given) (long s) (s .pre) _ (m .clear-beyond .ensures))
+    let same = listed (now (s .args .costs)) (s .args .given) (long s) (s .pre) 100 (omega arith) _ (m .clear-beyond .ensures) in
+    c .corner-wave .ensures ∙ ap (paddedTo 101 0) same
 
 propagate-integrated-wavefront-requires : tie.Need-propagate-integrated-wavefront-requires
 propagate-integrated-wavefront-requires c κs =
     let w = c .before .before in
     let s = start (w .before .before .before) in
-    (corners-indexes (now (s .args .costs)) (s .args .given) (long s) (s .pre) _ (wave w), (full s, s .pre .costs-hundred))
+    let cells = corners-indexes (now (s .args .costs)) (s .args .given) (long s) (s .pre) 101 (omega arith) _ (wave w) (s .args .given .count) (omega arith) in
+    (cells, (s .pre .count-in, (full s, s .pre .costs-hundred)))
 
 corner-positions-requires : tie.Need-corner-positions-requires
 corner-positions-requires c κs =
@@ -52,13 +55,14 @@ corner-positions-requires c κs =
     let costs = now (s .args .costs) in
     let f = s .args .given in
     let e = m .clear-beyond .ensures in
-    let left = built-cells costs f (long s) (s .pre) _ (wave w) (full s) (p .propagate-integrated-wavefront .ensures) (omega arith) in (
+    let same = listed costs f (long s) (s .pre) 100 (omega arith) _ e in
+    let left = built-cells costs f (long s) (s .pre) 101 (omega arith) _ (wave w) (full s) (p .propagate-integrated-wavefront .ensures) (omega arith) in (
       s .pre .costs-hundred,
       (
         full s,
         (
-          corners-indexes costs f (long s) (s .pre) _ e,
-          ap (λ (b : Built). b .cells) left ∙ ap (λ (l : List ℕ). build costs (f .field) l .cells) (sym (listed costs f (long s) (s .pre) _ e)),
+          corners-indexes costs f (long s) (s .pre) 100 (omega arith) _ e _ (omega arith),
+          ap (λ (b : Built). b .cells) left ∙ ap (λ (l : List ℕ). build costs (f .field) l .cells) (sym same),
         ),
       ),
     )
@@ -72,9 +76,10 @@ returns c =
     let costs = now (s .args .costs) in
     let f = s .args .given in
     let e = m .clear-beyond .ensures in
-    let left = built-cells costs f (long s) (s .pre) _ (wave w) (full s) (p .propagate-integrated-wavefront .ensures) (omega arith) in
+    let same = listed costs f (long s) (s .pre) 100 (omega arith) _ e in
+    let left = built-cells costs f (long s) (s .pre) 101 (omega arith) _ (wave w) (full s) (p .propagate-integrated-wavefront .ensures) (omega arith) in
     built-is costs f (long s) (s .pre) _ e left
-    (c .corner-positions .ensures ∙ ap (positions costs (f .field)) (listed costs f (long s) (s .pre) _ e))
+    (c .corner-positions .ensures ∙ ap (positions costs (f .field)) same)
 
 pub built-spec : {M : Type 1} → statement M
 built-spec =

@@ -4,7 +4,6 @@ use mathlib.Core.Path.{ap, _∙_}
 use mathlib.Core.List.{List}
 use Prim.Native.Nat.{ℕ}
 use denote.Ref.{now}
-use borrow.Author.Needs.{needs}
 use Rattle.utilities.specs.declared.CompassDir.{CompassDir}
 use Rattle.utilities.specs.declared.CompassDir.the-variants.{East, South, West}
 use Rattle.fields.specs.Cell.{stepped, cellAt}
@@ -12,34 +11,52 @@ use Rattle.integration_field.specs.Wave.{offered, offeredAround}
 use Rattle.integration_build.proofs.offer_around.Statement.{statement}
 use Rattle.integration_build.proofs.offer_around.Tie as tie
 
-offer-towards-requires : tie.Need-offer-towards-requires
-offer-towards-requires c κs = search needs
+-- the call, from where the first offer is made; and the first three offers, each from the next
+abbrev start : tie.After-offer-towards → tie.Start
+start c = c .before .before .before .before
+
+abbrev north : tie.After-offer-towards2 → tie.After-offer-towards
+north c = c .before .before .before
+
+abbrev east : tie.After-offer-towards3 → tie.After-offer-towards2
+east c = c .before .before .before
 
 offer-towards-requires-2 : tie.Need-offer-towards-requires-2
-offer-towards-requires-2 c κs = search needs
+offer-towards-requires-2 c κs =
+    let n = c .before .before in
+    let p = start n .pre in
+    (p .0, (p .1 .0, n .offer-towards .ensures .1))
 
 offer-towards-requires-3 : tie.Need-offer-towards-requires-3
-offer-towards-requires-3 c κs = search needs
+offer-towards-requires-3 c κs =
+    let e = c .before .before in
+    let p = start (north e) .pre in
+    (p .0, (p .1 .0, e .offer-towards2 .ensures .1))
 
 offer-towards-requires-4 : tie.Need-offer-towards-requires-4
-offer-towards-requires-4 c κs = search needs
+offer-towards-requires-4 c κs =
+    let s = c .before .before in
+    let p = start (north (east s)) .pre in
+    (p .0, (p .1 .0, s .offer-towards3 .ensures .1))
 
 returns : tie.Need-returns
 unfolding offeredAround
 returns c =
-    let south = c .before .before in
-    let east = south .before .before in
-    let north = east .before .before in
-    let a = north .before .before .before .args in
-    let go : CompassDir → List ℕ → List ℕ = λ d x. offered (now (a .costs)) (a .value) (stepped (cellAt (a .cell)) d) x in
-    c .offer-towards4 .ensures
-    ∙ ap (go West) (south .offer-towards3 .ensures ∙ ap (go South) (east .offer-towards2 .ensures ∙ ap (go East) (north .offer-towards .ensures)))
+    let s = c .before .before .before in
+    let e = east s in
+    let n = north e in
+    let a = start n .args in
+    let go : CompassDir → List ℕ → List ℕ = λ d x. offered (now (a .costs)) (a .value) (stepped (cellAt (a .cell)) d) x in (
+      c .offer-towards4 .ensures .0
+          ∙ ap (go West) (s .offer-towards3 .ensures .0 ∙ ap (go South) (e .offer-towards2 .ensures .0 ∙ ap (go East) (n .offer-towards .ensures .0))),
+      c .offer-towards4 .ensures .1,
+    )
 
 pub offer-around-spec : {M : Type 1} → statement M
 offer-around-spec =
     tie.close
     (tie.spec
-    offer-towards-requires
+    (λ c κs. c .before .before .before .pre)
     offer-towards-requires-2
     offer-towards-requires-3
     offer-towards-requires-4

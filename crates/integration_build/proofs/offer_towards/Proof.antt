@@ -18,9 +18,12 @@ use Rattle.integration_build.proofs.offer_towards.Tie as tie
 returns : tie.Need-returns
 returns c =
     let step = c .before .before in
-    let a = step .before .before .before .args in
-    ap (λ (s : Stepped). offered (now (a .costs)) (a .value) s (now (a .cells)))
-    (sym (step-told _ _ (step .before .from-index .ensures) (step .get-in-compass-direction .ensures .0) (c .enum-told .given .1)))
+    let s = step .before .before .before in
+    let a = s .args in (
+      ap (λ (t : Stepped). offered (now (a .costs)) (a .value) t (now (a .cells)))
+          (sym (step-told _ _ (step .before .from-index .ensures) (step .get-in-compass-direction .ensures .0) (c .enum-told .given .1))),
+      s .pre .1 .1,
+    )
 
 -- the call, and where its step arrives
 abbrev start : tie.After-known-told → tie.Start
@@ -38,19 +41,21 @@ index : (c : tie.After-as-1d-index) → let i = c .as-1d-index .result in (i ≡
 index c = index-told (stepped-cell _ _ _ (arrives (c .before)) .within) (c .as-1d-index .ensures)
 
 shared-slice-read-wide : tie.Need-shared-slice-read-wide
-shared-slice-read-wide c = omega (arith, index (c .before) .1, start (c .before .before) .pre .1)
+shared-slice-read-wide c = omega (arith, index (c .before) .1, start (c .before .before) .pre .1 .0)
 
 relax-requires : tie.Need-relax-requires
-relax-requires c κs = index (c .before .before .before) .1
+relax-requires c κs = let found = c .before .before .before .before in (index found .1, start (found .before) .pre .1 .1)
 
 returns-2 : tie.Need-returns-2
 returns-2 c =
-    let found = c .before .before .before .before in
-    let a = start (found .before) .args in
-    c .relax .ensures
-    ∙ ap (λ (w : ℕ). relaxed (a .value + w) (found .as-1d-index .result) (now (a .cells))) (c .before .before .wide .ensures .0)
-    ∙ ap (λ (i : ℕ). relaxed (a .value + getD (now (a .costs)) i 0) i (now (a .cells))) (index found .0)
-    ∙ sym (ap (λ (s : Stepped). offered (now (a .costs)) (a .value) s (now (a .cells))) (arrives (found .before)))
+    let found = c .before .before .before .before .before in
+    let a = start (found .before) .args in (
+      c .relax .ensures .0
+          ∙ ap (λ (w : ℕ). relaxed (a .value + w) (found .as-1d-index .result) (now (a .cells))) (c .before .before .before .wide .ensures .0)
+          ∙ ap (λ (i : ℕ). relaxed (a .value + getD (now (a .costs)) i 0) i (now (a .cells))) (index found .0)
+          ∙ sym (ap (λ (s : Stepped). offered (now (a .costs)) (a .value) s (now (a .cells))) (arrives (found .before))),
+      c .relax .ensures .1,
+    )
 
 pub offer-towards-spec : {M : Type 1} → statement M
 offer-towards-spec = tie.close (tie.spec

@@ -1,0 +1,21 @@
+-- What holds while a wave's offers are made (01, "Integration: build"). A reader of the promises needs none of it.
+-- Assumes nothing.
+use mathlib.Core.Path.{_≡_}
+use mathlib.Core.List.{List}
+use Prim.Native.Nat.{ℕ, _<_, _≤_}
+use lib.ListN.{length, getD}
+use Rattle.integration_field.specs.Word.{low}
+use Rattle.integration_field.specs.Listed.{Indexes}
+
+-- a cell's word is no longer the one before the wave
+abbrev pub Differs : List ℕ → List ℕ → ℕ → Type 0
+Differs before cells x = getD cells x 0 ≡ getD before x 0 → ⊥
+
+-- The first `found` places of `next` hold the cells whose word is no longer the one before the wave, each once; and values have only fallen.
+pub record ChangedCells (before cells next : List ℕ) (found : ℕ) : Type 0 where
+  pub full : length cells ≡ 100
+  pub indexes : Indexes 101 next found
+  pub once : (i j : ℕ) → i < j → j < found → getD next i 0 ≡ getD next j 0 → ⊥
+  pub differs : (i : ℕ) → i < found → Differs before cells (getD next i 0)
+  pub listed : (x : ℕ) → Differs before cells x → (i : ℕ) × (i < found) × (getD next i 0 ≡ x)
+  pub fallen : (x : ℕ) → low (getD cells x 0) ≤ low (getD before x 0)
