@@ -3,6 +3,7 @@
 --     walk-least      no corner before a cell's position has a walk arriving at its built cost
 --     keeps-all       the positions that are kept are those of the definition
 --     paid-for        where building changed a cell, a walk paid its cost
+--     no-corners      an empty list of corners gives no cell a position
 -- Assumes nothing.
 use mathlib.Core.Path.{_≡_, refl, sym, ap, _∙_}
 use mathlib.Core.Bool.{Bool, true, false, true≢false, cond, _||_}
@@ -13,7 +14,7 @@ use native.Mathlib.Omega.{arith}
 use native.Mathlib.Decide.{ℕ-discrete, decLt}
 use borrow.Author.Tests.{eq-eqb}
 use lib.Dec.{eqb}
-use lib.ListN.{length, getD, take}
+use lib.ListN.{length, getD, take, getD-replicate}
 use lib.Seq.{ext-getD, getD-take, length-take-le}
 use Rattle.utilities.specs.Lists.{below}
 use Rattle.utilities.proofs.Lists.{table-length, table-at}
@@ -21,10 +22,10 @@ use Rattle.fields.specs.Neighbours.{BesideAt}
 use Rattle.fields.proofs.Beside.{beside-below}
 use Rattle.waves.specs.Walks.{start, move}
 use Rattle.integration_field.specs.Word.{low, isGoal, isLos, isImpassable}
-use Rattle.integration_field.specs.Listed.{Indexes}
+use Rattle.integration_field.specs.Listed.{Indexes, noPositions}
 use Rattle.integration_field.specs.Build.{build}
 use Rattle.integration_field.specs.Walks.{MayEnter, Permitted}
-use Rattle.integration_field.specs.Position.{positionAt, positions}
+use Rattle.integration_field.specs.Position.{isUnplaced, firstPosition, positionAt, positions}
 use Rattle.integration_field.specs.Promise.{Walked, WalkFrom, Placed, Position}
 use Rattle.integration_field.specs.Promise.Position.{earliest, none, unplaced}
 use Rattle.integration_field.proofs.Position.{listed-at, walk-on, positions-told, position-one}
@@ -132,6 +133,23 @@ module _ (costs before corners built entered : List ℕ) (f : BuiltOn costs befo
             let told : Position costs before corners built x (getD (positions costs before corners) x 0) =
             rw (f .is-built) (positions-told costs before corners (f .full) (f .corners-in) x h) in
             table-at kept 0 100 x h ∙ position-one costs before corners built x _ _ (kept-position x h) told
+
+-- ---- an empty list of corners
+
+-- a cell holds no position, whatever it was before building
+pub no-corners : (costs before corners : List ℕ) (count : ℕ) → count ≡ 0 → noPositions ≡ positions costs before (take count corners)
+unfolding firstPosition
+no-corners costs before corners count e = rw e (ext-getD 0 noPositions (positions costs before []) (sym (table-length at 100)) same)
+  where
+    at : ℕ → ℕ
+    at = positionAt costs before []
+
+    either : (b : Bool) → _≡_ {A = ℕ} 255 (cond b 255 255)
+    either true = refl
+    either false = refl
+
+    same : (x : ℕ) → x < 100 → getD noPositions x 0 ≡ getD (positions costs before []) x 0
+    same x h = getD-replicate 100 x 255 0 h ∙ either (isUnplaced (getD before x 0)) ∙ sym (table-at at 0 100 x h)
 
 -- ---- the field that a call is given
 

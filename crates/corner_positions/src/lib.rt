@@ -250,6 +250,10 @@ pub fn corner_positions<'a>(
     requires { ⌜ (length (now costs) ≡ 100) × ((length (now before) ≡ 100) × ((Indexes 100 (now corners) count) × (now built ≡ build (now costs) (now before) (take count (now corners)) .cells))) ⌝ }
     ensures { λ r. ⌜ r ≡ positions (now (costs .entry)) (now (before .entry)) (take count (now (corners .entry))) ⌝ }
 {
+    // Without corners no cell belongs to one.
+    if count == 0 {
+        return [NO_POSITION; 100];
+    }
     let entered = entered_from(costs, before, built);
     let mut positions = [NO_POSITION; 100];
     place_corners(built, &entered, &mut positions, corners, count);

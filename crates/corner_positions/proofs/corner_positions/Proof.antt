@@ -1,4 +1,5 @@
--- `corner_positions::corner_positions` meets its contract: three facts decide the positions, and what is kept of them is the definition's.
+-- `corner_positions::corner_positions` meets its contract: without corners no cell has a position; else three facts decide the positions, and
+-- what is kept of them is the definition's.
 -- Assumes nothing.
 use mathlib.Core.Path.{_≡_, refl, _∙_}
 use mathlib.Core.List.{map}
@@ -7,29 +8,33 @@ use borrow.Author.Needs.{needs}
 use lib.ListN.{getD, take}
 use Rattle.utilities.specs.Lists.{below}
 use Rattle.corner_positions.specs.Inner.{enteredFrom, BuiltOn}
-use Rattle.corner_positions.proofs.Labels.{given, paid-for, keeps-all}
+use Rattle.corner_positions.proofs.Labels.{no-corners, given, paid-for, keeps-all}
 use Rattle.corner_positions.proofs.corner_positions.Statement.{statement}
 use Rattle.corner_positions.proofs.corner_positions.Tie as tie
 
+-- the list of corners is empty
+none-listed : tie.Need-returns
+none-listed c = let a = c .before .before .args in no-corners (now (a .costs)) (now (a .before)) (now (a .corners)) (a .count) (c .if1 .taken)
+
 entered-from-requires : tie.Need-entered-from-requires
 entered-from-requires c κs =
-    let s = c .before in
+    let s = c .before .before in
     let a = s .args in
     let f = given _ (now (a .before)) (now (a .corners)) (now (a .built)) _ (a .count) (s .pre .1 .0) (s .pre .1 .1 .0) (s .pre .1 .1 .1) refl in
     (s .pre .0, paid-for _ _ _ _ _ f)
 
 place-corners-requires : tie.Need-place-corners-requires
-place-corners-requires c κs = (c .before .before .before .before .pre .1 .1 .0, refl)
+place-corners-requires c κs = (c .before .before .before .before .before .pre .1 .1 .0, refl)
 
-returns : tie.Need-returns
+returns : tie.Need-returns-2
 returns c =
     let spread = c .before .before in
     let made = spread .before .before .before in
-    let s = made .before .before in
+    let s = made .before .before .before in
     let a = s .args in
     let f = given _ (now (a .before)) (now (a .corners)) (now (a .built)) _ (a .count) (s .pre .1 .0) (s .pre .1 .1 .0) (s .pre .1 .1 .1)
     (made .entered-from .ensures) in
     c .keep .ensures ∙ keeps-all _ _ _ _ _ f _ (spread .place-corners .ensures (now (a .costs)) (now (a .before)) f)
 
 pub corner-positions-spec : {M : Type 1} → statement M
-corner-positions-spec = tie.close (tie.spec entered-from-requires place-corners-requires (λ c κs. search needs) returns)
+corner-positions-spec = tie.close (tie.spec none-listed entered-from-requires place-corners-requires (λ c κs. search needs) returns)
