@@ -1,5 +1,5 @@
 -- There is room in the queue for every cell that has no position: as many are queued as have one.
---     queued-few, has-room, room-at, room-to, room-around
+--     queued-few, has-room, room-at, room-to
 -- Assumes nothing.
 use mathlib.Core.Path.{_≡_, refl, sym, ap, _∙_}
 use mathlib.Core.Bool.{Bool, true, false, not, cond, _&&_}
@@ -109,11 +109,6 @@ module _ (entered : List ℕ) (value p : ℕ) where
     pub room-to : (c : FieldCell) (d : CompassDir) (t : Stepped) → stepped c d ≡ t → (s : Placing) → QueueRoom s → QueueRoom (placedTo entered value p t s)
     room-to c d (Cell n) e s r = room-at (indexOf n) s (index-below n (stepped-cell c d n e .within)) r (tried entered value p (indexOf n) s)
     room-to c d Outside e s r = r
-
-    pub room-around : (c : FieldCell) (ds : List CompassDir) (s : Placing) → QueueRoom s → QueueRoom (placedAround entered value p c ds s)
-    unfolding placedAround
-    room-around c [] s r = r
-    room-around c (d ∷ ds) s r = room-around c ds _ (room-to c d (stepped c d) refl s r)
 
   grown-to : (t : Stepped) (s : Placing) → Grown s (placedTo entered value p t s)
   grown-to (Cell n) s = grown-at (indexOf n) s (tried entered value p (indexOf n) s)

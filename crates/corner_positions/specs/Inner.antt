@@ -81,6 +81,36 @@ placedAround entered value p c (d ∷ ds) s = placedAround entered value p c ds 
 abbrev pub keptOf : ℕ → ℕ → ℕ
 keptOf before p = cond (isUnplaced before) 255 p
 
+-- ---- what the code has in its arrays meanwhile
+
+-- a cell's entry: the value from which it is entered; 65537, from which no move is made, where it has a position
+abbrev pub entryOf : ℕ → ℕ → ℕ
+entryOf entered p = cond (eqb p 255) entered 65537
+
+-- The code's entries and queue stand for the positions so far. `entered` are the entries before the first corner.
+pub record StandsFor (entered entries queue : List ℕ) (queued : ℕ) (s : Placing) : Type 0 where
+  pub room : QueueRoom s
+  pub full : length entries ≡ 100
+  pub same-queue : queue ≡ s .queue
+  pub same-queued : queued ≡ s .queued
+  pub entry-at : (x : ℕ) → x < 100 → getD entries x 0 ≡ entryOf (getD entered x 0) (getD (s .places) x 0)
+
+-- they stand for some positions, and so there is room
+abbrev pub HasRoom : List ℕ → List ℕ → ℕ → Type 0
+HasRoom entries queue queued = (entered : List ℕ) × ((s : Placing) × StandsFor entered entries queue queued s)
+
+-- whichever positions they stand for before a step of the code, behind it they stand for those that `step` leaves, for any position p
+abbrev pub StepsTo : List ℕ → List ℕ → ℕ → List ℕ → List ℕ → ℕ → (List ℕ → ℕ → Placing → Placing) → Type 0
+StepsTo entries queue queued entries-then queue-then queued-then step =
+    (entered : List ℕ) (p : ℕ) (s : Placing) → p < 255 → StandsFor entered entries queue queued s
+    → StandsFor entered entries-then queue-then queued-then (step entered p s)
+
+-- The code's array of positions: those of the first `gone` cells of the queue are written, and no cell without a position has one there.
+pub record Written (gone : ℕ) (positions : List ℕ) (s : Placing) : Type 0 where
+  pub full : length positions ≡ 100
+  pub written : (j : ℕ) → j < gone → getD positions (getD (s .queue) j 0) 0 ≡ getD (s .places) (getD (s .queue) j 0) 0
+  pub unwritten : (x : ℕ) → x < 100 → getD (s .places) x 0 ≡ 255 → getD positions x 0 ≡ 255
+
 -- ---- what holds while positions spread
 
 -- the field that is meant: `built` are its cells after building, and `entered` the values from which moves arrive at built costs
@@ -108,6 +138,12 @@ module _ (costs before corners built entered : List ℕ) where
     pub closed : (j x : ℕ) → j < gone → BesideAt (getD (s .queue) j 0) x → getD entered x 0 ≡ low (getD built (getD (s .queue) j 0) 0)
         → getD (s .places) x 0 ≤ getD (s .places) (getD (s .queue) j 0) 0
 
+  -- position i has spread from s, and t is what the code's arrays hold then
+  pub record SpreadOn (i : ℕ) (entries : List ℕ) (s t : Placing) : Type 0 where
+    pub stands : StandsFor entered entries (t .queue) (t .queued) t
+    pub grown : Grown s t
+    pub spread : Spread i (t .queued) t
+
   -- the corners before position i that building left alone have their own position or an earlier one
   abbrev pub Sources : ℕ → List ℕ → Type 0
   Sources i places = (j : ℕ) → j < i → getD entered (getD corners j 0) 0 ≡ 65536 → getD places (getD corners j 0) 0 ≤ j
@@ -116,6 +152,11 @@ module _ (costs before corners built entered : List ℕ) where
   pub record Gone (i : ℕ) (s : Placing) : Type 0 where
     pub spread : Spread i (s .queued) s
     pub sources : Sources i (s .places)
+
+  -- the same, and s is what the code's arrays hold
+  pub record GoneOn (i : ℕ) (entries : List ℕ) (s : Placing) : Type 0 where
+    pub stands : StandsFor entered entries (s .queue) (s .queued) s
+    pub gone : Gone i s
 
   -- three facts that decide the positions
   pub record Decided (places : List ℕ) : Type 0 where

@@ -13,10 +13,14 @@ ghost use Rattle.fields.specs.Cell.{cellAt, stepped};
 ghost use Rattle.integration_field.specs.Listed.{Indexes, noPositions};
 ghost use Rattle.integration_field.specs.Build.{build};
 ghost use Rattle.integration_field.specs.Position.{isUnplaced, positions};
-ghost use Rattle.corner_positions.specs.Inner.{enteredFrom, isTaken, placing, QueueRoom, Grown, placedAt, placedTo, placedAround, keptOf, Lowered, BuiltOn, Spread, Gone, Decided};
+ghost use Rattle.corner_positions.specs.Inner.{enteredFrom, Lowered, Placing, placing, placedAt, placedTo, placedAround, keptOf};
+ghost use Rattle.corner_positions.specs.Inner.{StandsFor, HasRoom, StepsTo, Written, BuiltOn, Spread, SpreadOn, GoneOn, Decided};
 
 // The value that no cell holds.
 const LEFT_ALONE: u32 = 65536;
+
+// The entry of a cell that is placed: no move is made from this value, so that the cell takes no other position.
+const PLACED: u32 = 65537;
 
 // The position that no corner has.
 const NO_POSITION: u8 = 255;
@@ -54,102 +58,97 @@ fn entered_from(costs: &[u8], before: &[u32; 100], built: &[u32; 100]) -> [u32; 
     entered
 }
 
-// Whether a cell takes a position: it has none, and a move from this value arrives at its built cost.
-fn takes(old: u8, entered: u32, value: u32) -> bool
-    ensures { λ r. ⌜ r ≡ isTaken old entered value ⌝ }
-{
-    if old != NO_POSITION {
-        return false;
-    }
-    entered == value
-}
-
-// A cell without a position takes one, if a move from this value arrives at its built cost, and is queued. Answers how many are queued.
+// A cell that has no position is placed, if a move from this value arrives at its built cost: its entry becomes `PLACED`, and it is queued.
+// Answers how many are queued.
 fn place_at(
-    entered: &[u32; 100],
-    positions: &mut [u8; 100],
+    entered: &mut [u32; 100],
     queue: &mut [u8; 101],
     queued: usize,
     value: u32,
-    position: u8,
     index: usize,
 ) -> usize
-    requires { ⌜ (index < 100) × QueueRoom (placing (now positions) (now queue) queued) ⌝ }
-    ensures { λ r. ⌜ placing (now (positions .exit)) (now (queue .exit)) r ≡ placedAt (now (entered .entry)) value position index (placing (now (positions .entry)) (now (queue .entry)) queued) ⌝ }
+    requires { ⌜ (index < 100) × ((value ≤ 65536) × HasRoom (now entered) (now queue) queued) ⌝ }
+    ensures { λ r. ⌜ StepsTo (now (entered .entry)) (now (queue .entry)) queued (now (entered .exit)) (now (queue .exit)) r
+        (λ values p. placedAt values value p index) ⌝ }
 {
-    let old = positions[index];
-    let taken = takes(old, entered[index], value);
+    let old = entered[index];
+    let taken = old == value;
     // Both are written in either case, and the queue has a place more than there are cells: no branch depends on a cell.
-    let new = if taken { position } else { old };
-    positions[index] = new;
+    let new = if taken { PLACED } else { old };
+    entered[index] = new;
     queue[queued] = narrow(index);
     queued + taken as usize
 }
 
 // The same where a step from a cell arrives.
 fn place_towards(
-    entered: &[u32; 100],
-    positions: &mut [u8; 100],
+    entered: &mut [u32; 100],
     queue: &mut [u8; 101],
     queued: usize,
     value: u32,
-    position: u8,
     cell: usize,
     dir: CompassDir,
 ) -> usize
-    requires { ⌜ QueueRoom (placing (now positions) (now queue) queued) ⌝ }
-    ensures { λ r. ⌜ placing (now (positions .exit)) (now (queue .exit)) r ≡ placedTo (now (entered .entry)) value position (stepped (cellAt cell) dir) (placing (now (positions .entry)) (now (queue .entry)) queued) ⌝ }
+    requires { ⌜ (value ≤ 65536) × HasRoom (now entered) (now queue) queued ⌝ }
+    ensures { λ r. ⌜ StepsTo (now (entered .entry)) (now (queue .entry)) queued (now (entered .exit)) (now (queue .exit)) r
+        (λ values p. placedTo values value p (stepped (cellAt cell) dir)) ⌝ }
 {
     let from = FieldCell::from_index(cell);
     let Stepped::Cell(neighbour) = from.get_in_compass_direction(dir) else {
         return queued;
     };
     let index = neighbour.as_1d_index();
-    place_at(entered, positions, queue, queued, value, position, index)
+    place_at(entered, queue, queued, value, index)
 }
 
 // The same for the four neighbours of a cell.
 fn place_around(
-    entered: &[u32; 100],
-    positions: &mut [u8; 100],
+    entered: &mut [u32; 100],
     queue: &mut [u8; 101],
     queued: usize,
     value: u32,
-    place: u8,
     cell: usize,
 ) -> usize
-    requires { ⌜ (place < 255) × QueueRoom (placing (now positions) (now queue) queued) ⌝ }
-    ensures { λ r. ⌜ placing (now (positions .exit)) (now (queue .exit)) r ≡ placedAround (now (entered .entry)) value place (cellAt cell) orthogonal (placing (now (positions .entry)) (now (queue .entry)) queued) ⌝ }
+    requires { ⌜ (value ≤ 65536) × HasRoom (now entered) (now queue) queued ⌝ }
+    ensures { λ r. ⌜ StepsTo (now (entered .entry)) (now (queue .entry)) queued (now (entered .exit)) (now (queue .exit)) r
+        (λ values p. placedAround values value p (cellAt cell) orthogonal) ⌝ }
 {
     let north = CompassDir::North;
     let east = CompassDir::East;
     let south = CompassDir::South;
     let west = CompassDir::West;
-    let one = place_towards(entered, positions, queue, queued, value, place, cell, north);
-    let two = place_towards(entered, positions, queue, one, value, place, cell, east);
-    let three = place_towards(entered, positions, queue, two, value, place, cell, south);
-    place_towards(entered, positions, queue, three, value, place, cell, west)
+    let one = place_towards(entered, queue, queued, value, cell, north);
+    let two = place_towards(entered, queue, one, value, cell, east);
+    let three = place_towards(entered, queue, two, value, cell, south);
+    place_towards(entered, queue, three, value, cell, west)
 }
 
-// A position spreads from the queued cells that were not gone around from. Answers how many are queued then.
+// A position spreads from the queued cells that were not gone around from; each takes it in its turn. Answers how many are queued then.
 fn spread(
     built: &[u32; 100],
-    entered: &[u32; 100],
+    entered: &mut [u32; 100],
     positions: &mut [u8; 100],
     queue: &mut [u8; 101],
     gone: usize,
     queued: usize,
     position: u8,
 ) -> usize
-    requires { ⌜ (position < 255) × ((gone ≤ queued) × QueueRoom (placing (now positions) (now queue) queued)) ⌝ }
-    ensures { λ r. ⌜ (QueueRoom (placing (now (positions .exit)) (now (queue .exit)) r)) × (Grown (placing (now (positions .entry)) (now (queue .entry)) queued) (placing (now (positions .exit)) (now (queue .exit)) r)) × ((costs before corners : List ℕ) → BuiltOn costs before corners (now (built .entry)) (now (entered .entry)) → Spread costs before corners (now (built .entry)) (now (entered .entry)) position gone (placing (now (positions .entry)) (now (queue .entry)) queued) → Spread costs before corners (now (built .entry)) (now (entered .entry)) position r (placing (now (positions .exit)) (now (queue .exit)) r)) ⌝ }
+    requires { ⌜ (position < 255) × ((gone ≤ queued) × HasRoom (now entered) (now queue) queued) ⌝ }
+    ensures { λ r. ⌜ HasRoom (now (entered .exit)) (now (queue .exit)) r × ((costs before corners values : List ℕ) (s : Placing)
+        → BuiltOn costs before corners (now (built .entry)) values
+        → StandsFor values (now (entered .entry)) (now (queue .entry)) queued s
+        → Written gone (now (positions .entry)) s
+        → Spread costs before corners (now (built .entry)) values position gone s
+        → SpreadOn costs before corners (now (built .entry)) values position (now (entered .exit)) s
+        (placing (now (positions .exit)) (now (queue .exit)) r)) ⌝ }
 {
     let mut count = queued;
     let mut i = gone;
     while i < count {
         let cell = fields::index_of(queue[i]);
         let value = integration_bits::low_bits(built[cell]);
-        count = place_around(entered, positions, queue, count, value, position, cell);
+        positions[cell] = position;
+        count = place_around(entered, queue, count, value, cell);
         i += 1;
     }
     count
@@ -158,38 +157,39 @@ fn spread(
 // A corner that building left alone takes its own position, if it has none, and the position spreads from there. Answers how many are queued then.
 fn place_corner(
     built: &[u32; 100],
-    entered: &[u32; 100],
+    entered: &mut [u32; 100],
     positions: &mut [u8; 100],
     queue: &mut [u8; 101],
     queued: usize,
     position: u8,
     corner: usize,
 ) -> usize
-    requires { ⌜ (corner < 100) × ((position < 255) × QueueRoom (placing (now positions) (now queue) queued)) ⌝ }
-    ensures { λ r. ⌜ (QueueRoom (placing (now (positions .exit)) (now (queue .exit)) r)) × ((costs before corners : List ℕ) → BuiltOn costs before corners (now (built .entry)) (now (entered .entry)) → position < length corners → getD corners position 0 ≡ corner → Gone costs before corners (now (built .entry)) (now (entered .entry)) position (placing (now (positions .entry)) (now (queue .entry)) queued) → Gone costs before corners (now (built .entry)) (now (entered .entry)) (position + 1) (placing (now (positions .exit)) (now (queue .exit)) r)) ⌝ }
+    requires { ⌜ (corner < 100) × ((position < 255) × HasRoom (now entered) (now queue) queued) ⌝ }
+    ensures { λ r. ⌜ HasRoom (now (entered .exit)) (now (queue .exit)) r × ((costs before corners values : List ℕ)
+        → BuiltOn costs before corners (now (built .entry)) values
+        → position < length corners
+        → getD corners position 0 ≡ corner
+        → GoneOn costs before corners (now (built .entry)) values position (now (entered .entry))
+        (placing (now (positions .entry)) (now (queue .entry)) queued)
+        → GoneOn costs before corners (now (built .entry)) values (position + 1) (now (entered .exit))
+        (placing (now (positions .exit)) (now (queue .exit)) r)) ⌝ }
 {
-    let more = place_at(
-        entered,
-        positions,
-        queue,
-        queued,
-        LEFT_ALONE,
-        position,
-        corner,
-    );
+    let more = place_at(entered, queue, queued, LEFT_ALONE, corner);
     spread(built, entered, positions, queue, queued, more, position)
 }
 
 // The corners' positions spread, in list order.
 fn place_corners(
     built: &[u32; 100],
-    entered: &[u32; 100],
+    entered: &mut [u32; 100],
     positions: &mut [u8; 100],
     corners: &[usize; 100],
     count: usize,
 )
-    requires { ⌜ (Indexes 100 (now corners) count) × (now positions ≡ noPositions) ⌝ }
-    ensures { λ _. ⌜ ((costs before : List ℕ) → BuiltOn costs before (take count (now (corners .entry))) (now (built .entry)) (now (entered .entry)) → Decided costs before (take count (now (corners .entry))) (now (built .entry)) (now (entered .entry)) (now (positions .exit))) ⌝ }
+    requires { ⌜ (Indexes 100 (now corners) count) × ((length (now entered) ≡ 100) × (now positions ≡ noPositions)) ⌝ }
+    ensures { λ _. ⌜ ((costs before : List ℕ)
+        → BuiltOn costs before (take count (now (corners .entry))) (now (built .entry)) (now (entered .entry))
+        → Decided costs before (take count (now (corners .entry))) (now (built .entry)) (now (entered .entry)) (now (positions .exit))) ⌝ }
 {
     let mut queue = [0; 101];
     let mut queued = 0;
@@ -254,8 +254,8 @@ pub fn corner_positions<'a>(
     if count == 0 {
         return [NO_POSITION; 100];
     }
-    let entered = entered_from(costs, before, built);
+    let mut entered = entered_from(costs, before, built);
     let mut positions = [NO_POSITION; 100];
-    place_corners(built, &entered, &mut positions, corners, count);
+    place_corners(built, &mut entered, &mut positions, corners, count);
     keep(before, &positions)
 }

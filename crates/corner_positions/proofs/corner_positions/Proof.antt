@@ -3,10 +3,12 @@
 -- Assumes nothing.
 use mathlib.Core.Path.{_≡_, refl, _∙_}
 use mathlib.Core.List.{map}
+use Prim.Native.Nat.{ℕ}
 use denote.Ref.{now}
 use borrow.Author.Needs.{needs}
 use lib.ListN.{getD, take}
 use Rattle.utilities.specs.Lists.{below}
+use Rattle.utilities.proofs.Lists.{table-length}
 use Rattle.corner_positions.specs.Inner.{enteredFrom, BuiltOn}
 use Rattle.corner_positions.proofs.Labels.{no-corners, given, paid-for, keeps-all}
 use Rattle.corner_positions.proofs.corner_positions.Statement.{statement}
@@ -24,7 +26,12 @@ entered-from-requires c κs =
     (s .pre .0, paid-for _ _ _ _ _ f)
 
 place-corners-requires : tie.Need-place-corners-requires
-place-corners-requires c κs = (c .before .before .before .before .before .pre .1 .1 .0, refl)
+place-corners-requires c κs =
+    let made = c .before .before in
+    let s = made .before .before .before in
+    let a = s .args in
+    let by : ℕ → ℕ = λ x. enteredFrom (getD (now (a .costs)) x 0) (getD (now (a .before)) x 0) (getD (now (a .built)) x 0) in
+    (s .pre .1 .1 .0, (rw (made .entered-from .ensures) (table-length by 100), refl))
 
 returns : tie.Need-returns-2
 returns c =

@@ -1,43 +1,46 @@
 -- `corner_positions::place_corners` meets its contract. The loop's invariant: there is room, and the positions of the corners before i have spread.
 -- Assumes nothing.
-use mathlib.Core.Path.{_≡_, refl, sym, ap, _∙_}
+use mathlib.Core.Path.{_≡_, refl}
 use mathlib.Core.List.{List}
 use Prim.Native.Nat.{ℕ, _≤_, _<_, _-_, _+_}
 use native.Mathlib.Omega.{arith}
-use borrow.Author.Needs.{needs}
 use denote.Ref.{now}
 use lib.ListN.{length, getD, take}
 use lib.Seq.{getD-take}
-use Rattle.integration_field.specs.Listed.{Indexes, noPositions}
-use Rattle.corner_positions.specs.Inner.{Placing, placing, QueueRoom, BuiltOn, Gone, Decided}
-use Rattle.corner_positions.proofs.Starting.{room-none, gone-none, decided}
+use Rattle.corner_positions.specs.Inner.{Placing, placing, HasRoom, BuiltOn, GoneOn}
+use Rattle.corner_positions.proofs.Starting.{gone-none, decided}
+use Rattle.corner_positions.proofs.Standing.{stands-none}
 use Rattle.corner_positions.proofs.Labels.{given-corners}
 use Rattle.corner_positions.proofs.place_corners.Statement.{statement}
 use Rattle.corner_positions.proofs.place_corners.Tie as tie
 
 -- whichever costs and cells are meant
-pub record Holds (built entered corners : List ℕ) (i : ℕ) (s : Placing) : Type 0 where
-  pub room : QueueRoom s
-  pub gone : (costs before : List ℕ) → BuiltOn costs before corners built entered → Gone costs before corners built entered i s
+pub record Holds (built entered corners : List ℕ) (i : ℕ) (entries : List ℕ) (s : Placing) : Type 0 where
+  pub room : HasRoom entries (s .queue) (s .queued)
+  pub gone : (costs before : List ℕ) → BuiltOn costs before corners built entered → GoneOn costs before corners built entered i entries s
 
 -- the position is the turn's number
-gone-on : (built entered corners : List ℕ) (p i corner : ℕ) (s t : Placing) → p ≡ i
-    → ((costs before l : List ℕ) → BuiltOn costs before l built entered → p < length l → getD l p 0 ≡ corner → Gone costs before l built entered p s
-    → Gone costs before l built entered (p + 1) t)
+gone-on : (built entered corners : List ℕ) (p i corner : ℕ) (entries : List ℕ) (s : Placing) (entries-then : List ℕ) (t : Placing) → p ≡ i
+    → ((costs before l values : List ℕ) → BuiltOn costs before l built values → p < length l → getD l p 0 ≡ corner
+    → GoneOn costs before l built values p entries s → GoneOn costs before l built values (p + 1) entries-then t)
     → (costs before : List ℕ) → BuiltOn costs before corners built entered → i < length corners → getD corners i 0 ≡ corner
-    → Gone costs before corners built entered i s → Gone costs before corners built entered (i + 1) t
-gone-on built entered corners p i corner s t e more costs before f = rw (← e) (more costs before corners f)
+    → GoneOn costs before corners built entered i entries s → GoneOn costs before corners built entered (i + 1) entries-then t
+gone-on built entered corners p i corner entries s entries-then t e more costs before f = rw (← e) (more costs before corners entered f)
 
 abbrev Inv-loop : tie.InvT-loop
-Inv-loop built entered positions₀ corners count queue₀ queued₀ place₀ positions queue queued place =
-    (place ≤ count) × Holds built entered (take count corners) place (placing positions queue queued)
+Inv-loop built entered₀ positions₀ corners count queue₀ queued₀ place₀ entered positions queue queued place =
+    (place ≤ count) × Holds built entered₀ (take count corners) place entered (placing positions queue queued)
 
 abbrev μ-loop : tie.MeasureT-loop
-μ-loop built entered positions₀ corners count queue₀ queued₀ place₀ positions queue queued place = count - place
+μ-loop built entered₀ positions₀ corners count queue₀ queued₀ place₀ entered positions queue queued place = count - place
 
 loop-holds : tie.Need-loop-holds Inv-loop μ-loop
-loop-holds c =
-    (omega arith, rw (c .pre .1) (record { room = room-none _ refl; gone = λ costs before f. gone-none costs before _ _ _ f _ }))
+loop-holds c = (
+  omega arith,
+  rw (c .pre .1 .1)
+      (let none = stands-none _ _ (c .pre .1 .0) refl in
+      record { room = (_, (_, none)); gone = λ costs before f. record { stands = none; gone = gone-none costs before _ _ _ f _ } }),
+)
 
 mul-corner : tie.Need-mul-corner Inv-loop μ-loop
 mul-corner c = omega (arith, c .before .before .pre .0 .count-in)
@@ -49,6 +52,9 @@ narrow-requires : tie.Need-narrow-requires Inv-loop μ-loop
 narrow-requires c κs = omega (arith, c .before .before .before .pre .0 .count-in)
 
 -- the turn of a call, and its position
+abbrev narrowed : tie.After-place-corner Inv-loop μ-loop → tie.After-narrow Inv-loop μ-loop
+narrowed c = c .before .before .before .before
+
 abbrev turn : tie.After-narrow Inv-loop μ-loop → tie.At-loop Inv-loop μ-loop
 turn c = c .before .before .before
 
@@ -60,18 +66,18 @@ corner-in c = turn c .before .pre .0 .cells-in (turn c .loop .place) (omega arit
 
 place-corner-requires : tie.Need-place-corner-requires Inv-loop μ-loop
 place-corner-requires c κs =
-    let at = c .before .before in
+    let at = c .before .before .before in
     (corner-in at, (omega (arith, small at), turn at .loop .inv .1 .room))
 
 add-place : tie.Need-add-place Inv-loop μ-loop
-add-place c = omega (arith, turn (c .before .before .before) .before .pre .0 .count-in)
+add-place c = omega (arith, turn (narrowed c) .before .pre .0 .count-in)
 
 loop-less : tie.Need-loop-less Inv-loop μ-loop
 loop-less c = omega arith
 
 loop-again : tie.Need-loop-again Inv-loop μ-loop
 loop-again c =
-    let at = c .before .before .before in
+    let at = narrowed c in
     let l = turn at .loop in
     let a = turn at .before .args in
     let corners = take (a .count) (now (a .corners)) in
@@ -83,8 +89,8 @@ loop-again c =
       record {
         room = more .0;
         gone = λ costs before f.
-            gone-on _ _ corners _ (l .place) _ _ _ p (more .1) costs before f (omega (arith, long)) (getD-take (a .count) (now (a .corners)) (l .place) 0 h)
-            (l .inv .1 .gone costs before f);
+            gone-on _ _ corners _ (l .place) _ _ _ _ _ p (more .1) costs before f (omega (arith, long))
+            (getD-take (a .count) (now (a .corners)) (l .place) 0 h) (l .inv .1 .gone costs before f);
       },
     )
 
@@ -94,7 +100,8 @@ returns c costs before f =
     let a = c .before .before .args in
     let long = given-corners (now (a .corners)) (a .count) (c .before .before .pre .0) in
     let e : l .place ≡ length (take (a .count) (now (a .corners))) = omega (arith, long, l .inv .0) in
-    decided costs before _ _ _ f _ (l .inv .1 .room) (rw e at (l .inv .1 .gone costs before f))
+    let end = rw e at (l .inv .1 .gone costs before f) in
+    decided costs before _ _ _ f _ (end .stands .room) (end .gone)
 
 pub place-corners-spec : {M : Type 1} → statement M
 place-corners-spec =
