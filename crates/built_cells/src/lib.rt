@@ -11,7 +11,5 @@ pub fn built_on(costs: &[u8], target: Target) -> [u32; 100]
     ensures { λ r. ⌜ r ≡ builtCells (now (costs .entry)) (heldTarget target) ⌝ }
 {
     let field = integration_init::start(costs, target);
-    let answer = integration_build::build(costs, field);
-    let built = answer.field;
-    built.field
+    integration_build::build_cells(costs, field)
 }

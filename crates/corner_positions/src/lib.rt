@@ -247,7 +247,8 @@ pub fn corner_positions<'a>(
     corners: &'a [usize; 100],
     count: usize,
 ) -> [u8; 100]
-    requires { ⌜ (length (now costs) ≡ 100) × ((length (now before) ≡ 100) × ((Indexes 100 (now corners) count) × (now built ≡ build (now costs) (now before) (take count (now corners)) .cells))) ⌝ }
+    requires { ⌜ (length (now costs) ≡ 100) × ((length (now before) ≡ 100) × ((Indexes 100 (now corners) count)
+        × (now built ≡ build (now costs) (now before) (take count (now corners)) .cells))) ⌝ }
     ensures { λ r. ⌜ r ≡ positions (now (costs .entry)) (now (before .entry)) (take count (now (corners .entry))) ⌝ }
 {
     // Without corners no cell belongs to one.

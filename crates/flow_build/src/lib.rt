@@ -15,7 +15,8 @@ ghost use Rattle.fields.specs.Cell.{Inside, indexOf};
 ghost use Rattle.flow_byte.specs.Look.{lookAround, flowBuild};
 ghost use Rattle.arrows.specs.Promise.{BuildArrows};
 ghost use Rattle.flow_build.specs.Flow.{buildNumber, buildSheet};
-ghost use Rattle.flow_build.specs.Inner.{LooksHeld, LooksOn, cellKey, cellKeys, seenKey, isNoted, keyAfter, bitsAfter, isKept, NoneLooks, heldByte, byteAfter, heldBytes, nothingFound};
+ghost use Rattle.flow_build.specs.Inner.{LooksHeld, LooksOn, cellKey, cellKeys, seenKey, isNoted, keyAfter, bitsAfter};
+ghost use Rattle.flow_build.specs.Inner.{isKept, NoneLooks, heldByte, byteAfter, heldBytes, nothingFound};
 
 // The key of a goal or a portal, and of a look that has taken one.
 const KEY_TAKEN: u32 = 0;
@@ -110,7 +111,8 @@ fn look_from(
     bits: &mut [u8; 100],
 )
     requires { ⌜ Inside from × (now keys ≡ cellKeys (now cells)) ⌝ }
-    ensures { λ _. ⌜ LooksOn (now (cells .entry)) dir (indexOf from) (indexOf from + 1) (now (best .entry)) (now (bits .entry)) (now (best .exit)) (now (bits .exit)) ⌝ }
+    ensures { λ _. ⌜ LooksOn (now (cells .entry)) dir (indexOf from) (indexOf from + 1)
+        (now (best .entry)) (now (bits .entry)) (now (best .exit)) (now (bits .exit)) ⌝ }
 {
     let Stepped::Cell(to) = from.get_in_compass_direction(dir) else {
         return;
@@ -135,7 +137,8 @@ fn look_from_row(
     bits: &mut [u8; 100],
 )
     requires { ⌜ (row < 10) × (now keys ≡ cellKeys (now cells)) ⌝ }
-    ensures { λ _. ⌜ LooksOn (now (cells .entry)) dir (row * 10) (row * 10 + 10) (now (best .entry)) (now (bits .entry)) (now (best .exit)) (now (bits .exit)) ⌝ }
+    ensures { λ _. ⌜ LooksOn (now (cells .entry)) dir (row * 10) (row * 10 + 10)
+        (now (best .entry)) (now (bits .entry)) (now (best .exit)) (now (bits .exit)) ⌝ }
 {
     let mut column = 0;
     while column < 10 {
@@ -164,7 +167,8 @@ fn look_in_direction(
 
 // All cells look at their sides, then at their corners.
 fn look_around(cells: &[u32; 100], best: &mut [u32; 100], bits: &mut [u8; 100])
-    ensures { λ _. ⌜ (LooksHeld nothingFound (now (best .entry)) (now (bits .entry)) → LooksHeld (lookAround (now (cells .entry))) (now (best .exit)) (now (bits .exit))) ⌝ }
+    ensures { λ _. ⌜ (LooksHeld nothingFound (now (best .entry)) (now (bits .entry))
+        → LooksHeld (lookAround (now (cells .entry))) (now (best .exit)) (now (bits .exit))) ⌝ }
 {
     let keys = keys_of(cells);
     look_in_direction(cells, &keys, CompassDir::North, best, bits);

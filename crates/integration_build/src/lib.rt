@@ -14,6 +14,7 @@ ghost use Rattle.utilities.specs.Padded.{padded as paddedTo};
 ghost use Rattle.fields.specs.Cell.{cellAt, stepped};
 ghost use Rattle.integration_field.specs.Listed.{listOf, padded, Indexes};
 ghost use Rattle.integration_field.specs.Wave.{isWritten, relaxed, offered, offeredAround, offeredBy};
+ghost use Rattle.integration_field.specs.Built.{builtField};
 ghost use Rattle.integration_field.specs.Answer.{answerOf, allCells, Accepted, buildAnswer};
 ghost use Rattle.integration_field.specs.Promise.{LeastWalks, Counted, EarliestCorners};
 ghost use Rattle.least_walks.specs.Promise.{BuildsStarted};
@@ -237,6 +238,18 @@ fn built(costs: &[u8], given: IntegrationField) -> BuildAnswer
         field,
         waves,
     }
+}
+
+// The cells of the same alone, for who answers no field: the corners that they belong to are not sought.
+pub fn build_cells(costs: &[u8], given: IntegrationField) -> [u32; 100]
+    requires { ⌜ Accepted (now costs) given ⌝ }
+    ensures { λ r. ⌜ r ≡ builtField (now (costs .entry)) given .field ⌝ }
+{
+    let mut cells = given.field;
+    let count = given.count;
+    let wavefront = corner_wave(&given.los_corners, count);
+    propagate_integrated_wavefront(costs, &mut cells, &wavefront, count, 100);
+    cells
 }
 
 // A field given by hand, built on these costs.

@@ -198,7 +198,7 @@ fn plan_step(
         };
     }
     let costs = &floor[at..end];
-    let answer = sector::run(
+    let cells = sector::run_cells(
         costs,
         target,
         portal,
@@ -206,8 +206,6 @@ fn plan_step(
         previous,
         &mut sheet[at..end],
     );
-    let built = answer.field;
-    let cells = built.field;
     PlannedStep {
         closed: false,
         cells,

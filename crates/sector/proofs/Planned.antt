@@ -1,6 +1,7 @@
 -- What is promised of a sector's run, and of the sector call.
 --     bytes-hundred      100 bytes are written
 --     none-read          without a previous field, what is lent in its place plays no part
+--     run-bytes          the bytes that a run leaves, by its cells
 --     runs               what the run's four calls leave
 --     sector-planned     demand 3, and arrows clear of walls, of the definitions
 --     refuses, accepts   all that is promised of a refused call, and of an accepted one by its run
@@ -47,17 +48,23 @@ module _ (costs : List ℕ) (target : Target) (portal : PortalWindow) where
   none-read previous other = refl
 
   module _ (full : length costs ≡ 100) (inside : TargetIn target) (has : Bool) (previous : List ℕ) where
-    ends : (cells : List ℕ) → buildSheet cells (newBytes portal (windowOf target) cells has previous) ≡ flowBuild cells (newBytes portal (windowOf target) cells has previous)
+    ends : (cells : List ℕ) → buildSheet cells (newBytes portal (windowOf target) cells has previous)
+        ≡ flowBuild cells (newBytes portal (windowOf target) cells has previous)
     unfolding buildNumber
     ends cells = rw (eq-eqb _ 100 (new-length portal (windowOf target) cells has previous))
+
+    pub run-bytes : (cells new bytes : List ℕ) → cells ≡ sectorField costs target .field
+        → new ≡ newBytes portal (windowOf target) cells has previous → bytes ≡ buildSheet cells new
+        → bytes ≡ sectorBytes costs target portal has previous
+    unfolding sectorBytes
+    run-bytes cells new bytes e r t = t ∙ rw (r, e) (ends (sectorField costs target .field))
 
     pub runs : (f : IntegrationField) (b : BuildAnswer) (new bytes : List ℕ) → f ≡ started costs target → b ≡ buildAnswer costs f
         → new ≡ newBytes portal (windowOf target) (b .field .field) has previous → bytes ≡ buildSheet (b .field .field) new
         → (b ≡ answerOf 0 costs (started costs target)) × (bytes ≡ sectorBytes costs target portal has previous)
-    unfolding sectorBytes
     runs f b new bytes p q r t =
         let e : b ≡ answerOf 0 costs (started costs target) = q ∙ built costs target full inside f p in
-        (e, t ∙ rw (r, e) (ends (sectorField costs target .field)))
+        (e, run-bytes (b .field .field) new bytes (ap (λ (a : BuildAnswer). a .field .field) e) r t)
 
     pub sector-planned : OnEdge portal target
         → Planned costs target (sectorField costs target .field) (waveCount costs (started costs target)) (sectorBytes costs target portal has previous)

@@ -12,6 +12,7 @@ ghost use Rattle.route.specs.Inner.{heldTarget};
 ghost use Rattle.integration_field.specs.Answer.{answerOf};
 ghost use Rattle.started_field.specs.Started.{started};
 ghost use Rattle.least_walks.specs.Promise.{StartedPositions};
+ghost use Rattle.arrows.specs.Promise.{builtCells};
 ghost use Rattle.sector.specs.Sector.{lacksPrevious, sectorNumber, sectorBytes, sectorAnswer, sectorSheet};
 ghost use Rattle.sector.specs.Inner.{RunReady};
 ghost use Rattle.sector.specs.Promise.{Planned};
@@ -34,7 +35,8 @@ fn sector_number(
     previous: &[u32],
     sheet_length: usize,
 ) -> u8
-    ensures { λ r. ⌜ ((sheet : List ℕ) → length sheet ≡ «sheet_length» → r ≡ sectorNumber (now (costs .entry)) (now (step .entry)) «has_previous» (now (previous .entry)) sheet) ⌝ }
+    ensures { λ r. ⌜ ((sheet : List ℕ) → length sheet ≡ «sheet_length»
+        → r ≡ sectorNumber (now (costs .entry)) (now (step .entry)) «has_previous» (now (previous .entry)) sheet) ⌝ }
 {
     if costs.len() != 100 {
         return 1;
@@ -76,6 +78,27 @@ pub fn run(
     flow_new::new_cells(portal, target.window, built, has_previous, previous, sheet);
     flow_build::build(built, sheet);
     answer
+}
+
+// The same for who answers no field: its cells alone, and no positions of corners.
+pub fn run_cells(
+    costs: &[u8],
+    target: Target,
+    portal: PortalWindow,
+    has_previous: bool,
+    previous: &[u32],
+    sheet: &mut [u8],
+) -> [u32; 100]
+    requires { ⌜ RunReady (now costs) target «has_previous» (now previous) (now sheet) ⌝ }
+    ensures cells { λ r. ⌜ r ≡ builtCells (now (costs .entry)) (heldTarget target) ⌝ }
+    ensures sheet { λ _. ⌜ now (sheet .exit) ≡ sectorBytes (now (costs .entry)) (heldTarget target) portal «has_previous» (now (previous .entry)) ⌝ }
+{
+    let mut field = integration_init::start(costs, target);
+    let cells = integration_build::build_cells(costs, field);
+    field.field = cells;
+    flow_new::new_cells(portal, target.window, field, has_previous, previous, sheet);
+    flow_build::build(field, sheet);
+    cells
 }
 
 // The sector call: a refused one writes nothing.

@@ -1,12 +1,11 @@
 -- `leg::plan_step` meets its contract: a closed window is answered before anything is written, else the run is lent the sector's part, and takes it.
 -- Assumes nothing.
-use mathlib.Core.Path.{refl, ap}
+use mathlib.Core.Path.{refl}
 use Prim.Native.Nat.{_+_, _-_, _*_}
 use native.Mathlib.Omega.{arith}
 use denote.Ref.{now}
 use lib.ListN.{length-take, length-drop}
 use Rattle.route.proofs.Accepted.{accepted-step}
-use Rattle.integration_field.specs.declared.BuildAnswer.{BuildAnswer}
 use Rattle.leg.proofs.Step.{in-floor, held, closes-step, plans-step}
 use borrow.Author.Needs.{needs}
 use Rattle.leg.proofs.plan_step.Statement.{statement}
@@ -55,19 +54,19 @@ part-costs-start c = search needs
 part-costs-end : tie.Need-part-costs-end
 part-costs-end c = omega (arith, in-floor (start (targeted (c .before .before)) .pre), start (targeted (c .before .before)) .pre .floor-full)
 
-sub-run : tie.Need-sub-run
-sub-run c = search needs
+sub-run-cells : tie.Need-sub-run-cells
+sub-run-cells c = search needs
 
-part-run-start : tie.Need-part-run-start
-part-run-start c = search needs
+part-run-cells-start : tie.Need-part-run-cells-start
+part-run-cells-start c = search needs
 
-part-run-end : tie.Need-part-run-end
-part-run-end c =
+part-run-cells-end : tie.Need-part-run-cells-end
+part-run-cells-end c =
     let t = targeted (c .before .before .before .before) in
     omega (arith, in-floor (start t .pre), start t .pre .sheet-full)
 
-run-requires : tie.Need-run-requires
-run-requires c κs =
+run-cells-requires : tie.Need-run-cells-requires
+run-cells-requires c κs =
     let w = c .before .before .before .before .before in
     let t = targeted w in
     let pre = start t .pre in
@@ -84,7 +83,7 @@ same-length c = search needs
 
 returns-2 : tie.Need-returns-2
 returns-2 c =
-    let ran = c .before .before .before .before in
+    let ran = c .before .before in
     let else1 = ran .before .before .before .before in
     let w = else1 .before .before in
     let t = targeted w in
@@ -92,7 +91,7 @@ returns-2 c =
     plans-step (start t .pre) (start t .args .has-previous) (now (start t .args .previous)) (t .before .before .new .ensures) (t .leg-target .ensures)
     wide (w .wide .ensures) (wide * 100 + 100 - wide * 100) (omega arith)
     (else1 .before .is-closed .result) (else1 .before .is-closed .ensures) (else1 .if1 .left)
-    (ran .run .result .field .field) _ (ap (λ (r : BuildAnswer). r .field .field) (ran .run .ensures .0)) (ran .run .ensures .1)
+    (ran .run-cells .result) _ (ran .run-cells .ensures .0) (ran .run-cells .ensures .1)
 
 pub plan-step-spec : {M : Type 1} → statement M
 plan-step-spec =
@@ -109,9 +108,9 @@ plan-step-spec =
     sub-costs
     part-costs-start
     part-costs-end
-    sub-run
-    part-run-start
-    part-run-end
-    run-requires
+    sub-run-cells
+    part-run-cells-start
+    part-run-cells-end
+    run-cells-requires
     same-length
     returns-2)
