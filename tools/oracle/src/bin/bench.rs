@@ -1,8 +1,9 @@
 //! Speed: our sector call against the Rust's `init`, `build`, `new`, `build` on the same inputs, from the same driver, in
-//! one run; our leg against its sector calls, where every window cell counts, and by itself, where some do not; and our
-//! costs from window to window against the Rust's `init` and `build` for each window, and our tours against these. The Rust is
-//! the copy altered as document 02, Jobs 7 and 11 ask, which writes the same bytes. A few inputs are timed at once, and of many
-//! rounds the least time counts: another program that runs adds to a time and never takes from it.
+//! one run; our leg against its sector calls, where every window cell counts, and by itself, where some do not; our bounds
+//! against the Rust's `init` and `build` on both floors; our costs from window to window against the Rust's `init` and
+//! `build` for each window, and our tours against these. The Rust is the copy altered as document 02, Jobs 7 and 11 ask,
+//! which writes the same bytes. A few inputs are timed at once, and of many rounds the least time counts: another program
+//! that runs adds to a time and never takes from it. Of the sector call the medians are compared too.
 
 use std::hint::black_box;
 use std::process::ExitCode;
@@ -96,15 +97,28 @@ impl Times {
         self.0.push(few.collect());
     }
 
-    /// Nanoseconds a call: the least times of all few, together.
+    /// Nanoseconds a call: what is chosen of the rounds of each few, together.
+    fn chosen(&self, inputs: usize, choose: fn(Vec<f64>) -> f64) -> f64 {
+        let few = |k: usize| choose(self.0.iter().map(|round| round[k]).collect());
+        (0..self.0[0].len()).map(few).sum::<f64>() / inputs as f64
+    }
+
+    /// By the least times.
     fn each(&self, inputs: usize) -> f64 {
-        let least = |k: usize| self.0.iter().map(|round| round[k]).fold(f64::INFINITY, f64::min);
-        (0..self.0[0].len()).map(least).sum::<f64>() / inputs as f64
+        self.chosen(inputs, |rounds| rounds.into_iter().fold(f64::INFINITY, f64::min))
+    }
+
+    /// By the medians.
+    fn middle(&self, inputs: usize) -> f64 {
+        self.chosen(inputs, |mut rounds| {
+            rounds.sort_by(f64::total_cmp);
+            rounds[rounds.len() / 2]
+        })
     }
 }
 
 /// What the Rust takes, ours on the sheet as it was left, and ours on a cleared sheet.
-fn measure(inputs: &[Input]) -> [f64; 3] {
+fn measure(inputs: &[Input]) -> [Times; 3] {
     let mut times: [Times; 3] = Default::default();
     let mut sheet = [0x55; CELLS];
     let alike = inputs.iter().all(|input| by_rust(input) == by_us(input, &mut sheet));
@@ -117,7 +131,7 @@ fn measure(inputs: &[Input]) -> [f64; 3] {
             by_us(input, &mut sheet)
         });
     }
-    times.map(|side| side.each(inputs.len()))
+    times
 }
 
 /// A floor and a leg of sixteen steps over it.
@@ -209,7 +223,11 @@ fn sectors() {
     println!("before; its flow field is new each time");
     println!("ours: the sector call, from bytes, refusals and answer by value included; `left` the sheet as the");
     println!("call before left it, `cleared` the sheet filled with 0 before each call, within the time");
-    println!("{:<14} {:>9} {:>9} {:>9}  {:>9} {:>12}", "", "Rust", "left", "cleared", "left/Rust", "cleared/Rust");
+    println!("the last column is left/Rust by the medians of the rounds in place of the least");
+    println!(
+        "{:<14} {:>9} {:>9} {:>9}  {:>9} {:>12} {:>8}",
+        "", "Rust", "left", "cleared", "left/Rust", "cleared/Rust", "medians"
+    );
     let groups = [
         ("random goal", false, false),
         ("random window", false, true),
@@ -219,9 +237,11 @@ fn sectors() {
     for (name, open, window) in groups {
         let mut rng = Rng::new(7);
         let inputs: Vec<Input> = (0..INPUTS).map(|_| input(&mut rng, open, window)).collect();
-        let [rust, left, cleared] = measure(&inputs);
+        let times = measure(&inputs);
+        let [rust, left, cleared] = [0, 1, 2].map(|side| times[side].each(INPUTS));
         let (by_left, by_cleared) = (left / rust, cleared / rust);
-        println!("{name:<14} {rust:>9.0} {left:>9.0} {cleared:>9.0}  {by_left:>9.2} {by_cleared:>12.2}");
+        let medians = times[1].middle(INPUTS) / times[0].middle(INPUTS);
+        println!("{name:<14} {rust:>9.0} {left:>9.0} {cleared:>9.0}  {by_left:>9.3} {by_cleared:>12.3} {medians:>8.3}");
     }
 }
 
@@ -240,6 +260,52 @@ fn legs() {
         println!("{name:<14} {sectors:>9.0} {as_leg:>9.0}  {:>11.2}", as_leg / sectors);
     }
     println!("{:<14} {:>9} {:>9.0}", "gaps", "", measure_alone(&drawn(Floor::Gaps)));
+}
+
+/// Two floors with a window, low and high, in both forms.
+struct Range {
+    floors: [[u8; CELLS]; 2],
+    step: Step,
+    rust_floors: [CostField; 2],
+    rust_step: RouteStep,
+}
+
+/// High is up to nineteen above low in each cell; both have the same walls.
+fn range(rng: &mut Rng, open: bool) -> Range {
+    let Input { costs: low, step, rust_step, .. } = input(rng, open, true);
+    let high = low.map(|cost| if cost == 255 { 255 } else { (cost + rng.below(20) as u8).min(254) });
+    Range { floors: [low, high], step, rust_floors: [cost_field(&low), cost_field(&high)], rust_step }
+}
+
+/// The Rust's fields of both floors.
+fn both_built(range: &Range) -> u8 {
+    for costs in &range.rust_floors {
+        let mut field = RustField::init(costs, &range.rust_step);
+        field.build(costs);
+        black_box(&field);
+    }
+    0
+}
+
+fn bounds() {
+    println!(
+        "nanoseconds a call for bounds: {INPUTS} pairs of floors, {AT_ONCE} timed at once, the least of {ROUNDS} rounds"
+    );
+    println!("Rust: init and build on both floors, from its own types made before, which tells no cell that is sure");
+    println!("{:<14} {:>9} {:>9}  {:>9}", "", "Rust", "ours", "ours/Rust");
+    for (name, open) in [("random floors", false), ("open floors", true)] {
+        let mut rng = Rng::new(7);
+        let inputs: Vec<Range> = (0..INPUTS).map(|_| range(&mut rng, open)).collect();
+        let mut times: [Times; 2] = Default::default();
+        for _ in 0..ROUNDS {
+            times[0].round(&inputs, AT_ONCE, both_built);
+            times[1].round(&inputs, AT_ONCE, |Range { floors: [low, high], step, .. }| {
+                black_box(Library.bounds(low, high, step)).number
+            });
+        }
+        let [rust, ours] = times.map(|side| side.each(INPUTS));
+        println!("{name:<14} {rust:>9.0} {ours:>9.0}  {:>9.2}", ours / rust);
+    }
 }
 
 /// Windows of one sector in both forms.
@@ -342,10 +408,11 @@ fn bench(words: Vec<String>) -> Result<(), String> {
     if !cfg!(panic = "abort") {
         return Err("not built with the profile `fastest`: use tools/oracle/run bench".to_string());
     }
-    Library::found(&[Call::Sector, Call::Leg, Call::WindowCosts, Call::WindowTour])?;
+    Library::found(&[Call::Sector, Call::Leg, Call::Bounds, Call::WindowCosts, Call::WindowTour])?;
     println!("the Rust and this driver are built with {}", env!("ORACLE_PROFILE"));
     sectors();
     legs();
+    bounds();
     squares();
     tours();
     Ok(())
