@@ -65,7 +65,7 @@
  * buffer that is not exactly as long as the file. The call for bounds judges 1 for either floor, and 16 on both. The calls
  * for window costs and tours judge 4 to 8, 16 and 20 for one step before the next.
  *
- * Time and stack.  Every call ends, on all input. Each wave is one call on the stack, of 576 bytes in the compiled
+ * Time and stack.  Every call ends, on all input. Each wave is one call on the stack, of 592 bytes in the compiled
  * archive, and there are at most 101 at a time: no call needs as much as 80,000 bytes (read off the archive, not proved).
  * Give a thread that calls sector, leg, bounds, window costs, tour, init or build 256 KB.
  */
