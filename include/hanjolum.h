@@ -93,7 +93,8 @@ enum {
     HANJOLUM_FLOOR = 6400,     /* bytes of a floor, and of its sheet */
     HANJOLUM_FILE_HEAD = 6,    /* bytes of a leg file before its steps */
     HANJOLUM_FILE = 134,       /* bytes of a leg file, at most */
-    HANJOLUM_WALL = 255        /* the cost byte of a wall */
+    HANJOLUM_WALL = 255,       /* the cost byte of a wall */
+    HANJOLUM_NEVER = 255       /* the number of moves of arrows that never arrive */
 };
 
 /* A cell of an integration field: its cost in the low 16 bits (65535: not reached), flags above. */
@@ -190,6 +191,12 @@ typedef struct {
     bool sure[100];
 } HanjolumBounds;
 
+/* For each cell of a sheet, by index, the number of moves after which its arrows arrive; 255 where they never do. */
+typedef struct {
+    uint8_t number;
+    uint8_t moves[100];
+} HanjolumArrivals;
+
 /* From one window to each of eight, in their places. */
 typedef struct {
     uint32_t costs[8];
@@ -232,6 +239,20 @@ HanjolumBuildAnswer hanjolum_sector(
     bool has_previous,
     const uint32_t *previous, size_t previous_length,
     uint8_t *sheet, size_t sheet_length);
+
+/*
+ * Which arrows of a sector's sheet arrive, told before a cart is driven: 100 flow bytes, whatever they are.
+ * moves[x] is the number of moves after which the arrows, followed from cell x, first come to a cell whose byte reads as
+ * goal, in sight or portal goal, and 0 where x has such a byte itself. 255 says that they never come to one, however far
+ * they are followed: they run in a circle, lead out of the sector, or end at a byte with no direction, as a wall is. No other
+ * number is above 99.
+ * In a sector left by a window, with no cost of 0, no reached cell has 255. In one with a goal reached cells may have it: a
+ * cart set there never comes to the goal by the arrows. And for a planned leg with no cost of 0, one look at the goal's
+ * sector (the sheet from sector * 100 on) tells the whole way: from every reached cell of the other sectors the arrows come
+ * into a reached cell of it, and that cell's number says how many moves are left, or that they never arrive.
+ * Writes nothing. Number 2.
+ */
+HanjolumArrivals hanjolum_arrivals(const uint8_t *sheet, size_t sheet_length);
 
 /*
  * Bounds where costs are known only as from-to: two cost fields of 100 bytes, low and high, and a step with a window. A
@@ -294,7 +315,7 @@ HanjolumWindowTour hanjolum_window_tour(
  * The arrows of a planned leg lead all the way: from every reached cell of every named sector but the first step's, with no
  * cost of 0 in the sectors on the way, they cross each window into a reached cell of the sector listed before, until they
  * are in the goal's sector, in at most 1,500 moves, crossings counted. A move goes by the floor's columns and rows, also
- * from one sector into the next. Nothing is said of where the arrows within the goal's sector lead. Within each sector,
+ * from one sector into the next. Where the arrows within the goal's sector lead, hanjolum_arrivals tells. Within each sector,
  * the goal's too, no arrow passes a wall diagonally, whatever the costs; one that crosses a window may pass one of the
  * sector that it leads into.
  * All steps are planned before the sheet is written: a refusal, 15 too, leaves every byte of it. Writes the 100 bytes of

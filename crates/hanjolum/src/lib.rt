@@ -1,4 +1,5 @@
 // The library that others link. Each export hands on to the call of its name, and promises the same.
+use arrivals::Arrivals;
 use cost_bounds::Bounds;
 use cost_square::WindowCosts;
 use fields::FieldCell;
@@ -27,6 +28,9 @@ ghost use Rattle.started_field.specs.Started.{initAnswer, StartedField};
 ghost use Rattle.least_walks.specs.Promise.{StartedPositions, OnceBuilt, BuildsStarted};
 ghost use Rattle.flow_bits.specs.Byte.{dirOf, isPathable, hasLineOfSight, isGoal, isPortalGoal, isWall};
 ghost use Rattle.arrows.specs.Promise.{BuildArrows};
+ghost use Rattle.arrivals.specs.Arrivals.{arrivalsAnswer};
+ghost use Rattle.arrivals.specs.Promise.{ArrivalsTold};
+ghost use Rattle.planned_arrivals.specs.Promise.{WindowArrives, LegTold};
 ghost use Rattle.flow_new.specs.Flow.{newNumber, newSheet};
 ghost use Rattle.flow_build.specs.Flow.{buildNumber, buildSheet};
 ghost use Rattle.sector.specs.Sector.{sectorAnswer, sectorSheet};
@@ -101,6 +105,17 @@ pub extern "C" fn hanjolum_leg(floor: &[u8], steps: &[u8], sheet: &mut [u8]) -> 
     ensures arrives { λ r. ⌜ (r ≡ 0 → LegArrives (now (floor .entry)) (stepsOf (now (steps .entry))) (now (sheet .exit))) ⌝ }
 {
     leg::plan_leg(floor, steps, sheet)
+}
+
+// For each cell of a sheet, the number of moves after which its arrows arrive, 255 where they never do, or number 2.
+#[no_mangle]
+pub extern "C" fn hanjolum_arrivals(sheet: &[u8]) -> Arrivals
+    ensures answer { λ r. ⌜ r ≡ arrivalsAnswer (now (sheet .entry)) ⌝ }
+    ensures told { λ r. ⌜ (r .number ≡ 0 → ArrivalsTold (now (sheet .entry)) (r .moves)) ⌝ }
+    ensures by_window { λ r. ⌜ (r .number ≡ 0 → WindowArrives (now (sheet .entry)) (r .moves)) ⌝ }
+    ensures whole_way { λ r. ⌜ (r .number ≡ 0 → LegTold (now (sheet .entry)) (r .moves)) ⌝ }
+{
+    following::arrivals(sheet)
 }
 
 // A list of steps, written as a file to a buffer exactly as long: 0, or number 3 or 2.
