@@ -2,7 +2,7 @@
  * Plans a sector that is drawn as text, and shows its arrows beside its flow bytes; or the practice floor of a seed, and
  * shows the floor beside them.
  * The drawing is turned into costs and a step here; every practice floor comes from hanjolum_practice_floor, every arrow
- * from hanjolum_sector. A window wants the field of the sector across it, which is not drawn: it gets one of zeros, so that
+ * from hanjolum_sector, and which arrows never arrive from hanjolum_arrivals. A window wants the field of the sector across it, which is not drawn: it gets one of zeros, so that
  * each of its cells points straight across.
  * What is wrong with the words, the drawing or the output is one line on standard error and exit status 1.
  */
@@ -166,6 +166,26 @@ static const char *shown(uint8_t byte, uint8_t cost, int ascii)
     return ascii ? "* " : "*";
 }
 
+/* Whether a reached cell's arrows never arrive. */
+static int is_lost(const uint8_t *sheet, const HanjolumArrivals *arrivals, int cell)
+{
+    return arrivals->moves[cell] == HANJOLUM_NEVER && !hanjolum_is_wall(sheet[cell]);
+}
+
+/* One line that says which cells these are, where there are any. */
+static void show_lost(const uint8_t *sheet, const HanjolumArrivals *arrivals)
+{
+    int lost = 0;
+    for (int cell = 0; cell < HANJOLUM_CELLS; cell++) {
+        if (!is_lost(sheet, arrivals, cell))
+            continue;
+        printf(lost == 0 ? "! followed, the arrows never arrive: cells %d" : " %d", cell);
+        lost += 1;
+    }
+    if (lost > 0)
+        printf("\n");
+}
+
 /* How a cell of a practice floor is drawn. */
 static char cell_of(const struct drawing *drawing, int cell)
 {
@@ -176,12 +196,13 @@ static char cell_of(const struct drawing *drawing, int cell)
 
 static void show(const struct drawing *drawing, const uint8_t *sheet, int practice, int ascii)
 {
+    HanjolumArrivals arrivals = hanjolum_arrivals(sheet, HANJOLUM_CELLS);
     for (int row = 0; row < SIDE; row++) {
         for (int column = 0; practice && column < SIDE; column++)
             printf("%c%s", cell_of(drawing, row * SIDE + column), column == SIDE - 1 ? "   " : "");
         for (int column = 0; column < SIDE; column++) {
             int cell = row * SIDE + column;
-            printf("%s ", shown(sheet[cell], drawing->costs[cell], ascii));
+            printf("%s%c", shown(sheet[cell], drawing->costs[cell], ascii), is_lost(sheet, &arrivals, cell) ? '!' : ' ');
         }
         printf("  ");
         for (int column = 0; column < SIDE; column++)
@@ -189,6 +210,7 @@ static void show(const struct drawing *drawing, const uint8_t *sheet, int practi
         printf("\n");
     }
     printf("\n%s wall   x not reached   G goal   * goal in sight, no arrow needed\n", ascii ? "##" : "█");
+    show_lost(sheet, &arrivals);
     if (practice)
         printf("on the left, the floor: . cost 1   : cost 10   # wall   G goal, cell %d, cost 1\n", drawing->first);
 }

@@ -15,12 +15,13 @@
  * unequal columns and rows is mirrored where these are, left to right and top to bottom. Window costs are accepted of two to
  * eight windows of one sector alone, and each is the least cost of a cell of the one window in the field that the sector call
  * builds for the other. A tour of the same windows has the same number; of the orders that it says were tried, each is tried
- * once more over the window costs. A fault, and a run in which no call was accepted or none refused, no leg of several steps
+ * once more over the window costs. Arrivals of a sheet, drawn or planned, are told once more from the cells that have arrived
+ * back along the arrows; in a sector left by a window, with no cost 0, every reached cell has one. A fault, and a run in which no call was accepted or none refused, no leg of several steps
  * planned, none refused with 15, no arrow followed, no diagonal one looked at, init, the sector call, a leg, bounds or window
  * costs never refused with 16, the sector call never with 17, bounds never with 18, window costs never with 19 or 20, no cell
  * sure, no position looked at with and without an earlier corner, no window reached or none cut off from another, no tour
- * found or none with another order than the listed one, or no practice floor with all three costs, is one line on standard
- * error and exit status 1.
+ * found or none with another order than the listed one, no cell that arrives after a move or none that never does, or no
+ * practice floor with all three costs, is one line on standard error and exit status 1.
  */
 #define _DEFAULT_SOURCE
 #include <stdio.h>
@@ -171,10 +172,11 @@ static int zeros(const void *part, size_t length)
    previous field; how many practice floors had all three costs; how many bounds had no from-to or no window, and how many
    cells were sure; how many positions were looked at, and how many of them beside an earlier corner; how many lists of
    windows had other than two to eight, and how many a step without window or elsewhere; how many windows were reached from
-   another, and how many were not; how many tours were found, and how many had another order than the listed one. */
+   another, and how many were not; how many tours were found, and how many had another order than the listed one; how many
+   cells arrive after a move, and how many never do. */
 static unsigned long accepted, turned_away, planned, closed, followed, diagonal, on_wall[5], fieldless, practised, unranged, sure,
     positioned, earliest;
-static unsigned long miscounted, misplaced, ways_met[2], toured, reordered;
+static unsigned long miscounted, misplaced, ways_met[2], toured, reordered, arriving, lost;
 
 static void tallied(uint8_t number)
 {
@@ -745,6 +747,64 @@ static void window_costs(Fenced *costs, Fenced *route)
     a_tour(&w, costs, route);
 }
 
+/* The cell of the sector that a byte points at from a cell, or -1. */
+static int pointed_at(uint8_t byte, int cell)
+{
+    int north = byte & 1, east = byte >> 1 & 1, south = byte >> 2 & 1, west = byte >> 3 & 1;
+    int row = cell / 10 + south - north, column = cell % 10 + east - west;
+    if ((byte & 15) == 0 || (north && south) || (east && west))
+        return -1;
+    return row < 0 || row > 9 || column < 0 || column > 9 ? -1 : row * 10 + column;
+}
+
+/* What arrivals of a sheet have to be: round after round, the cells that point at one of the round before. */
+static void told_back(const uint8_t *sheet, uint8_t *told)
+{
+    memset(told, HANJOLUM_NEVER, HANJOLUM_CELLS);
+    for (int cell = 0; cell < HANJOLUM_CELLS; cell++)
+        if (hanjolum_is_goal(sheet[cell]) || hanjolum_has_line_of_sight(sheet[cell]) || hanjolum_is_portal_goal(sheet[cell]))
+            told[cell] = 0;
+    for (int moves = 1; moves < HANJOLUM_NEVER; moves++)
+        for (int cell = 0; cell < HANJOLUM_CELLS; cell++) {
+            int next = pointed_at(sheet[cell], cell);
+            if (told[cell] == HANJOLUM_NEVER && next >= 0 && told[next] == moves - 1)
+                told[cell] = (uint8_t)moves;
+        }
+}
+
+/* Arrivals of a sheet. */
+static HanjolumArrivals arrivals(const Fenced *sheet)
+{
+    uint8_t told[HANJOLUM_CELLS];
+    HanjolumArrivals a = hanjolum_arrivals(sheet->at, sheet->length);
+    counted(a.number);
+    if (a.number != (sheet->length == HANJOLUM_CELLS ? 0 : 2))
+        fail("arrivals of a sheet have another number than its length gives");
+    if (a.number != 0) {
+        if (!zeros(a.moves, sizeof a.moves))
+            fail("refused arrivals are not zero");
+        return a;
+    }
+    told_back(sheet->at, told);
+    if (memcmp(a.moves, told, sizeof told) != 0)
+        fail("arrivals are not those that the arrows have, told back from where they arrive");
+    for (int cell = 0; cell < HANJOLUM_CELLS; cell++) {
+        arriving += told[cell] != 0 && told[cell] != HANJOLUM_NEVER;
+        lost += told[cell] == HANJOLUM_NEVER;
+    }
+    return a;
+}
+
+/* In a sector left by a window, with no cost 0, every reached cell arrives. */
+static void all_arrive(const Fenced *costs, const Fenced *route, const HanjolumBuildAnswer *built, const HanjolumArrivals *a)
+{
+    if (route->at[2] != 1 || memchr(costs->at, 0, costs->length) != NULL)
+        return;
+    for (int cell = 0; cell < HANJOLUM_CELLS; cell++)
+        if ((built->field.field[cell] & HANJOLUM_FIELD_COST) != UNREACHED && a->moves[cell] == HANJOLUM_NEVER)
+            fail("a reached cell of a sector left by a window never arrives");
+}
+
 /* One call of each kind that writes a sheet, and one of each that does not. */
 static void round_of_calls(Fenced *costs, Fenced *route, Fenced *previous, Fenced *sheet)
 {
@@ -777,8 +837,11 @@ static void round_of_calls(Fenced *costs, Fenced *route, Fenced *previous, Fence
     fields(a.number, has, route);
     walls(1, a.number, costs, route);
     refused(a.number, a.field, a.waves);
-    if (a.number == 0)
+    HanjolumArrivals arrived = arrivals(sheet);
+    if (a.number == 0) {
         clear(costs->at, sheet->at);
+        all_arrive(costs, route, &a, &arrived);
+    }
     HanjolumInitAnswer i = hanjolum_init(costs->at, costs->length, route->at, route->length);
     counted(i.number);
     walls(0, i.number, costs, route);
@@ -850,15 +913,18 @@ static void report(unsigned long rounds)
         fail("no window was reached from another, or none was cut off from one");
     if (toured == 0 || reordered == 0)
         fail("no tour was found, or none with another order than the listed one");
+    if (arriving == 0 || lost == 0)
+        fail("no cell arrives after a move, or none never does");
     printf("%lu rounds of calls, %lu accepted and %lu refused, %lu legs of several steps planned and %lu refused with 15, "
            "arrows followed from %lu cells to the goal's sector, %lu diagonal arrows looked at, "
            "%lu init, %lu sector calls, %lu legs, %lu bounds and %lu window costs refused with 16, %lu sector calls with 17, "
            "%lu bounds with 18, %lu window costs with 19 and %lu with 20, %lu windows reached from another and %lu cut off, "
-           "%lu tours, %lu of them in another order than listed, %lu sure cells, %lu practice floors, "
+           "%lu tours, %lu of them in another order than listed, %lu cells that arrive after a move and %lu that never do, "
+           "%lu sure cells, %lu practice floors, "
            "%lu positions looked at and %lu of them beside an earlier corner, nothing found\n",
            rounds, accepted, turned_away, planned, closed, followed, diagonal, on_wall[0], on_wall[1], on_wall[2],
            on_wall[3], on_wall[4], fieldless, unranged, miscounted, misplaced, ways_met[0], ways_met[1], toured,
-           reordered, sure, practised, positioned, earliest);
+           reordered, arriving, lost, sure, practised, positioned, earliest);
     written();
 }
 
