@@ -16,9 +16,10 @@
  * eight windows of one sector alone, and each is the least cost of a cell of the one window in the field that the sector call
  * builds for the other. A tour of the same windows has the same number; of the orders that it says were tried, each is tried
  * once more over the window costs. Arrivals of a sheet, drawn or planned, are told once more from the cells that have arrived
- * back along the arrows; in a sector left by a window, with no cost 0, every reached cell has one. A fault, and a run in which no call was accepted or none refused, no leg of several steps
- * planned, none refused with 15, no arrow followed, no diagonal one looked at, init, the sector call, a leg, bounds or window
- * costs never refused with 16, the sector call never with 17, bounds never with 18, window costs never with 19 or 20, no cell
+ * back along the arrows; in a sector left by a window, with no cost 0, every reached cell has one. A fault, and a run in
+ * which no call was accepted or none refused, no leg of several steps planned, none refused with 15, no arrow followed, no
+ * diagonal one looked at, init, the sector call, a leg, bounds or window costs never refused with 16, the sector call never
+ * with 17, bounds never with 18, window costs never with 19 or 20, no cell
  * sure, no position looked at with and without an earlier corner, no window reached or none cut off from another, no tour
  * found or none with another order than the listed one, no cell that arrives after a move or none that never does, or no
  * practice floor with all three costs, is one line on standard error and exit status 1.

@@ -49,6 +49,7 @@ pub struct Outcome {
     pub bounds: Option<Bounds>,
     pub windows: Option<WindowCosts>,
     pub tour: Option<WindowTour>,
+    pub arrivals: Option<Arrivals>,
     pub sheet: Vec<u8>,
     /// What is lent to be read is unchanged, and no guard beside lent memory is.
     pub memory_kept: bool,
@@ -150,6 +151,10 @@ impl Case {
                 let tour = side.window_tour(costs, steps, self.limit);
                 Outcome { tour: Some(tour), ..Outcome::of_number(tour.number) }
             }
+            Ask::One(Call::Arrivals) => {
+                let arrivals = side.arrivals(sheet);
+                Outcome { arrivals: Some(arrivals), ..Outcome::of_number(arrivals.number) }
+            }
             Ask::FlowBoth => {
                 let number = side.flow_new(steps, self.field, previous, sheet);
                 let second = if number == 0 { side.flow_build(self.field, sheet) } else { 0 };
@@ -215,6 +220,7 @@ impl Outcome {
             bounds: None,
             windows: None,
             tour: None,
+            arrivals: None,
             sheet: Vec::new(),
             memory_kept: true,
         }
@@ -258,6 +264,8 @@ impl Outcome {
         differ(&mut found, "order", &ours.order, &theirs.order);
         let figures = |tour: WindowTour| [tour.sum, tour.tried, tour.least];
         differ(&mut found, "sum, tried and least figure", &figures(ours), &figures(theirs));
+        let [ours, theirs] = [self, other].map(|outcome| outcome.arrivals.unwrap_or(refused::arrivals(0)));
+        differ(&mut found, "moves", &ours.moves, &theirs.moves);
         let bytes = |sheet: &[u8]| sheet.iter().map(|byte| Hex(u32::from(*byte))).collect::<Vec<_>>();
         differ(&mut found, "sheet", &bytes(&self.sheet), &bytes(&other.sheet));
         differ(&mut found, "memory kept", &[self.memory_kept], &[other.memory_kept]);

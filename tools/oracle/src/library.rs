@@ -126,6 +126,7 @@ unsafe extern "C" {
         steps_length: usize,
         limit: u16,
     ) -> WindowTour;
+    fn hanjolum_arrivals(sheet: *const u8, sheet_length: usize) -> Arrivals;
 }
 
 #[allow(unused_variables)]
@@ -156,6 +157,7 @@ impl Subject for Library {
             Call::Bounds => cfg!(export = "hanjolum_bounds"),
             Call::WindowCosts => cfg!(export = "hanjolum_window_costs"),
             Call::WindowTour => cfg!(export = "hanjolum_window_tour"),
+            Call::Arrivals => cfg!(export = "hanjolum_arrivals"),
         }
     }
 
@@ -277,5 +279,9 @@ impl Subject for Library {
             "hanjolum_window_tour",
             hanjolum_window_tour(costs.as_ptr(), costs.len(), steps.as_ptr(), steps.len(), limit)
         )
+    }
+
+    fn arrivals(&self, sheet: &[u8]) -> Arrivals {
+        exported!("hanjolum_arrivals", hanjolum_arrivals(sheet.as_ptr(), sheet.len()))
     }
 }

@@ -1,6 +1,6 @@
 //! The oracle: refusal numbers by the table of documents 01 and 02, everything else by the Rust, but for what has no Rust,
-//! leg files, legs in which some window cell does not count, practice floors, bounds, costs from window to window and tours of
-//! them (02, Jobs 1, 2, 6, 9, 13 and 14), which the model answers. What diagonals and line ends decide, `init`, `build` of a
+//! leg files, legs in which some window cell does not count, practice floors, bounds, costs from window to window, tours of
+//! them and arrivals (02, Jobs 1, 2, 6, 9, 13 and 14, and our own addition), which the model answers. What diagonals and line ends decide, `init`, `build` of a
 //! flow field, the sector call, a leg and the line end itself, is the Rust's altered in these rules alone (02, Jobs 7 and 11);
 //! what did not move is the published Rust's. A step whose goal or some window cell is of cost 255 (02, Job 3) is the table's,
 //! and the Rust, which takes it, is not asked. Wave counts come from the counted copy, whose fields are asserted equal to those
@@ -24,7 +24,7 @@ pub fn judges(call: Call) -> &'static [Judge] {
         Call::Sector => &[Judge::Altered, Judge::Counted, Judge::Model],
         Call::Leg => &[Judge::Altered, Judge::Model],
         Call::LegFileWrite | Call::LegFileRead | Call::PracticeFloor => &[Judge::Model],
-        Call::Bounds | Call::WindowCosts | Call::WindowTour => &[Judge::Model],
+        Call::Bounds | Call::WindowCosts | Call::WindowTour | Call::Arrivals => &[Judge::Model],
         _ => &[Judge::Published],
     }
 }
@@ -236,7 +236,7 @@ impl Subject for Oracle {
         0
     }
 
-    // Leg files, practice floors, bounds, costs from window to window and tours have no Rust.
+    // Leg files, practice floors, bounds, costs from window to window, tours and arrivals have no Rust.
 
     fn leg_file_write(&self, steps: &[u8], file: &mut [u8]) -> u8 {
         decides(Judge::Model);
@@ -281,5 +281,15 @@ impl Subject for Oracle {
         }
         decides(Judge::Model);
         Model::PLAIN.tour_of_windows(costs, steps, limit)
+    }
+
+    fn arrivals(&self, sheet: &[u8]) -> Arrivals {
+        let given = Given { sheet: Some(sheet.len()), ..Given::default() };
+        let number = number(&given);
+        if number != 0 {
+            return refused::arrivals(number);
+        }
+        decides(Judge::Model);
+        Model::PLAIN.arrivals_of(sheet)
     }
 }

@@ -160,6 +160,17 @@ pub struct WindowTour {
     pub least: u32,
 }
 
+/// For each cell of a sheet the number of moves after which its arrows arrive, `NEVER` where they do not.
+#[repr(C)]
+#[derive(Clone, Copy, PartialEq, Eq, Debug)]
+pub struct Arrivals {
+    pub number: u8,
+    pub moves: [u8; CELLS],
+}
+
+/// The number of moves of arrows that never arrive.
+pub const NEVER: u8 = 255;
+
 /// A yes or no, and the numbers lent beside it.
 #[derive(Clone, Copy, Debug)]
 pub struct Previous<'a> {
@@ -198,6 +209,7 @@ pub enum Call {
     Bounds,
     WindowCosts,
     WindowTour,
+    Arrivals,
 }
 
 /// A side of the comparison. A refusal answers its number, zeros else, and writes nothing.
@@ -221,6 +233,7 @@ pub trait Subject {
     fn bounds(&self, low: &[u8], high: &[u8], step: &[u8]) -> Bounds;
     fn window_costs(&self, costs: &[u8], steps: &[u8]) -> WindowCosts;
     fn window_tour(&self, costs: &[u8], steps: &[u8], limit: u16) -> WindowTour;
+    fn arrivals(&self, sheet: &[u8]) -> Arrivals;
 }
 
 /// The answers of a refusal.
@@ -245,6 +258,10 @@ pub mod refused {
 
     pub fn window_tour(number: u8) -> WindowTour {
         WindowTour { number, found: false, order: [0; WINDOWS], sum: 0, tried: 0, least: 0 }
+    }
+
+    pub fn arrivals(number: u8) -> Arrivals {
+        Arrivals { number, moves: [0; CELLS] }
     }
 
     pub fn line(number: u8) -> Line {

@@ -32,6 +32,8 @@ fn groups_name_their_judges() {
     assert_eq!(names("window costs refusals"), ["table of refusals", "model"]);
     assert_eq!(names("window tour"), ["model"]);
     assert_eq!(names("window tour refusals"), ["table of refusals", "model"]);
+    assert_eq!(names("arrivals"), ["model"]);
+    assert_eq!(names("arrivals refusals"), ["table of refusals", "model"]);
     assert_eq!(names("leg refusals"), ["altered Rust", "table of refusals", "model"]);
     assert_eq!(names("build refusals"), ["published Rust", "counted copy", "table of refusals", "model"]);
 }

@@ -303,3 +303,13 @@ pub fn refused_tour(rng: &mut Rng) -> Case {
 pub fn tours(rng: Rng, inputs: usize) -> Cases {
     Box::new(drawn(rng, inputs, bad_tour))
 }
+
+/// A sheet of any length, near the right one or not.
+fn bad_arrivals(rng: &mut Rng) -> Case {
+    let sheet = if rng.one_in(2) { bad_sheet(rng) } else { floors::any_sheet(rng) };
+    Case { sheet, ..Case::of(Call::Arrivals) }
+}
+
+pub fn arrivals(rng: Rng, inputs: usize) -> Cases {
+    Box::new(drawn(rng, inputs, bad_arrivals))
+}

@@ -132,6 +132,24 @@ pub enum Met {
     DearFigure,
     /// The best order is not the listed one.
     TourNotListed,
+    /// A cell that arrives after no move, after one, after 50 or more, after 99.
+    ArrivesAtOnce,
+    ArrivesNext,
+    ArrivesLate,
+    ArrivesLast,
+    /// A cell that never arrives: in a circle of two cells or of more, or on the way into one; out of the sector; onto a byte
+    /// with no direction, 0 or not; onto one with opposite bits.
+    InPair,
+    InRing,
+    IntoCircle,
+    LeavesSector,
+    NoDirection,
+    OppositeBits,
+    /// A byte with all of 0xE0 that is arrived at.
+    ImpassableArrived,
+    /// A goal's sector of which a reached cell never arrives, and one of which every reached cell does.
+    SectorLost,
+    SectorWhole,
 }
 
 /// Where a step has its wall.
@@ -211,6 +229,19 @@ impl fmt::Display for Met {
             Met::DearTour => write!(f, "a sum above 65535"),
             Met::DearFigure => write!(f, "a least figure above 65535"),
             Met::TourNotListed => write!(f, "another order than the listed one"),
+            Met::ArrivesAtOnce => write!(f, "a cell that has arrived"),
+            Met::ArrivesNext => write!(f, "a cell that arrives after one move"),
+            Met::ArrivesLate => write!(f, "a cell that arrives after 50 to 98 moves"),
+            Met::ArrivesLast => write!(f, "a cell that arrives after 99 moves"),
+            Met::InPair => write!(f, "two cells that point at each other"),
+            Met::InRing => write!(f, "a circle of more than two cells"),
+            Met::IntoCircle => write!(f, "a cell that leads into a circle"),
+            Met::LeavesSector => write!(f, "arrows out of the sector"),
+            Met::NoDirection => write!(f, "arrows onto a byte with no direction"),
+            Met::OppositeBits => write!(f, "arrows onto a byte with opposite bits"),
+            Met::ImpassableArrived => write!(f, "a byte with all of 0xE0 that is arrived at"),
+            Met::SectorLost => write!(f, "a sector with a cell that never arrives"),
+            Met::SectorWhole => write!(f, "a sector of which every cell arrives"),
         }
     }
 }

@@ -2,6 +2,7 @@
 //! seed; `run` asks the oracle and a side, and stops at the first difference with the smallest input
 //! that shows it.
 
+mod arrivals;
 mod bad;
 mod bounds;
 mod good;
@@ -15,6 +16,7 @@ mod windows;
 
 use std::collections::BTreeMap;
 
+pub use arrivals::{arrival_kinds, counted_one_wall, sheet_that_meets};
 pub use bad::{refused_floors, refused_tour, refused_windows};
 pub use bounds::{any_floors, floors_that_meet, range_kinds};
 pub use legs::{
@@ -83,6 +85,7 @@ pub const GROUPS: &[Group] = &[
     Group { name: BOUNDS, needs: &[Call::Bounds, Call::Sector], cases: bounds::bounds, reaches: &[0] },
     Group { name: WINDOW_COSTS, needs: &[Call::WindowCosts, Call::Sector], cases: windows::costs, reaches: &[0] },
     Group { name: WINDOW_TOUR, needs: &[Call::WindowTour], cases: tours::tours, reaches: &[0] },
+    Group { name: ARRIVALS, needs: &[Call::Arrivals], cases: arrivals::sheets, reaches: &[0] },
     Group { name: "line refusals", needs: &[Call::Line], cases: bad::lines, reaches: &[0, 13] },
     Group { name: "walk shallow refusals", needs: &[Call::WalkShallow], cases: bad::shallow_walks, reaches: &[0, 13] },
     Group { name: "walk steep refusals", needs: &[Call::WalkSteep], cases: bad::steep_walks, reaches: &[0, 13] },
@@ -131,6 +134,7 @@ pub const GROUPS: &[Group] = &[
         cases: bad::tours,
         reaches: &[0, 1, 3, 4, 5, 6, 7, 8, ON_WALL, NOT_2_TO_8, NO_WINDOW_THERE],
     },
+    Group { name: "arrivals refusals", needs: &[Call::Arrivals], cases: bad::arrivals, reaches: &[0, 2] },
 ];
 
 /// Fields whose positions are looked for.
@@ -165,6 +169,9 @@ pub const BUILT: Group =
 
 /// Windows of one sector.
 pub const WINDOW_COSTS: &str = "window costs";
+
+/// Sheets whose arrows are followed.
+pub const ARRIVALS: &str = "arrivals";
 
 /// Tours of windows.
 pub const WINDOW_TOUR: &str = "window tour";
@@ -328,6 +335,7 @@ impl Group {
             BOUNDS => bounds::all(),
             WINDOW_COSTS => windows::all(),
             WINDOW_TOUR => tours::all(),
+            ARRIVALS => arrivals::all(),
             _ => Vec::new(),
         }
     }
@@ -342,6 +350,7 @@ impl Group {
             BOUNDS => bounds::met(case),
             WINDOW_COSTS => windows::met(case),
             WINDOW_TOUR => tours::met(case),
+            ARRIVALS => arrivals::met(case),
             _ => Vec::new(),
         }
     }

@@ -209,4 +209,12 @@ impl Subject for Model {
             None => self.tour_of_windows(costs, steps, limit),
         }
     }
+
+    fn arrivals(&self, sheet: &[u8]) -> Arrivals {
+        let given = Given { sheet: Some(sheet.len()), ..Given::default() };
+        match self.turned_away(&given, &mut []) {
+            Some(number) => self.refused_arrivals(number),
+            None => self.arrivals_of(sheet),
+        }
+    }
 }

@@ -2,6 +2,7 @@
 //! and the same model with one slip planted (`Slip`), to see that the groups find it.
 
 mod answers;
+mod arrivals;
 mod bounds;
 mod flow;
 mod integration;
@@ -15,6 +16,7 @@ mod slips;
 mod window_costs;
 mod window_tour;
 
+pub use arrivals::{Lost, lost_by};
 pub use leg::{CLOSED, Plan, PlannedStep};
 pub use slips::Slip;
 pub use window_tour::orders;

@@ -368,6 +368,23 @@ slips! {
     TourNoneFound: "window tour: no order, and one found",
     TourTriedOfRefusal: "window tour: the limit for the number tried in a refusal",
     TourLeastOfRefusal: "window tour: a least figure in a refusal",
+    ArrivalsCircle: "arrivals: a circle counted as arrived, after a hundred moves",
+    ArrivalsLeaving: "arrivals: leaving the sector counted as arrived",
+    ArrivalsStanding: "arrivals: a byte with no direction counted as arrived",
+    ArrivalsHundred: "arrivals: a hundred moves instead of the least number",
+    ArrivalsFromOne: "arrivals: the cell itself counted as a move",
+    ArrivalsGivenUp: "arrivals: given up after 98 moves",
+    ArrivalsHalfway: "arrivals: given up after 50 moves",
+    ArrivalsWrapped: "arrivals: moves by the index, over the end of a row",
+    ArrivalsGoalPassed: "arrivals: a goal not arrived at",
+    ArrivalsSightPassed: "arrivals: a cell in sight not arrived at",
+    ArrivalsPortalPassed: "arrivals: a portal goal not arrived at",
+    ArrivalsWallsArrive: "arrivals: flags read where 0x10 is not set",
+    ArrivalsImpassablePassed: "arrivals: a byte with all of 0xE0 not arrived at, though 0x10 is set",
+    ArrivalsOppositeCancel: "arrivals: opposite bits cancel, and the rest is followed",
+    ArrivalsDiagonalsRead: "arrivals: of a diagonal only the row followed",
+    ArrivalsNeverZero: "arrivals: 0 where the arrows never arrive",
+    ArrivalsOfRefusal: "arrivals: a refusal says that no cell arrives",
 }
 
 impl Slip {

@@ -1,0 +1,173 @@
+//! Sheets whose arrows are followed (our own addition): what is tried in full, what is drawn, and what such sheets have to meet.
+
+use super::good::drawn;
+use super::{Cases, Met};
+use crate::cases::Case;
+use crate::floors::{self, Costs, Rng, Step};
+use crate::model::{Lost, Model, lost_by};
+use crate::subject::*;
+
+fn case(sheet: Vec<u8>) -> Case {
+    Case { sheet, ..Case::of(Call::Arrivals) }
+}
+
+/// Low halves toward N, E, S, W, NE, SE, SW, NW.
+const BITS: [u8; 8] = [1, 2, 4, 8, 3, 6, 12, 9];
+
+/// The sheet of a sector with a goal.
+fn planned(costs: Costs, step: Step) -> Vec<u8> {
+    Model::PLAIN.planned(&costs, &step, None).2.to_vec()
+}
+
+/// Row after row, to and fro, from a cell that has arrived to the last: 99 moves. Turned round, upright, or both.
+fn snake(turned: bool, upright: bool, arrived: u8) -> Vec<u8> {
+    let place = |at: usize| {
+        let (row, column) = (at / 10, if at / 10 % 2 == 0 { at % 10 } else { 9 - at % 10 });
+        let cell = if upright { column * 10 + row } else { row * 10 + column };
+        if turned { 99 - cell } else { cell }
+    };
+    let mut sheet = vec![arrived; CELLS];
+    for at in 1..CELLS {
+        let (from, to) = (place(at), place(at - 1));
+        let bits = match to as i32 - from as i32 {
+            -10 => 1,
+            1 => 2,
+            10 => 4,
+            _ => 8,
+        };
+        sheet[from] = 0x10 + bits;
+    }
+    sheet
+}
+
+/// A byte of a sheet that is not planned: mostly an arrow, few that have arrived.
+fn any_byte(rng: &mut Rng) -> u8 {
+    match rng.below(40) {
+        0 => rng.pick(&[0x70, 0x30, 0x90, 0xF3, 0xB0, 0x50]),
+        1 => rng.below(256) as u8,
+        2 => rng.pick(&[0, 0xE0, 0x10, 0x15, 0x1A, 0x17, 0x1F]),
+        _ => rng.pick(&[0x10, 0x10, 0]) + rng.pick(&BITS),
+    }
+}
+
+/// Arrows mostly toward one side or the other, so that some lead far.
+fn long_ways(rng: &mut Rng) -> Vec<u8> {
+    let mut sheet = snake(rng.one_in(2), rng.one_in(2), rng.pick(&[0x70, 0x30, 0x90, 0xF3]));
+    for _ in 0..rng.below(6) {
+        sheet[rng.below(CELLS)] = any_byte(rng);
+    }
+    sheet
+}
+
+fn any_sheet(rng: &mut Rng) -> Case {
+    match rng.below(4) {
+        0 => case((0..CELLS).map(|_| rng.below(256) as u8).collect()),
+        1 => case((0..CELLS).map(|_| any_byte(rng)).collect()),
+        2 => case(long_ways(rng)),
+        _ => {
+            let (costs, step) = floors::any_open(rng);
+            case(planned(costs, step))
+        }
+    }
+}
+
+/// Every floor of one wall with every goal that is not on it, the rest at cost 1.
+fn one_wall_sheets() -> impl Iterator<Item = Vec<u8>> {
+    let steps = floors::all_goals();
+    (0..CELLS).flat_map(move |wall| {
+        let goals: Vec<Step> = steps.iter().copied().filter(|step| usize::from(step[1]) != wall).collect();
+        goals.into_iter().map(move |step| planned(floors::one_wall(wall), step))
+    })
+}
+
+/// Every byte alone beside a goal, the snakes, every floor of one wall with every goal; then drawn sheets.
+pub fn sheets(rng: Rng, inputs: usize) -> Cases {
+    let alone = (0..=255).map(|byte| {
+        let mut sheet = vec![0x70; CELLS];
+        sheet[44] = byte;
+        sheet
+    });
+    let walled = (0..=255).map(|byte| vec![byte; CELLS]);
+    let snakes = (0..8).map(|kind| snake(kind % 2 == 0, kind / 2 % 2 == 0, if kind < 4 { 0x70 } else { 0xF3 }));
+    let full = alone.chain(walled).chain(snakes).chain(one_wall_sheets()).map(case);
+    Box::new(full.chain(drawn(rng, inputs, any_sheet)))
+}
+
+/// Of the floors of one wall with every goal: how many there are, how many have a reached cell that never arrives, and how many
+/// such cells there are.
+pub fn counted_one_wall(side: &dyn Subject) -> [usize; 3] {
+    one_wall_sheets().fold([0; 3], |[all, lost, cells], sheet| {
+        let never = lost_cells(side, &sheet);
+        [all + 1, lost + usize::from(never > 0), cells + never]
+    })
+}
+
+/// Cells that can be walked and never arrive.
+fn lost_cells(side: &dyn Subject, sheet: &[u8]) -> usize {
+    let moves = side.arrivals(sheet).moves;
+    (0..CELLS).filter(|cell| moves[*cell] == NEVER && sheet[*cell] & 0x10 != 0).count()
+}
+
+pub fn arrival_kinds() -> Vec<Met> {
+    vec![
+        Met::ArrivesAtOnce,
+        Met::ArrivesNext,
+        Met::ArrivesLate,
+        Met::ArrivesLast,
+        Met::InPair,
+        Met::InRing,
+        Met::IntoCircle,
+        Met::LeavesSector,
+        Met::NoDirection,
+        Met::OppositeBits,
+        Met::ImpassableArrived,
+        Met::SectorLost,
+        Met::SectorWhole,
+    ]
+}
+
+pub(super) fn all() -> Vec<Met> {
+    arrival_kinds()
+}
+
+/// What one cell of a sheet meets.
+fn met_by(sheet: &[u8], cell: usize, moves: u8) -> Option<Met> {
+    match moves {
+        0 if sheet[cell] >= 0xE0 => Some(Met::ImpassableArrived),
+        0 => Some(Met::ArrivesAtOnce),
+        1 => Some(Met::ArrivesNext),
+        50..=98 => Some(Met::ArrivesLate),
+        99 => Some(Met::ArrivesLast),
+        NEVER => Some(match lost_by(sheet, cell) {
+            Lost::Circle { before: 0, cells: 2 } => Met::InPair,
+            Lost::Circle { before: 0, .. } => Met::InRing,
+            Lost::Circle { .. } => Met::IntoCircle,
+            Lost::Leaving => Met::LeavesSector,
+            Lost::Standing(byte) if byte % 16 == 0 => Met::NoDirection,
+            Lost::Standing(_) => Met::OppositeBits,
+        }),
+        _ => None,
+    }
+}
+
+pub(super) fn met(case: &Case) -> Vec<Met> {
+    let (sheet, moves) = (&case.sheet, Model::PLAIN.arrivals_of(&case.sheet).moves);
+    let mut found: Vec<Met> = (0..CELLS).filter_map(|cell| met_by(sheet, cell, moves[cell])).collect();
+    if sheet.iter().filter(|byte| **byte == 0x70).count() == 1 {
+        let lost = lost_cells(&Model::PLAIN, sheet) > 0;
+        found.push(if lost { Met::SectorLost } else { Met::SectorWhole });
+    }
+    found.sort();
+    found.dedup();
+    found
+}
+
+/// A drawn sheet that meets a kind.
+pub fn sheet_that_meets(rng: &mut Rng, kind: Met) -> Case {
+    loop {
+        let case = any_sheet(rng);
+        if met(&case).contains(&kind) {
+            return case;
+        }
+    }
+}
