@@ -1,7 +1,9 @@
-// The records of the flow calls and of the byte readers. The flow calls do not look at a field's list, so none is recorded.
+// The records of the flow calls, of the byte readers and of arrivals. The flow calls do not look at a field's list, so none is
+// recorded.
 use records::byte_at;
 use records::field_of;
 use records::part;
+use records::size_at;
 
 // A record: 8 bytes of step, cells, has_previous, 100 previous numbers; number, sheet.
 pub fn new_agrees(record: &[u8]) -> bool {
@@ -43,4 +45,15 @@ pub fn readers_agree(record: &[u8]) -> bool {
         0,
     ];
     check::same(&read, record)
+}
+
+// A record: length of the sheet, 101 bytes for the sheet; number, 100 numbers of moves.
+pub fn arrivals_agree(record: &[u8]) -> bool {
+    let sheet = size_at(record, 0);
+    if sheet > 101 {
+        return false;
+    }
+    let found = following::arrivals(part(record, 1, 1 + sheet));
+    let moves = found.moves;
+    found.number == byte_at(record, 102) && check::same(&moves, part(record, 103, 203))
 }

@@ -38,6 +38,7 @@ fn agrees(section: u8, record: &[u8]) -> bool {
         14 => floors::bounds_agree(record),
         15 => windows::costs_agree(record),
         16 => windows::tour_agrees(record),
+        17 => flow::arrivals_agree(record),
         _ => false,
     }
 }
@@ -118,4 +119,6 @@ fn main() {
     replay(15, b"window_costs.table", 496);
     replay(16, b"window_tour.model", 263);
     replay(16, b"window_tour.table", 263);
+    replay(17, b"arrivals.model", 203);
+    replay(17, b"arrivals.table", 203);
 }

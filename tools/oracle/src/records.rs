@@ -22,6 +22,7 @@
 //! | bounds.model, bounds.table | 1115 | lengths of low, high and step, low in 101 places, high in 101, step in 9 | number, 100 least of 32 bits, 100 greatest of 32 bits, 100 marks |
 //! | window_costs.model, window_costs.table | 496 | lengths of costs and steps, costs in 101 places, steps in 136 | number, 64 costs of 32 bits, row by row |
 //! | window_tour.model, window_tour.table | 263 | lengths of costs and steps, limit of 16 bits, costs in 101 places, steps in 136 | number, whether an order is found, 8 places of the order, sum, number tried and least figure of 32 bits |
+//! | arrivals.model, arrivals.table | 203 | length of the sheet, sheet in 101 places | number, 100 numbers of moves |
 //!
 //! A file whose name has no dot holds answers of the published Rust. Behind a dot stands the judge of a file that has
 //! another: `altered`, the Rust altered in two rules (document 02, Job 7: a diagonal is barred if either cell beside it is a
@@ -60,6 +61,8 @@
 //!
 //! window_costs.model, window_costs.table, window_tour.model, window_tour.table: windows of one sector, taken and refused.
 //! Places beyond a length are 0.
+//!
+//! arrivals.model, arrivals.table: a sheet, taken and refused. Places beyond a length are 0.
 //!
 //! Nothing here comes from the program that replays it.
 
@@ -135,6 +138,8 @@ pub fn sections() -> Vec<Section> {
         Section { name: "window_costs.table", length: 496, records: windows_refused(rng()) },
         Section { name: "window_tour.model", length: 263, records: tours_taken(rng()) },
         Section { name: "window_tour.table", length: 263, records: tours_refused(rng()) },
+        Section { name: "arrivals.model", length: 203, records: arrivals_taken(rng()) },
+        Section { name: "arrivals.table", length: 203, records: arrivals_refused(rng()) },
     ]
 }
 
@@ -506,7 +511,7 @@ fn refusal(case: &Case) -> Vec<u8> {
         Call::PracticeFloor => unreachable!("practice floors refuse nothing"),
         Call::Bounds => unreachable!("bounds have sections of their own"),
         Call::WindowCosts | Call::WindowTour => unreachable!("windows have sections of their own"),
-        Call::Arrivals => unreachable!("arrivals are not recorded"),
+        Call::Arrivals => unreachable!("arrivals have sections of their own"),
     };
     let short = |value: usize| (value as u16).to_le_bytes();
     let place = case.field.los_corners.iter().position(|corner| *corner != 0).unwrap_or(0);
@@ -1083,4 +1088,30 @@ fn tours_refused(mut rng: Rng) -> Vec<Vec<u8>> {
     cases.iter_mut().enumerate().for_each(|(k, case)| case.limit = [0, 1, 24, 5040, 65535][k % 5]);
     cases.extend((0..8).map(|_| groups::refused_tour(&mut rng)));
     cases.iter().map(window_tour).filter(|(taken, _)| !*taken).map(|(_, record)| record).collect()
+}
+
+fn arrivals(case: &Case) -> Vec<u8> {
+    let sheet = &case.sheet;
+    let answer = Oracle.arrivals(sheet);
+    let mut record = vec![sheet.len() as u8];
+    record.extend(placed(sheet, 101));
+    record.push(answer.number);
+    record.extend(answer.moves);
+    record
+}
+
+/// Every byte among goals, snakes, floors of one wall; then sheets that meet each kind; then drawn ones.
+fn arrivals_taken(mut rng: Rng) -> Vec<Vec<u8>> {
+    let mut cases = groups::some_sheets();
+    cases.extend(groups::arrival_kinds().into_iter().map(|kind| groups::sheet_that_meets(&mut rng, kind)));
+    cases.extend((0..24).map(|_| groups::drawn_sheet(&mut rng)));
+    cases.iter().map(arrivals).collect()
+}
+
+/// Sheets of other lengths, of goals and of any bytes.
+fn arrivals_refused(mut rng: Rng) -> Vec<Vec<u8>> {
+    let of = |sheet: Vec<u8>| Case { sheet, ..Case::of(Call::Arrivals) };
+    let mut cases: Vec<Case> = [0, 1, 10, 50, 98, 99, 101].map(|length| of(vec![0x70; length])).to_vec();
+    cases.extend([0, 99, 101].map(|length| of((0..length).map(|_| rng.below(256) as u8).collect())));
+    cases.iter().map(arrivals).collect()
 }

@@ -93,11 +93,11 @@ fn a_file_with_another_judge_says_so_in_its_name() {
     assert_eq!(by(Judge::Altered), altered);
     assert_eq!(by(Judge::Counted), ["build", "sector.altered"]);
     let tables = ["init.table", "sector.table", "leg.table", "refusals.table", "bounds.table"];
-    let windows = ["window_costs.table", "window_tour.table"];
+    let windows = ["window_costs.table", "window_tour.table", "arrivals.table"];
     assert_eq!(by(Judge::Table), [&tables[..], &windows[..]].concat());
     let files = ["leg_file_write.model", "leg_file_read.model"];
     let floors = ["practice.model", "practice_text.model", "bounds.model"];
-    let windows = ["window_costs.model", "window_tour.model"];
+    let windows = ["window_costs.model", "window_tour.model", "arrivals.model"];
     // Of the first three, whose cells are the Rust's, the positions.
     let positions = ["init.altered", "build", "sector.altered"];
     let models = [&positions[..], &["leg.model"], &files[..], &floors[..], &windows[..]].concat();
@@ -530,5 +530,28 @@ fn window_tours_show_every_slip() {
     for (slip, text) in slips_of("window tour: ").into_iter().chain(numbers) {
         let taken = shown(*slip, "window_tour.model", agrees);
         assert!(taken || shown(*slip, "window_tour.table", agrees), "not shown: {text}");
+    }
+}
+
+/// The number of a record of arrivals, and whether a model answers what it says.
+fn arrivals_so(model: &Model, r: &mut Reader) -> (u8, bool) {
+    let (length, sheet) = (usize::from(r.byte()), r.bytes(101));
+    assert!(sheet[length..].iter().all(|byte| *byte == 0), "zeros beyond");
+    let (number, moves) = (r.byte(), r.bytes(100).try_into().expect("a hundred bytes"));
+    (number, model.arrivals(&sheet[..length]) == Arrivals { number, moves })
+}
+
+#[test]
+fn arrivals() {
+    each("arrivals.model", |r| assert_eq!(arrivals_so(&MODEL, r), (0, true)));
+    each("arrivals.table", |r| assert_eq!(arrivals_so(&MODEL, r), (2, true)));
+}
+
+#[test]
+fn arrivals_show_every_slip() {
+    let agrees = |model: &Model, r: &mut Reader| arrivals_so(model, r).1;
+    for (slip, text) in slips_of("arrivals: ") {
+        let taken = shown(*slip, "arrivals.model", agrees);
+        assert!(taken || shown(*slip, "arrivals.table", agrees), "not shown: {text}");
     }
 }

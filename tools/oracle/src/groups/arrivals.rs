@@ -59,7 +59,8 @@ fn long_ways(rng: &mut Rng) -> Vec<u8> {
     sheet
 }
 
-fn any_sheet(rng: &mut Rng) -> Case {
+/// A drawn sheet.
+pub fn drawn_sheet(rng: &mut Rng) -> Case {
     match rng.below(4) {
         0 => case((0..CELLS).map(|_| rng.below(256) as u8).collect()),
         1 => case((0..CELLS).map(|_| any_byte(rng)).collect()),
@@ -80,17 +81,34 @@ fn one_wall_sheets() -> impl Iterator<Item = Vec<u8>> {
     })
 }
 
-/// Every byte alone beside a goal, the snakes, every floor of one wall with every goal; then drawn sheets.
+fn snakes() -> impl Iterator<Item = Vec<u8>> {
+    (0..8).map(|kind| snake(kind % 2 == 0, kind / 2 % 2 == 0, if kind < 4 { 0x70 } else { 0xF3 }))
+}
+
+/// Every byte alone among goals, every byte all over, the snakes, every floor of one wall with every goal; then drawn sheets.
 pub fn sheets(rng: Rng, inputs: usize) -> Cases {
     let alone = (0..=255).map(|byte| {
         let mut sheet = vec![0x70; CELLS];
         sheet[44] = byte;
         sheet
     });
-    let walled = (0..=255).map(|byte| vec![byte; CELLS]);
-    let snakes = (0..8).map(|kind| snake(kind % 2 == 0, kind / 2 % 2 == 0, if kind < 4 { 0x70 } else { 0xF3 }));
-    let full = alone.chain(walled).chain(snakes).chain(one_wall_sheets()).map(case);
-    Box::new(full.chain(drawn(rng, inputs, any_sheet)))
+    let all_over = (0..=255).map(|byte| vec![byte; CELLS]);
+    let full = alone.chain(all_over).chain(snakes()).chain(one_wall_sheets()).map(case);
+    Box::new(full.chain(drawn(rng, inputs, drawn_sheet)))
+}
+
+/// A few of those tried in full: every byte once, 25 to a sheet, in the odd rows and columns among goals; the snakes; floors of
+/// one wall, the first with a cell that never arrives among them.
+pub fn some_sheets() -> Vec<Case> {
+    let among_goals = (0..=255u8).collect::<Vec<u8>>();
+    let among_goals = among_goals.chunks(25).map(|bytes| {
+        let mut sheet = vec![0x70; CELLS];
+        bytes.iter().enumerate().for_each(|(at, byte)| sheet[at / 5 * 20 + at % 5 * 2 + 11] = *byte);
+        sheet
+    });
+    let walled = [(1, 10), (55, 44), (44, 45), (0, 99), (90, 9)];
+    let walled = walled.map(|(wall, goal)| planned(floors::one_wall(wall), floors::goal_step(0, goal)));
+    among_goals.chain(snakes()).chain(walled).map(case).collect()
 }
 
 /// Of the floors of one wall with every goal: how many there are, how many have a reached cell that never arrives, and how many
@@ -165,7 +183,7 @@ pub(super) fn met(case: &Case) -> Vec<Met> {
 /// A drawn sheet that meets a kind.
 pub fn sheet_that_meets(rng: &mut Rng, kind: Met) -> Case {
     loop {
-        let case = any_sheet(rng);
+        let case = drawn_sheet(rng);
         if met(&case).contains(&kind) {
             return case;
         }
