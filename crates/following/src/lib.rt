@@ -46,7 +46,7 @@ fn moves_from(sheet: &[u8], index: usize) -> u8
     ensures { λ r. ⌜ r ≡ movesFrom (now (sheet .entry)) index ⌝ }
 {
     let mut at = index;
-    let mut moves = 0;
+    let mut moves: u8 = 0;
     while moves < 100 {
         let byte = sheet[at];
         if is_arrival(byte) {

@@ -2,16 +2,16 @@
 -- Assumes nothing.
 use mathlib.Core.Path.{_≡_}
 use denote.Ref.{now}
-use borrow.Author.Needs.{needs}
+use native.Mathlib.Omega.{arith}
 use Rattle.following.proofs.Laws.{accepts, refuses}
 use Rattle.following.proofs.arrivals.Statement.{statement}
 use Rattle.following.proofs.arrivals.Tie as tie
 
 returns : tie.Need-returns
-returns c = refuses (now (c .before .before .args .sheet)) (c .if1 .taken)
+returns c = refuses (now (c .before .before .args .sheet)) (λ e. omega (arith, e, c .if1 .taken))
 
 all-moves-requires : tie.Need-all-moves-requires
-all-moves-requires c κs = c .if1 .left
+all-moves-requires c κs = omega (arith, c .if1 .left)
 
 returns-2 : tie.Need-returns-2
 returns-2 c = accepts (now (c .before .before .before .args .sheet)) _ (c .before .if1 .left) (c .all-moves .ensures)

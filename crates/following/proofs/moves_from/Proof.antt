@@ -43,7 +43,7 @@ module _ (m : tie.After-is-arrival Inv-loop μ-loop) where
   made = m .before .before .before .loop .moves
 
   few : made < 100
-  few = m .before .before .loop-test .taken
+  few = omega (arith, m .before .before .loop-test .taken)
 
   left : Left sheet index made at
   left = m .before .before .before .loop .inv .1 .1
