@@ -1,6 +1,7 @@
 /*
- * The deepest stack of a leg, of a call for window costs and of one for a tour: plans legs of sixteen steps, and asks for
- * the costs of eight windows and the best of all their orders, on a painted stack and looks how far down the paint is gone.
+ * The deepest stack of a leg, of a call for window costs, of one for a tour and of one for arrivals: plans legs of sixteen
+ * steps, asks for the costs of eight windows and the best of all their orders, and for the arrivals of the leg's goal sector,
+ * on a painted stack and looks how far down the paint is gone.
  * The floors are hard: sectors are changed cell by cell, and a change is kept where the waves do not become fewer and the
  * next step can still be planned. The windows are those of a hard sector: its own and seven more cells of its edges.
  * What goes wrong, a refused call among it, is one line on standard error and exit status 1.
@@ -114,6 +115,13 @@ static void *tour_windows(void *sector)
     return sector;
 }
 
+static void *follow(void *planned)
+{
+    before = (uintptr_t)__builtin_frame_address(0);
+    number = hanjolum_arrivals(planned, HANJOLUM_CELLS).number;
+    return planned;
+}
+
 /* A window step and seven windows of one cell behind it, of cells on the edges that are no walls; whether there are as
    many. */
 static int make_windows(const uint8_t *costs, const uint8_t *step)
@@ -160,7 +168,7 @@ static void deeper(size_t *deepest, size_t used)
 int main(int argc, char **argv)
 {
     uint8_t *stack = aligned_alloc(4096, STACK);
-    size_t deepest = 0, of_windows = 0, of_tours = 0;
+    size_t deepest = 0, of_windows = 0, of_tours = 0, of_arrivals = 0;
     long most = 0;
     (void)argv;
     if (argc > 1)
@@ -183,11 +191,13 @@ int main(int argc, char **argv)
             }
         }
         deeper(&deepest, depth(stack, plan, NULL));
+        deeper(&of_arrivals, depth(stack, follow, sheet + steps[0] * HANJOLUM_CELLS));
     }
     free(stack);
     if (of_windows == 0)
         fail("no call for window costs was made");
-    printf("%zu bytes of stack at most, with %ld waves; %zu for window costs, %zu for a tour\n", deepest, most, of_windows, of_tours);
+    printf("%zu bytes of stack at most, with %ld waves; %zu for window costs, %zu for a tour, %zu for arrivals\n", deepest, most,
+           of_windows, of_tours, of_arrivals);
     if (fflush(stdout) != 0)
         fail("standard output cannot be written");
     return 0;

@@ -1,9 +1,10 @@
 //! Speed: our sector call against the Rust's `init`, `build`, `new`, `build` on the same inputs, from the same driver, in
 //! one run; our leg against its sector calls, where every window cell counts, and by itself, where some do not; our bounds
 //! against the Rust's `init` and `build` on both floors; our costs from window to window against the Rust's `init` and
-//! `build` for each window, and our tours against these. The Rust is the copy altered as document 02, Jobs 7 and 11 ask,
-//! which writes the same bytes. A few inputs are timed at once, and of many rounds the least time counts: another program
-//! that runs adds to a time and never takes from it. Of the sector call the medians are compared too.
+//! `build` for each window, our tours against these, and our arrivals against the sector calls that write their sheets. The
+//! Rust is the copy altered as document 02, Jobs 7 and 11 ask, which writes the same bytes. A few inputs are timed at once,
+//! and of many rounds the least time counts: another program that runs adds to a time and never takes from it. Of the sector
+//! call the medians are compared too.
 
 use std::hint::black_box;
 use std::process::ExitCode;
@@ -17,6 +18,7 @@ use altered::flowfields::route::RouteStep;
 use oracle::command;
 use oracle::copies::altered::{cost_field, route_step, window_cells};
 use oracle::floors::{self, Rng, Step};
+use oracle::groups::snakes;
 use oracle::library::Library;
 use oracle::model::Model;
 use oracle::oracle::rust_built;
@@ -401,6 +403,45 @@ fn tours() {
     }
 }
 
+/// The sheet that the sector call writes.
+fn written(input: &Input) -> Vec<u8> {
+    let mut sheet = [0x55; CELLS];
+    by_us(input, &mut sheet);
+    sheet.to_vec()
+}
+
+/// What arrivals of sheets take.
+fn measure_arrivals(sheets: &[Vec<u8>]) -> f64 {
+    let mut times = Times::default();
+    assert!(sheets.iter().all(|sheet| Library.arrivals(sheet).number == 0), "the sheets are taken");
+    (0..ROUNDS).for_each(|_| times.round(sheets, AT_ONCE, |sheet| black_box(Library.arrivals(sheet)).moves[99]));
+    times.each(sheets.len())
+}
+
+fn arrivals() {
+    println!(
+        "nanoseconds a call for arrivals: {INPUTS} sheets, {AT_ONCE} timed at once, the least of {ROUNDS} rounds;"
+    );
+    println!(
+        "beside the sector call that wrote the sheet. `snakes` are ways over all 100 cells, `pairs` a sheet of cells that"
+    );
+    println!("point at each other, which are followed longest, 100 moves from each cell");
+    println!("{:<14} {:>9} {:>9}", "", "sector", "arrivals");
+    for (name, open, window) in
+        [("random goal", false, false), ("random window", false, true), ("open goal", true, false)]
+    {
+        let mut rng = Rng::new(7);
+        let inputs: Vec<Input> = (0..INPUTS).map(|_| input(&mut rng, open, window)).collect();
+        let sheets: Vec<Vec<u8>> = inputs.iter().map(written).collect();
+        let sector = measure(&inputs)[1].each(INPUTS);
+        println!("{name:<14} {sector:>9.0} {:>9.0}", measure_arrivals(&sheets));
+    }
+    let pairs = (0..CELLS).map(|cell| if cell % 2 == 0 { 0x12 } else { 0x18 }).collect();
+    for (name, sheets) in [("snakes", snakes().collect()), ("pairs", vec![pairs])] {
+        println!("{name:<14} {:>9} {:>9.0}", "", measure_arrivals(&sheets));
+    }
+}
+
 fn bench(words: Vec<String>) -> Result<(), String> {
     if let Some(word) = words.first() {
         return Err(format!("`{word}`: bench takes no words"));
@@ -408,13 +449,14 @@ fn bench(words: Vec<String>) -> Result<(), String> {
     if !cfg!(panic = "abort") {
         return Err("not built with the profile `fastest`: use tools/oracle/run bench".to_string());
     }
-    Library::found(&[Call::Sector, Call::Leg, Call::Bounds, Call::WindowCosts, Call::WindowTour])?;
+    Library::found(&[Call::Sector, Call::Leg, Call::Bounds, Call::WindowCosts, Call::WindowTour, Call::Arrivals])?;
     println!("the Rust and this driver are built with {}", env!("ORACLE_PROFILE"));
     sectors();
     legs();
     bounds();
     squares();
     tours();
+    arrivals();
     Ok(())
 }
 

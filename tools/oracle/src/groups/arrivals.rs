@@ -81,7 +81,8 @@ fn one_wall_sheets() -> impl Iterator<Item = Vec<u8>> {
     })
 }
 
-fn snakes() -> impl Iterator<Item = Vec<u8>> {
+/// The longest ways there are.
+pub fn snakes() -> impl Iterator<Item = Vec<u8>> {
     (0..8).map(|kind| snake(kind % 2 == 0, kind / 2 % 2 == 0, if kind < 4 { 0x70 } else { 0xF3 }))
 }
 
