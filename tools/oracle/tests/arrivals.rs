@@ -1,7 +1,7 @@
 //! Arrivals, by hand and by groups.
 
 use oracle::floors::Rng;
-use oracle::groups::{Group, arrival_kinds, counted_one_wall, sheet_that_meets};
+use oracle::groups::{Group, arrival_kinds, counted, goal_sheets, is_walked, one_wall_sheets, sheet_that_meets};
 use oracle::model::{Lost, Model, Slip, lost_by};
 use oracle::subject::{CELLS, NEVER, Subject};
 
@@ -61,9 +61,38 @@ fn the_group_meets_each_kind() {
     assert_eq!(group.unmet(&clean), None);
 }
 
+/// docs/DIFFERENCES.md has these figures: cells that can be walked and have not arrived, on every floor of one wall.
 #[test]
 fn floors_of_one_wall() {
-    assert_eq!(counted_one_wall(&Model::PLAIN)[..2], [9_900, 1_010]);
+    let told = counted(one_wall_sheets(), is_walked);
+    assert_eq!((told.sheets, told.lost_sheets, told.cells, told.lost), (9_900, 1_010, 114_998, 11_570));
+    assert_eq!((told.most_lost, told.most_moves), (96, 14));
+    let first = one_wall_sheets().find(|sheet| counted(std::iter::once(sheet.clone()), is_walked).lost > 0);
+    let first = first.expect("a floor with a cell that never arrives");
+    let lost: Vec<usize> = (0..CELLS).filter(|cell| is_walked(first[*cell]) && moves(&first)[*cell] == NEVER).collect();
+    assert_eq!((first[1], first[10], lost), (0xE0, 0x70, (2..10).collect()));
+}
+
+/// The same of drawn floors with a goal: as `new` starts the sheet there is no arrow, and no cell comes anywhere.
+#[test]
+fn drawn_floors() {
+    let mut rng = Rng::new(29);
+    let (started, built): (Vec<_>, Vec<_>) = (0..10_000).map(|_| goal_sheets(&mut rng)).map(|[a, b]| (a, b)).unzip();
+    let told = counted(started.into_iter(), |_| true);
+    assert_eq!((told.sheets, told.cells, told.lost), (10_000, 642_558, 642_558));
+    let told = counted(built.into_iter(), is_walked);
+    assert_eq!((told.sheets, told.lost_sheets, told.cells, told.lost), (10_000, 2_279, 298_081, 55_184));
+    assert_eq!((told.most_lost, told.most_moves), (92, 53));
+}
+
+/// And of any bytes, each cell that has not arrived itself.
+#[test]
+fn drawn_bytes() {
+    let mut rng = Rng::new(29);
+    let sheets = (0..10_000).map(|_| (0..CELLS).map(|_| rng.below(256) as u8).collect());
+    let told = counted(sheets, |_| true);
+    assert_eq!((told.sheets, told.lost_sheets, told.cells, told.lost), (10_000, 10_000, 562_035, 427_349));
+    assert_eq!((told.most_lost, told.most_moves), (69, 7));
 }
 
 #[test]

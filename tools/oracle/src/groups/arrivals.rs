@@ -73,7 +73,7 @@ pub fn drawn_sheet(rng: &mut Rng) -> Case {
 }
 
 /// Every floor of one wall with every goal that is not on it, the rest at cost 1.
-fn one_wall_sheets() -> impl Iterator<Item = Vec<u8>> {
+pub fn one_wall_sheets() -> impl Iterator<Item = Vec<u8>> {
     let steps = floors::all_goals();
     (0..CELLS).flat_map(move |wall| {
         let goals: Vec<Step> = steps.iter().copied().filter(|step| usize::from(step[1]) != wall).collect();
@@ -112,19 +112,55 @@ pub fn some_sheets() -> Vec<Case> {
     among_goals.chain(snakes()).chain(walled).map(case).collect()
 }
 
-/// Of the floors of one wall with every goal: how many there are, how many have a reached cell that never arrives, and how many
-/// such cells there are.
-pub fn counted_one_wall(side: &dyn Subject) -> [usize; 3] {
-    one_wall_sheets().fold([0; 3], |[all, lost, cells], sheet| {
-        let never = lost_cells(side, &sheet);
-        [all + 1, lost + usize::from(never > 0), cells + never]
+/// A drawn floor with a goal: the sheet as `new` starts it, and as `build` leaves it.
+pub fn goal_sheets(rng: &mut Rng) -> [Vec<u8>; 2] {
+    let (costs, step) = loop {
+        let (costs, step) = floors::any_open(rng);
+        if step[2] == 0 {
+            break (costs, step);
+        }
+    };
+    let (field, _, built) = Model::PLAIN.planned(&costs, &step, None);
+    let mut started = vec![0; CELLS];
+    Model::PLAIN.flow_new(&step, field, Previous { lent: false, numbers: &[] }, &mut started);
+    [started, built.to_vec()]
+}
+
+/// How many cells of some sheets never arrive.
+#[derive(Clone, Copy, PartialEq, Eq, Debug, Default)]
+pub struct Counted {
+    pub sheets: usize,
+    /// Those with a cell that never arrives.
+    pub lost_sheets: usize,
+    /// Cells that have not arrived themselves.
+    pub cells: usize,
+    /// Those that never do, and the most of them on one sheet.
+    pub lost: usize,
+    pub most_lost: usize,
+    /// The most moves that one takes.
+    pub most_moves: u8,
+}
+
+/// Looks at every cell that has not arrived and that `counts` by its byte.
+pub fn counted(sheets: impl Iterator<Item = Vec<u8>>, counts: fn(u8) -> bool) -> Counted {
+    sheets.fold(Counted::default(), |sum, sheet| {
+        let moves = Model::PLAIN.arrivals(&sheet).moves;
+        let told = (0..CELLS).filter(|cell| moves[*cell] > 0 && counts(sheet[*cell])).map(|cell| moves[cell]);
+        let (lost, found): (Vec<u8>, Vec<u8>) = told.partition(|moves| *moves == NEVER);
+        Counted {
+            sheets: sum.sheets + 1,
+            lost_sheets: sum.lost_sheets + usize::from(!lost.is_empty()),
+            cells: sum.cells + lost.len() + found.len(),
+            lost: sum.lost + lost.len(),
+            most_lost: sum.most_lost.max(lost.len()),
+            most_moves: found.iter().copied().fold(sum.most_moves, u8::max),
+        }
     })
 }
 
-/// Cells that can be walked and never arrive.
-fn lost_cells(side: &dyn Subject, sheet: &[u8]) -> usize {
-    let moves = side.arrivals(sheet).moves;
-    (0..CELLS).filter(|cell| moves[*cell] == NEVER && sheet[*cell] & 0x10 != 0).count()
+/// Whether a byte can be walked: 0x10.
+pub fn is_walked(byte: u8) -> bool {
+    byte & 0x10 != 0
 }
 
 pub fn arrival_kinds() -> Vec<Met> {
@@ -173,7 +209,7 @@ pub(super) fn met(case: &Case) -> Vec<Met> {
     let (sheet, moves) = (&case.sheet, Model::PLAIN.arrivals_of(&case.sheet).moves);
     let mut found: Vec<Met> = (0..CELLS).filter_map(|cell| met_by(sheet, cell, moves[cell])).collect();
     if sheet.iter().filter(|byte| **byte == 0x70).count() == 1 {
-        let lost = lost_cells(&Model::PLAIN, sheet) > 0;
+        let lost = counted(std::iter::once(sheet.clone()), is_walked).lost > 0;
         found.push(if lost { Met::SectorLost } else { Met::SectorWhole });
     }
     found.sort();

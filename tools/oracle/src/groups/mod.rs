@@ -16,7 +16,10 @@ mod windows;
 
 use std::collections::BTreeMap;
 
-pub use arrivals::{arrival_kinds, counted_one_wall, drawn_sheet, sheet_that_meets, snakes, some_sheets};
+pub use arrivals::{
+    Counted, arrival_kinds, counted, drawn_sheet, goal_sheets, is_walked, one_wall_sheets, sheet_that_meets, snakes,
+    some_sheets,
+};
 pub use bad::{refused_floors, refused_tour, refused_windows};
 pub use bounds::{any_floors, floors_that_meet, range_kinds};
 pub use legs::{
