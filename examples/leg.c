@@ -1,5 +1,7 @@
 /*
- * Plans a leg over three sectors and prints the arrows of each, from the goal's sector back to the cart's.
+ * Plans a leg over three sectors and prints the arrows of each, from the goal's sector back to the cart's. Then it looks once
+ * at the goal's sector: from every reached cell of the other two the arrows lead there, and the numbers of moves of its cells
+ * tell the rest of the way.
  *
  *     rt staticlib hanjolum && cc -Iinclude examples/leg.c target/staticlib/libhanjolum.a -o target/leg && target/leg
  */
@@ -71,6 +73,20 @@ static void print_sector(const uint8_t *sheet, int sector)
     printf("\n");
 }
 
+/* The number of moves of each cell of a sector; "-" where the arrows never arrive, on a wall too. */
+static void print_arrivals(const uint8_t *sheet, int sector)
+{
+    HanjolumArrivals arrivals = hanjolum_arrivals(sheet + sector * HANJOLUM_CELLS, HANJOLUM_CELLS);
+    printf("moves to the goal or into its sight, sector %d\n", sector);
+    for (int cell = 0; cell < HANJOLUM_CELLS; cell++) {
+        if (arrivals.moves[cell] == HANJOLUM_NEVER)
+            printf(" -");
+        else
+            printf("%2d", arrivals.moves[cell]);
+        printf(cell % 10 == 9 ? "\n" : " ");
+    }
+}
+
 int main(void)
 {
     static uint8_t floor[HANJOLUM_FLOOR];
@@ -88,5 +104,6 @@ int main(void)
     }
     for (int i = 0; i < SECTORS; i++)
         print_sector(sheet, STEPS[i][0]);
+    print_arrivals(sheet, STEPS[0][0]);
     return 0;
 }

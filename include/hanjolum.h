@@ -244,8 +244,8 @@ HanjolumBuildAnswer hanjolum_sector(
  * Which arrows of a sector's sheet arrive, told before a cart is driven: 100 flow bytes, whatever they are.
  * moves[x] is the number of moves after which the arrows, followed from cell x, first come to a cell whose byte reads as
  * goal, in sight or portal goal, and 0 where x has such a byte itself. 255 says that they never come to one, however far
- * they are followed: they run in a circle, lead out of the sector, or end at a byte with no direction, as a wall is. No other
- * number is above 99.
+ * they are followed: they run in a circle, lead out of the sector, or end at a byte with no direction, as a wall's is. No
+ * other number is above 99.
  * In a sector left by a window, with no cost of 0, no reached cell has 255. In one with a goal reached cells may have it: a
  * cart set there never comes to the goal by the arrows. And for a planned leg with no cost of 0, one look at the goal's
  * sector (the sheet from sector * 100 on) tells the whole way: from every reached cell of the other sectors the arrows come
