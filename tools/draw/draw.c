@@ -2,8 +2,8 @@
  * Plans a sector that is drawn as text, and shows its arrows beside its flow bytes; or the practice floor of a seed, and
  * shows the floor beside them.
  * The drawing is turned into costs and a step here; every practice floor comes from hanjolum_practice_floor, every arrow
- * from hanjolum_sector, and which arrows never arrive from hanjolum_arrivals. A window wants the field of the sector across it, which is not drawn: it gets one of zeros, so that
- * each of its cells points straight across.
+ * from hanjolum_sector, and which arrows never arrive from hanjolum_arrivals. A window wants the field of the sector across
+ * it, which is not drawn: it gets one of zeros, so that each of its cells points straight across.
  * What is wrong with the words, the drawing or the output is one line on standard error and exit status 1.
  */
 #include <errno.h>

@@ -41,7 +41,8 @@ module _ (costs : List ℕ) (target : Target) (portal : PortalWindow) (has : Boo
       go : (t : Target) → WindowSector costs t → WindowCell t x → isArrival (getD (sectorBytes costs t portal has previous) x 0) ≡ true
       go (to-goal goal) v m = absurd (true≢false (sym (v .by-window)))
       go (to-window window) v m =
-          ap isArrival (window-flow costs window v portal has previous x h m) ∙ portal-arrival (windowBits portal has previous x) (window-bits portal has previous x)
+          let bits = windowBits portal has previous x in
+          ap isArrival (window-flow costs window v portal has previous x h m) ∙ portal-arrival bits (window-bits portal has previous x)
 
   leads-comes : {n x : ℕ} → x < 100 → Leads costs target (builtCells costs target) bytes n x → Comes bytes n x
   leads-comes {x = x} h (ends m) = there (window-arrival x h m)
