@@ -79,7 +79,8 @@ fn drawn_floors() {
     let mut rng = Rng::new(29);
     let (started, built): (Vec<_>, Vec<_>) = (0..10_000).map(|_| goal_sheets(&mut rng)).map(|[a, b]| (a, b)).unzip();
     let told = counted(started.into_iter(), |_| true);
-    assert_eq!((told.sheets, told.cells, told.lost), (10_000, 642_558, 642_558));
+    assert_eq!((told.sheets, told.lost_sheets, told.cells, told.lost), (10_000, 8_400, 642_558, 642_558));
+    assert_eq!((told.most_lost, told.most_moves), (99, 0));
     let told = counted(built.into_iter(), is_walked);
     assert_eq!((told.sheets, told.lost_sheets, told.cells, told.lost), (10_000, 2_279, 298_081, 55_184));
     assert_eq!((told.most_lost, told.most_moves), (92, 53));
