@@ -19,10 +19,10 @@
  * back along the arrows; in a sector left by a window, with no cost 0, every reached cell has one. A fault, and a run in
  * which no call was accepted or none refused, no leg of several steps planned, none refused with 15, no arrow followed, no
  * diagonal one looked at, init, the sector call, a leg, bounds or window costs never refused with 16, the sector call never
- * with 17, bounds never with 18, window costs never with 19 or 20, no cell
- * sure, no position looked at with and without an earlier corner, no window reached or none cut off from another, no tour
- * found or none with another order than the listed one, no cell that arrives after a move or none that never does, or no
- * practice floor with all three costs, is one line on standard error and exit status 1.
+ * with 17, bounds never with 18, window costs never with 19 or 20, no cell sure, no position looked at with and without an
+ * earlier corner, no window reached or none cut off from another, no tour found or none with another order than the listed
+ * one, no cell that arrives after a move, none that never does or none that has to in a sector left by a window, or no practice
+ * floor with all three costs, is one line on standard error and exit status 1.
  */
 #define _DEFAULT_SOURCE
 #include <stdio.h>
@@ -174,10 +174,10 @@ static int zeros(const void *part, size_t length)
    cells were sure; how many positions were looked at, and how many of them beside an earlier corner; how many lists of
    windows had other than two to eight, and how many a step without window or elsewhere; how many windows were reached from
    another, and how many were not; how many tours were found, and how many had another order than the listed one; how many
-   cells arrive after a move, and how many never do. */
+   cells arrive after a move, how many never do, and how many have to, in a sector left by a window. */
 static unsigned long accepted, turned_away, planned, closed, followed, diagonal, on_wall[5], fieldless, practised, unranged, sure,
     positioned, earliest;
-static unsigned long miscounted, misplaced, ways_met[2], toured, reordered, arriving, lost;
+static unsigned long miscounted, misplaced, ways_met[2], toured, reordered, arriving, lost, led;
 
 static void tallied(uint8_t number)
 {
@@ -801,9 +801,13 @@ static void all_arrive(const Fenced *costs, const Fenced *route, const HanjolumB
 {
     if (route->at[2] != 1 || memchr(costs->at, 0, costs->length) != NULL)
         return;
-    for (int cell = 0; cell < HANJOLUM_CELLS; cell++)
-        if ((built->field.field[cell] & HANJOLUM_FIELD_COST) != UNREACHED && a->moves[cell] == HANJOLUM_NEVER)
+    for (int cell = 0; cell < HANJOLUM_CELLS; cell++) {
+        if ((built->field.field[cell] & HANJOLUM_FIELD_COST) == UNREACHED)
+            continue;
+        if (a->moves[cell] == HANJOLUM_NEVER)
             fail("a reached cell of a sector left by a window never arrives");
+        led += 1;
+    }
 }
 
 /* One call of each kind that writes a sheet, and one of each that does not. */
@@ -914,18 +918,18 @@ static void report(unsigned long rounds)
         fail("no window was reached from another, or none was cut off from one");
     if (toured == 0 || reordered == 0)
         fail("no tour was found, or none with another order than the listed one");
-    if (arriving == 0 || lost == 0)
-        fail("no cell arrives after a move, or none never does");
+    if (arriving == 0 || lost == 0 || led == 0)
+        fail("no cell arrives after a move, none never does, or none was looked at in a sector left by a window");
     printf("%lu rounds of calls, %lu accepted and %lu refused, %lu legs of several steps planned and %lu refused with 15, "
            "arrows followed from %lu cells to the goal's sector, %lu diagonal arrows looked at, "
            "%lu init, %lu sector calls, %lu legs, %lu bounds and %lu window costs refused with 16, %lu sector calls with 17, "
            "%lu bounds with 18, %lu window costs with 19 and %lu with 20, %lu windows reached from another and %lu cut off, "
            "%lu tours, %lu of them in another order than listed, %lu cells that arrive after a move and %lu that never do, "
-           "%lu sure cells, %lu practice floors, "
+           "%lu that have to, in sectors left by a window, %lu sure cells, %lu practice floors, "
            "%lu positions looked at and %lu of them beside an earlier corner, nothing found\n",
            rounds, accepted, turned_away, planned, closed, followed, diagonal, on_wall[0], on_wall[1], on_wall[2],
            on_wall[3], on_wall[4], fieldless, unranged, miscounted, misplaced, ways_met[0], ways_met[1], toured,
-           reordered, arriving, lost, sure, practised, positioned, earliest);
+           reordered, arriving, lost, led, sure, practised, positioned, earliest);
     written();
 }
 
