@@ -99,7 +99,7 @@ int main(void)
 
     uint8_t number = hanjolum_leg(floor, sizeof floor, &STEPS[0][0], sizeof STEPS, sheet, sizeof sheet);
     if (number != 0) {
-        fprintf(stderr, "refused with number %d\n", number);
+        fprintf(stderr, "refused with number %d: %s\n", number, hanjolum_refusal_text(number));
         return 1;
     }
     for (int i = 0; i < SECTORS; i++)

@@ -17,7 +17,7 @@ static const uint8_t STEPS[2 * HANJOLUM_STEP] = {
 
 static int refused(const char *what, uint8_t number)
 {
-    fprintf(stderr, "%s: refused with number %d\n", what, number);
+    fprintf(stderr, "%s: refused with number %d: %s\n", what, number, hanjolum_refusal_text(number));
     return 1;
 }
 

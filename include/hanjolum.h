@@ -2,7 +2,13 @@
  * Hanjolum: integration fields and flow fields of a sector, and legs over several sectors.
  *
  * Link libhanjolum.a: an ELF archive for x86-64 with System V calls (Linux, the BSDs). It needs memcpy and memset, and
- * nothing else.
+ * nothing else. Another machine or object format (Arm, Windows, macOS) needs an archive of its own, and a compiler for it:
+ * the kit that proves this one writes x86-64 ELF alone. Steps, floors, sheets and leg files are bytes, the same everywhere;
+ * the structs below are not for carrying.
+ *
+ * Version.  This header, the archive and the crate in bindings/rust are of one commit, and HANJOLUM_VERSION is theirs. Its
+ * first number rises where a caller has to be compiled anew or an accepted or refused call answers otherwise, the second
+ * where something is added, the third where neither is so. The archive does not carry it: keep the two files together.
  *
  * Memory.  All memory is the caller's and is lent for the time of the call: no pointer is kept, nothing is allocated,
  * there are no globals. Every function may be called from several threads at once, each with a sheet of its own.
@@ -23,7 +29,7 @@
  * A floor is 64 sectors of 100 cost bytes one after the other, sector s at column s % 8 and row s / 8 of the floor;
  * a floor's sheet is laid out alike.
  *
- * Steps.  A step is 8 bytes:
+ * Steps.  A step is 8 bytes (HANJOLUM_STEP_SECTOR and so on name them):
  *     0      sector, 0 to 63
  *     1      goal cell, 0 to 99 (not read where the mark is 1)
  *     2      mark: 0 a goal, 1 a window
@@ -40,6 +46,7 @@
  *
  * Refusals.  An accepted call's number is 0. A refused one answers the number of the first line below that holds, of
  * those that its function names, writes not one byte of what it is lent, and has every other part of its answer zero.
+ * HANJOLUM_REFUSED_* name the numbers, and hanjolum_refusal_text says them in words.
  *     1   cost bytes not 100 (leg: 6,400)
  *     2   sheet not 100 bytes (leg: 6,400)
  *     3   step not 8 bytes (leg: none, over 128, or no multiple of 8; window costs and tour: no multiple of 8)
@@ -84,6 +91,11 @@
 extern "C" {
 #endif
 
+#define HANJOLUM_VERSION_MAJOR 1
+#define HANJOLUM_VERSION_MINOR 0
+#define HANJOLUM_VERSION_PATCH 0
+#define HANJOLUM_VERSION "1.0.0"
+
 enum {
     HANJOLUM_CELLS = 100,      /* cells of a sector: its cost bytes, and the bytes of its sheet */
     HANJOLUM_STEP = 8,         /* bytes of a step */
@@ -95,6 +107,47 @@ enum {
     HANJOLUM_FILE = 134,       /* bytes of a leg file, at most */
     HANJOLUM_WALL = 255,       /* the cost byte of a wall */
     HANJOLUM_NEVER = 255       /* the number of moves of arrows that never arrive */
+};
+
+/* The bytes of a step; the last two are 0. */
+enum {
+    HANJOLUM_STEP_SECTOR = 0,
+    HANJOLUM_STEP_GOAL = 1,
+    HANJOLUM_STEP_MARK = 2,
+    HANJOLUM_STEP_FIRST = 3,
+    HANJOLUM_STEP_LAST = 4,
+    HANJOLUM_STEP_BOUNDARY = 5
+};
+
+/* A step's mark. Its boundary is HANJOLUM_NORTH, EAST, SOUTH or WEST. */
+enum {
+    HANJOLUM_MARK_GOAL = 0,
+    HANJOLUM_MARK_WINDOW = 1
+};
+
+/* What a call's number says; the table above has their order. */
+enum {
+    HANJOLUM_ACCEPTED = 0,
+    HANJOLUM_REFUSED_COST_BYTES = 1,
+    HANJOLUM_REFUSED_SHEET = 2,
+    HANJOLUM_REFUSED_STEP_LIST = 3,
+    HANJOLUM_REFUSED_STEP_BYTES = 4,
+    HANJOLUM_REFUSED_GOAL = 5,
+    HANJOLUM_REFUSED_WINDOW = 6,
+    HANJOLUM_REFUSED_OFF_EDGE = 7,
+    HANJOLUM_REFUSED_FIRST_AFTER_LAST = 8,
+    HANJOLUM_REFUSED_LEG_ORDER = 9,
+    HANJOLUM_REFUSED_NOT_ACROSS = 10,
+    HANJOLUM_REFUSED_CORNERS = 11,
+    HANJOLUM_REFUSED_PREVIOUS_LENGTH = 12,
+    HANJOLUM_REFUSED_OUTSIDE = 13,
+    HANJOLUM_REFUSED_LEG_FILE = 14,
+    HANJOLUM_REFUSED_NO_COUNTING_CELL = 15,
+    HANJOLUM_REFUSED_ON_WALL = 16,
+    HANJOLUM_REFUSED_NO_PREVIOUS = 17,
+    HANJOLUM_REFUSED_BOUNDS_INPUT = 18,
+    HANJOLUM_REFUSED_WINDOW_COUNT = 19,
+    HANJOLUM_REFUSED_OTHER_SECTOR = 20
 };
 
 /* A cell of an integration field: its cost in the low 16 bits (65535: not reached), flags above. */
@@ -443,6 +496,47 @@ bool hanjolum_is_wall(uint8_t byte);
 
 /* The direction to walk in, HANJOLUM_NORTH to HANJOLUM_NORTH_WEST; HANJOLUM_ZERO where the byte has none. */
 uint8_t hanjolum_get_compass_dir_from_bits(uint8_t byte);
+
+/*
+ * What a number says, in words, for a message; of a number that no call answers, that it is none. It stands here and not in
+ * the archive: it is tested (bindings/rust) and not proved.
+ */
+static inline const char *hanjolum_refusal_text(uint8_t number)
+{
+    switch (number) {
+    case HANJOLUM_ACCEPTED: return "accepted";
+    case HANJOLUM_REFUSED_COST_BYTES: return "the cost bytes are not 100 (a leg's floor: 6,400)";
+    case HANJOLUM_REFUSED_SHEET:
+        return "the sheet is not 100 bytes (a leg's: 6,400), or the buffer is not as long as the leg file";
+    case HANJOLUM_REFUSED_STEP_LIST:
+        return "the step is not 8 bytes (a leg's steps: none, over 128 bytes, or no multiple of 8; several windows: "
+               "no multiple of 8)";
+    case HANJOLUM_REFUSED_STEP_BYTES:
+        return "a step's sector is over 63, its mark over 1, or one of its last two bytes not 0";
+    case HANJOLUM_REFUSED_GOAL: return "a goal is over 99";
+    case HANJOLUM_REFUSED_WINDOW: return "a window cell is over 99, or a boundary over 3";
+    case HANJOLUM_REFUSED_OFF_EDGE:
+        return "a window cell is off the named edge (North row 0, East column 9, South row 9, West column 0)";
+    case HANJOLUM_REFUSED_FIRST_AFTER_LAST: return "a window's first cell comes after its last";
+    case HANJOLUM_REFUSED_LEG_ORDER:
+        return "the leg's first step has a window, a later one has none, or a sector is named twice";
+    case HANJOLUM_REFUSED_NOT_ACROSS:
+        return "the sector across a boundary is not that of the step before, or is off the floor";
+    case HANJOLUM_REFUSED_CORNERS: return "the field to build lists over 100 corners, or a corner over 99";
+    case HANJOLUM_REFUSED_PREVIOUS_LENGTH: return "the previous field is not 100 numbers";
+    case HANJOLUM_REFUSED_OUTSIDE: return "a column or row is outside 0 to 9";
+    case HANJOLUM_REFUSED_LEG_FILE: return "the leg file's mark, version, count or length is wrong";
+    case HANJOLUM_REFUSED_NO_COUNTING_CELL:
+        return "a window has no cell that faces a cell reached in the sector of the step before";
+    case HANJOLUM_REFUSED_ON_WALL: return "a goal, or a cell of a window, is a wall (cost 255)";
+    case HANJOLUM_REFUSED_NO_PREVIOUS: return "the step has a window, and no previous field is lent";
+    case HANJOLUM_REFUSED_BOUNDS_INPUT:
+        return "the step has no window, low is above high somewhere, or 255 is in only one of the two";
+    case HANJOLUM_REFUSED_WINDOW_COUNT: return "there are fewer than 2 steps or more than 8";
+    case HANJOLUM_REFUSED_OTHER_SECTOR: return "a step has no window, or another sector than the first";
+    default: return "no number of this version";
+    }
+}
 
 #ifdef __cplusplus
 }
