@@ -1,0 +1,148 @@
+//! Every call, through the archive: what it answers where it is accepted, and each number where it is refused.
+
+use hanjolum::*;
+
+const ONES: [u8; CELLS] = [1; CELLS];
+const EAST: Step = Step::window(0, Boundary::East, 9, 99);
+
+/// A sheet that a refused call must leave.
+fn marked() -> [u8; CELLS] {
+    [0xAB; CELLS]
+}
+
+/// A floor of 1 with one cell otherwise.
+fn with(cell: usize, cost: u8) -> [u8; CELLS] {
+    let mut costs = ONES;
+    costs[cell] = cost;
+    costs
+}
+
+fn steps(list: &[Step]) -> Steps {
+    Steps::new(list).expect("1 to 16 steps")
+}
+
+#[test]
+fn a_sector_is_planned() {
+    let mut sheet = marked();
+    let built = sector(&ONES, Step::goal(0, 44), None, &mut sheet).unwrap();
+    assert_eq!((built.field.field[45], built.field.field[0], built.waves), (0x10001, 0x10008, 0));
+    assert_eq!((sheet[44], sheet[0]), (0x70, 0x30));
+    let built = sector(&ONES, EAST, Some(&[0; CELLS]), &mut sheet).unwrap();
+    assert_eq!((built.field.cost(0), built.waves, sheet[0], sheet[9]), (Some(9), 9, 0x12, 0x92));
+    assert_eq!((built.field.count, built.field.los_corners[1], built.field.positions[30]), (10, 19, 3));
+    assert_eq!(FlowByte(sheet[0]).direction(), Some(Direction::East));
+}
+
+#[test]
+fn the_sector_call_is_made_of_the_calls_by_hand() {
+    let costs = with(55, WALL);
+    for step in [Step::goal(0, 44), EAST] {
+        let (mut sheet, mut by_hand) = (marked(), [0; CELLS]);
+        let previous = [7u32; CELLS];
+        let built = sector(&costs, step, Some(&previous), &mut sheet).unwrap();
+        let field = build(&costs, init(&costs, step).unwrap()).unwrap();
+        assert_eq!(field, built);
+        flow_new(step, field.field, Some(&previous), &mut by_hand).unwrap();
+        flow_build(field.field, &mut by_hand).unwrap();
+        assert_eq!(by_hand, sheet);
+    }
+}
+
+#[test]
+fn a_step_is_judged_and_nothing_is_written() {
+    let mut sheet = marked();
+    let zeros = [0; CELLS];
+    let tried = [
+        (Refusal::StepBytes, Step::goal(64, 0)),
+        (Refusal::Goal, Step::goal(63, 100)),
+        (Refusal::Window, Step::window(0, Boundary::East, 9, 109)),
+        (Refusal::OffEdge, Step::window(0, Boundary::East, 9, 98)),
+        (Refusal::FirstAfterLast, Step::window(0, Boundary::East, 99, 9)),
+        (Refusal::OnWall, Step::goal(0, 50)),
+        (Refusal::OnWall, Step::window(0, Boundary::West, 40, 60)),
+    ];
+    for (refusal, step) in tried {
+        assert_eq!(sector(&with(50, WALL), step, Some(&zeros), &mut sheet).err(), Some(refusal));
+    }
+    assert_eq!(sector(&ONES[1..], EAST, None, &mut sheet).err(), Some(Refusal::CostBytes));
+    assert_eq!(sector(&ONES, EAST, Some(&zeros), &mut sheet[1..]).err(), Some(Refusal::Sheet));
+    assert_eq!(sector(&ONES, [0; 7], None, &mut sheet).err(), Some(Refusal::StepList));
+    assert_eq!(sector(&ONES, EAST, None, &mut sheet).err(), Some(Refusal::NoPrevious));
+    assert_eq!(sector(&ONES, EAST, Some(&zeros[1..]), &mut sheet).err(), Some(Refusal::PreviousLength));
+    assert_eq!(flow_new(EAST, init(&ONES, EAST).unwrap(), Some(&zeros[1..]), &mut sheet), Err(Refusal::PreviousLength));
+    assert_eq!(flow_build(init(&ONES, EAST).unwrap(), &mut sheet[1..]), Err(Refusal::Sheet));
+    assert_eq!(sheet, marked());
+    let mut field = init(&ONES, EAST).unwrap();
+    field.los_corners[0] = 100;
+    assert_eq!(build(&ONES, field).err(), Some(Refusal::Corners));
+}
+
+#[test]
+fn lines_and_their_ends() {
+    let cell = |column, row| FieldCell { column, row };
+    let found = line(cell(0, 0), cell(3, 1)).unwrap();
+    assert_eq!(found.cells(), [cell(0, 0), cell(1, 0), cell(2, 1), cell(3, 1)]);
+    assert_eq!(walk_bresenham_shallow(cell(0, 0), cell(3, 1)), Ok(found));
+    assert_eq!(walk_bresenham_shallow(cell(3, 1), cell(0, 0)).unwrap().cells(), []);
+    assert_eq!(walk_bresenham_steep(cell(0, 0), cell(1, 3)).unwrap().cells().len(), 4);
+    assert_eq!(line(cell(0, 0), cell(10, 0)), Err(Refusal::Outside));
+    assert_eq!(line_end(cell(4, 3), cell(5, 4)), Ok(cell(0, 0)));
+    assert_eq!(line_end(cell(4, 3), cell(5, usize::MAX)), Err(Refusal::Outside));
+}
+
+#[test]
+fn bounds_hold_what_lies_between() {
+    let (low, high) = (ONES, [3; CELLS]);
+    let found = bounds(&low, &high, EAST).unwrap();
+    assert_eq!((found.least[0], found.greatest[0], found.least[9]), (9, 27, 0));
+    assert_eq!((found.sure[8], found.sure[9]), (true, false));
+    assert_eq!(bounds(&high, &low, EAST), Err(Refusal::BoundsInput));
+    assert_eq!(bounds(&low, &high, Step::goal(0, 0)), Err(Refusal::BoundsInput));
+    assert_eq!(bounds(&low, &[], EAST), Err(Refusal::CostBytes));
+}
+
+#[test]
+fn windows_are_compared_and_toured() {
+    let west = Step::window(0, Boundary::West, 0, 90);
+    let north = Step::window(0, Boundary::North, 5, 5);
+    let list = steps(&[EAST, west, north]);
+    let rows = window_costs(&ONES, list).unwrap();
+    assert_eq!(rows[0].costs[..4], [0, 9, 4, UNREACHED]);
+    assert_eq!((rows[1].costs[2], rows[2].costs[0]), (5, 4));
+    let tour = window_tour(&ONES, list, u16::MAX).unwrap();
+    let best = tour.best.unwrap();
+    assert_eq!((best.windows(), best.sum, tour.tried, tour.least), (&[0, 2, 1][..], 9, 2, 9));
+    let none = window_tour(&ONES, list, 0).unwrap();
+    assert_eq!((none.best, none.tried, none.least), (None, 0, 9));
+    assert_eq!(window_costs(&ONES, EAST), Err(Refusal::WindowCount));
+    assert_eq!(window_tour(&ONES, steps(&[EAST; 9]), 1), Err(Refusal::WindowCount));
+    let other = Step::window(1, Boundary::East, 9, 99);
+    assert_eq!(window_costs(&ONES, steps(&[EAST, other])), Err(Refusal::OtherSector));
+    assert_eq!(window_tour(&ONES, steps(&[EAST, Step::goal(0, 0)]), 1), Err(Refusal::OtherSector));
+}
+
+#[test]
+fn practice_floors_are_taken() {
+    for seed in [0, 1, 2026, 2654435769, u32::MAX] {
+        let floor = practice_floor(seed);
+        assert!(floor.costs.iter().all(|cost| [1, 10, WALL].contains(cost)));
+        let mut sheet = marked();
+        sector(&floor.costs, Step::goal(0, floor.goal), None, &mut sheet).unwrap();
+        assert!(FlowByte(sheet[usize::from(floor.goal)]).is_goal());
+    }
+    assert_eq!(practice_floor(2026).goal, 88);
+}
+
+#[test]
+fn every_byte_is_read_as_document_01_has_it() {
+    let bits = [0b0001, 0b0010, 0b0100, 0b1000, 0b0011, 0b0110, 0b1100, 0b1001];
+    for byte in 0..=255u8 {
+        let read = FlowByte(byte);
+        let direction = bits.iter().position(|bits| *bits == byte & 15).map(|number| Direction::ALL[number]);
+        assert_eq!(read.direction(), direction, "0x{byte:02x}");
+    }
+    let odd = FlowByte(0xF3);
+    assert!(odd.is_goal() && odd.is_portal_goal() && odd.has_line_of_sight() && odd.is_pathable() && !odd.is_wall());
+    let wall = FlowByte(0xE0);
+    assert!(wall.is_wall() && !wall.is_pathable());
+}

@@ -1,0 +1,153 @@
+//! A leg is planned, written to a file, read back, and followed from every reached cell of its sectors.
+
+use hanjolum::*;
+
+/// A sector's costs, a row a line: '#' a wall, '.' a cost of 1, a digit its own cost.
+fn draw(floor: &mut [u8; FLOOR], sector: usize, rows: &str) {
+    let cells = rows.split_whitespace().flat_map(str::bytes);
+    for (cost, drawn) in floor[sector * CELLS..][..CELLS].iter_mut().zip(cells) {
+        *cost = match drawn {
+            b'#' => WALL,
+            b'.' => 1,
+            digit => digit - b'0',
+        };
+    }
+}
+
+/// The goal is in sector 9; sector 10 lies east of it, sector 18 south of 10.
+fn floor() -> [u8; FLOOR] {
+    let mut floor = [1; FLOOR];
+    draw(
+        &mut floor,
+        9,
+        ".......... .......... ..####.... .....#.... .....#.... .....#.... .......... .......... ...####... ..........",
+    );
+    draw(
+        &mut floor,
+        10,
+        "#......... #....9.... #...##.... ....##.... ....##.... .......... .......... #......... #....###.. #.........",
+    );
+    draw(
+        &mut floor,
+        18,
+        "###....### .......... .....44... ..######.. .......#.. .......#.. ..######.. .......... .......... ..........",
+    );
+    floor
+}
+
+fn list() -> [Step; 3] {
+    [Step::goal(9, 44), Step::window(10, Boundary::West, 30, 60), Step::window(18, Boundary::North, 3, 6)]
+}
+
+/// How many moves the arrows take from a place into the goal's sector.
+fn moves(sheet: &[u8], from: Place) -> usize {
+    let mut place = from;
+    for count in 0..=1500 {
+        if place.sector == 9 {
+            assert!(!FlowByte(place.byte_of(sheet).unwrap()).is_wall(), "{from:?} ends in a wall");
+            return count;
+        }
+        place = place.next(sheet).unwrap_or_else(|| panic!("{from:?} stops at {place:?}"));
+    }
+    panic!("{from:?} is still on its way after 1,500 moves");
+}
+
+#[test]
+fn a_leg_is_planned_carried_and_followed() {
+    let (floor, mut sheet) = (floor(), [0xAB; FLOOR]);
+    // The tablet writes the leg's file; the cart reads it and plans.
+    let file = leg_file_write(Steps::new(&list()).unwrap()).unwrap();
+    assert_eq!(file.as_ref()[..FILE_HEAD], *b"LEG\x01\x00\x03");
+    let steps = leg_file_read(file.as_ref()).unwrap();
+    assert_eq!(steps, Steps::new(&list()).unwrap().as_ref());
+    leg(&floor, steps, &mut sheet).unwrap();
+    let mut followed = 0;
+    for sector in [10, 18] {
+        for cell in 0..100 {
+            let place = Place { sector, cell };
+            let byte = FlowByte(place.byte_of(&sheet).unwrap());
+            assert!(place.byte_of(&floor) != Some(WALL) || byte.is_wall());
+            if !byte.is_wall() {
+                assert!(moves(&sheet, place) > 0);
+                followed += 1;
+            }
+        }
+    }
+    assert_eq!(followed, 85 + 80);
+    for sector in (0..64).filter(|sector| ![9, 10, 18].contains(sector)) {
+        assert!(sheet[sector * CELLS..][..CELLS].iter().all(|byte| *byte == 0xAB), "sector {sector} was written");
+    }
+}
+
+#[test]
+fn a_leg_is_what_its_sector_calls_write() {
+    let (floor, mut sheet, mut part) = (floor(), [0; FLOOR], [0; CELLS]);
+    leg(&floor, Steps::new(&list()).unwrap(), &mut sheet).unwrap();
+    let mut previous: Option<Built> = None;
+    for step in list() {
+        let own = usize::from(step.bytes()[0]) * CELLS..;
+        let cells = previous.as_ref().map(|built| &built.field.field[..]);
+        previous = Some(sector(&floor[own.clone()][..CELLS], step, cells, &mut part).unwrap());
+        assert_eq!(sheet[own][..CELLS], part);
+    }
+}
+
+#[test]
+fn a_leg_is_refused_and_its_sheet_stays() {
+    let (mut floor, mut sheet) = ([1; FLOOR], [0xAB; FLOOR]);
+    let goal = Step::goal(9, 44);
+    let tried = [
+        (Refusal::LegOrder, vec![list()[1]]),
+        (Refusal::LegOrder, vec![goal, goal]),
+        (Refusal::NotAcross, vec![goal, Step::window(10, Boundary::East, 9, 99)]),
+        (Refusal::NotAcross, vec![Step::goal(0, 0), Step::window(7, Boundary::East, 9, 99)]),
+        (Refusal::Goal, vec![Step::goal(9, 100)]),
+    ];
+    for (refusal, list) in tried {
+        assert_eq!(leg(&floor, Steps::new(&list).unwrap(), &mut sheet), Err(refusal), "{list:?}");
+    }
+    assert_eq!(leg(&floor[1..], goal, &mut sheet), Err(Refusal::CostBytes));
+    assert_eq!(leg(&floor, goal, &mut sheet[1..]), Err(Refusal::Sheet));
+    assert_eq!(leg(&floor, [], &mut sheet), Err(Refusal::StepList));
+    // A wall all along the goal's sector: no cell of the window counts.
+    for row in 0..10 {
+        floor[9 * CELLS + row * 10 + 9] = WALL;
+    }
+    assert_eq!(leg(&floor, Steps::new(&list()).unwrap(), &mut sheet), Err(Refusal::NoCountingCell));
+    floor[9 * CELLS + 44] = WALL;
+    assert_eq!(leg(&floor, Steps::new(&list()).unwrap(), &mut sheet), Err(Refusal::OnWall));
+    assert_eq!(sheet, [0xAB; FLOOR]);
+}
+
+#[test]
+fn files_are_refused_and_lists_are_counted() {
+    assert_eq!(Steps::new(&[]), Err(Refusal::StepList));
+    assert_eq!(Steps::new(&[Step::goal(0, 0); 17]), Err(Refusal::StepList));
+    assert_eq!(leg_file_write([0; 136]), Err(Refusal::StepList));
+    assert_eq!(leg_file_write([0; 9]), Err(Refusal::StepList));
+    assert_eq!(leg_file_write([]), Err(Refusal::StepList));
+    let longest = leg_file_write(Steps::new(&[Step::goal(255, 0); 16]).unwrap()).unwrap();
+    assert_eq!((longest.as_ref().len(), leg_file_read(longest.as_ref()).unwrap().len()), (FILE, 128));
+    assert_eq!(leg_file_read(&longest.as_ref()[1..]), Err(Refusal::LegFile));
+    assert_eq!(leg_file_read(&[]), Err(Refusal::LegFile));
+}
+
+#[test]
+fn places_are_floor_columns_and_rows() {
+    for column in 0..80 {
+        for row in 0..80 {
+            let place = Place::at(column, row).unwrap();
+            assert_eq!(place.column_and_row(), (column, row));
+            for direction in Direction::ALL {
+                let (east, south) = direction.differences();
+                let moved = column.checked_add_signed(east).zip(row.checked_add_signed(south));
+                assert_eq!(place.moved(direction), moved.and_then(|(column, row)| Place::at(column, row)));
+            }
+        }
+    }
+    assert_eq!((Place::at(80, 0), Place::at(0, 80)), (None, None));
+    assert_eq!(Place { sector: 9, cell: 49 }.moved(Direction::East), Some(Place { sector: 10, cell: 40 }));
+    assert_eq!(Place { sector: 0, cell: 0 }.moved(Direction::NorthWest), None);
+    assert_eq!(Place { sector: 0, cell: 100 }.byte_of(&[0; FLOOR]), None);
+    assert_eq!(Place { sector: 64, cell: 0 }.byte_of(&[0; 7000]), None);
+}
