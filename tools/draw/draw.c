@@ -1,6 +1,7 @@
 /*
  * Plans a sector that is drawn as text, and shows its arrows beside its flow bytes; or the practice floor of a seed, and
- * shows the floor beside them.
+ * shows the floor beside them; or a whole floor with a leg (floor.c, plan.c, text.c). A floor and a practice floor can also be
+ * written as a picture (picture.c).
  * The drawing is turned into costs and a step here; every practice floor comes from hanjolum_practice_floor, every arrow
  * from hanjolum_sector, and which arrows never arrive from hanjolum_arrivals. A window wants the field of the sector across
  * it, which is not drawn: it gets one of zeros, so that each of its cells points straight across.
@@ -12,18 +13,15 @@
 #include <stdlib.h>
 #include <string.h>
 
-#include "hanjolum.h"
-
-enum { SIDE = 10 };
+#include "draw.h"
 
 static const char SIDES[] = "NESW";
 static const char *const EDGES[] = {"north edge (row 1)", "east edge (column 10)", "south edge (row 10)", "west edge (column 1)"};
 
-static const char USAGE[] = "usage: draw [--ascii] [FILE | --practice SEED], FILE - or none for standard input; tools/draw/run --help says what a drawing is";
-static const char SEED[] = "--practice takes a seed, a whole number from 0 to 4294967295";
+static const char USAGE[] = "usage: draw [--ascii] [FILE | --practice SEED | --floor FILE [--costs]] [--picture OUT], FILE - or none for standard input; tools/draw/run --help says what a drawing is";
 
-static const char *const ARROWS[] = {"↑", "→", "↓", "←", "↗", "↘", "↙", "↖"};
-static const char *const LETTERS[] = {"N ", "E ", "S ", "W ", "NE", "SE", "SW", "NW"};
+const char *const ARROWS[] = {"↑", "→", "↓", "←", "↗", "↘", "↙", "↖"};
+const char *const LETTERS[] = {"N ", "E ", "S ", "W ", "NE", "SE", "SW", "NW"};
 
 /* What a drawing says, and where it stands. A window is from cell `first` to cell `last`; a goal is both. */
 struct drawing {
@@ -35,7 +33,7 @@ struct drawing {
     int last;
 };
 
-static void fail(const char *format, ...)
+_Noreturn void fail(const char *format, ...)
 {
     va_list words;
     va_start(words, format);
@@ -229,12 +227,40 @@ static void help(void)
     exit(0);
 }
 
-/* What the words ask for: the file, NULL for standard input, or the seed of a practice floor. */
+/* What the words ask for: the file, NULL for standard input, a floor or a sector, or the seed of a practice floor. */
 struct asked {
     const char *file;
     const char *seed;
+    const char *picture;
+    int floor;
+    int costs;
     int ascii;
 };
+
+/* The word behind an option, which may be said once. */
+static const char *behind(int count, char **words, int *i, const char *before)
+{
+    const char *option = words[*i];
+    if (before != NULL)
+        fail("%s twice; %s", option, USAGE);
+    if (*i + 1 == count)
+        fail("%s is the last word; %s", option, USAGE);
+    *i += 1;
+    return words[*i];
+}
+
+/* Ends the program where words do not go together. */
+static void check_words(const struct asked *asked)
+{
+    if (asked->seed != NULL && asked->file != NULL)
+        fail("%s beside --practice; %s", asked->file, USAGE);
+    if (asked->seed != NULL && asked->floor)
+        fail("--floor beside --practice; %s", USAGE);
+    if (asked->costs && !asked->floor)
+        fail("--costs goes with --floor; %s", USAGE);
+    if (asked->picture != NULL && !asked->floor && asked->seed == NULL)
+        fail("--picture goes with --floor or --practice; %s", USAGE);
+}
 
 /* The words taken apart. Options may stand before the file and behind it. */
 static struct asked asked_for(int count, char **words)
@@ -245,6 +271,12 @@ static struct asked asked_for(int count, char **words)
             help();
         if (strcmp(words[i], "--ascii") == 0)
             asked.ascii = 1;
+        else if (strcmp(words[i], "--floor") == 0)
+            asked.floor = 1;
+        else if (strcmp(words[i], "--costs") == 0)
+            asked.costs = 1;
+        else if (strcmp(words[i], "--picture") == 0)
+            asked.picture = behind(count, words, &i, asked.picture);
         else if (strcmp(words[i], "--practice") == 0 && asked.seed != NULL)
             fail("--practice twice; %s", USAGE);
         else if (strcmp(words[i], "--practice") == 0)
@@ -256,31 +288,15 @@ static struct asked asked_for(int count, char **words)
         else
             asked.file = words[i];
     }
-    if (asked.seed != NULL && asked.file != NULL)
-        fail("%s beside --practice; %s", asked.file, USAGE);
+    check_words(&asked);
     if (asked.file != NULL && strcmp(asked.file, "-") == 0)
         asked.file = NULL;
     return asked;
 }
 
-/* The number that a seed's digits give. */
-static uint32_t seed_of(const char *digits)
-{
-    uint64_t seed = 0;
-    size_t length = strspn(digits, "0123456789");
-    if (length == 0 || digits[length] != '\0')
-        fail(SEED);
-    for (size_t i = 0; i < length; i++) {
-        seed = 10 * seed + (uint64_t)(digits[i] - '0');
-        if (seed > UINT32_MAX)
-            fail(SEED);
-    }
-    return (uint32_t)seed;
-}
-
 static struct drawing practice_drawing(const char *seed)
 {
-    HanjolumPracticeFloor floor = hanjolum_practice_floor(seed_of(seed));
+    struct floor floor = practice_floor(seed);
     struct drawing drawing = {.name = seed, .mark = 'G', .marked = 1, .first = floor.goal, .last = floor.goal};
     memcpy(drawing.costs, floor.costs, sizeof drawing.costs);
     return drawing;
@@ -298,19 +314,56 @@ static struct drawing file_drawing(const char *name)
     return drawing;
 }
 
-int main(int count, char **words)
+/* Writes the picture of a plan to a file, - for standard output. */
+static void put_picture(const struct plan *plan, const char *name)
+{
+    FILE *out = strcmp(name, "-") == 0 ? stdout : fopen(name, "w");
+    if (out == NULL)
+        fail("%s cannot be written: %s", name, strerror(errno));
+    write_picture(plan, out);
+    if (out == stdout)
+        written();
+    else if (ferror(out) | (fclose(out) != 0))
+        fail("%s cannot be written: %s", name, strerror(errno));
+}
+
+/* A floor, or a practice floor as a picture. */
+static void draw_floor(const struct asked *asked)
+{
+    static struct floor floor;
+    static struct plan plan;
+    floor = asked->seed != NULL ? practice_floor(asked->seed) : read_floor(asked->file);
+    plan_floor(&plan, &floor);
+    if (asked->picture != NULL) {
+        put_picture(&plan, asked->picture);
+        return;
+    }
+    show_floor(&plan, asked->ascii, asked->costs);
+    written();
+}
+
+/* A sector, or a practice floor as text. */
+static void draw_sector(const struct asked *asked)
 {
     static const uint32_t zeros[HANJOLUM_CELLS];
-    struct asked asked = asked_for(count, words);
-    struct drawing drawing = asked.seed != NULL ? practice_drawing(asked.seed) : file_drawing(asked.file);
+    struct drawing drawing = asked->seed != NULL ? practice_drawing(asked->seed) : file_drawing(asked->file);
     uint8_t step[HANJOLUM_STEP];
     uint8_t sheet[HANJOLUM_CELLS] = {0};
     make_step(&drawing, step);
     HanjolumBuildAnswer answer = hanjolum_sector(drawing.costs, HANJOLUM_CELLS, step, HANJOLUM_STEP, drawing.mark != 'G', zeros,
                                                  HANJOLUM_CELLS, sheet, HANJOLUM_CELLS);
     if (answer.number != 0)
-        fail("%s: refused with number %d", drawing.name, answer.number);
-    show(&drawing, sheet, asked.seed != NULL, asked.ascii);
+        fail("%s: refused with number %d: %s", drawing.name, answer.number, hanjolum_refusal_text(answer.number));
+    show(&drawing, sheet, asked->seed != NULL, asked->ascii);
     written();
+}
+
+int main(int count, char **words)
+{
+    struct asked asked = asked_for(count, words);
+    if (asked.floor || asked.picture != NULL)
+        draw_floor(&asked);
+    else
+        draw_sector(&asked);
     return 0;
 }

@@ -1,0 +1,166 @@
+/*
+ * Plans the leg of a drawn floor and follows its arrows. Every byte of the sheet comes from hanjolum_leg; what is done here is
+ * to go from cell to cell by the arrows that the sheet has.
+ */
+#include <string.h>
+
+#include "draw.h"
+
+/* The steps of a floor's leg, from the goal back: the windows are said in the order of driving. */
+static void make_steps(struct plan *plan)
+{
+    const struct floor *floor = plan->floor;
+    plan->steps[HANJOLUM_STEP_SECTOR] = (uint8_t)(floor->goal / HANJOLUM_CELLS);
+    plan->steps[HANJOLUM_STEP_GOAL] = (uint8_t)(floor->goal % HANJOLUM_CELLS);
+    plan->count = 1 + floor->leave_count;
+    for (int i = 0; i < floor->leave_count; i++)
+        memcpy(plan->steps + (floor->leave_count - i) * HANJOLUM_STEP, floor->leaves[i].step, HANJOLUM_STEP);
+}
+
+static uint8_t plan_first(struct plan *plan, int count)
+{
+    return hanjolum_leg(plan->floor->costs, HANJOLUM_FLOOR, plan->steps, (size_t)count * HANJOLUM_STEP, plan->sheet, HANJOLUM_FLOOR);
+}
+
+/* Says which step a leg is refused for: the last of the fewest that are refused with its number. */
+static void refuse(struct plan *plan, uint8_t number)
+{
+    const struct floor *floor = plan->floor;
+    int count = 1;
+    while (count < plan->count && plan_first(plan, count) != number)
+        count += 1;
+    if (count == 1)
+        fail("%s: the goal's step is refused with number %d: %s", floor->name, number, hanjolum_refusal_text(number));
+    const struct leave *leave = &floor->leaves[plan->count - count];
+    fail("%s, line %d: leaving sector %d is refused with number %d: %s", floor->name, leave->line,
+         leave->step[HANJOLUM_STEP_SECTOR], number, hanjolum_refusal_text(number));
+}
+
+static const uint8_t *step_at(const struct plan *plan, int place)
+{
+    int step = plan->step_of[place / HANJOLUM_CELLS];
+    return step < 0 ? NULL : plan->steps + step * HANJOLUM_STEP;
+}
+
+int is_window(const struct plan *plan, int place)
+{
+    const uint8_t *step = step_at(plan, place);
+    int cell = place % HANJOLUM_CELLS;
+    if (step == NULL || step[HANJOLUM_STEP_MARK] != HANJOLUM_MARK_WINDOW)
+        return 0;
+    int stride = step[HANJOLUM_STEP_BOUNDARY] % 2 == 0 ? 1 : SIDE;
+    return cell >= step[HANJOLUM_STEP_FIRST] && cell <= step[HANJOLUM_STEP_LAST] && (cell - step[HANJOLUM_STEP_FIRST]) % stride == 0;
+}
+
+int counts(const struct plan *plan, int place)
+{
+    return is_window(plan, place) && hanjolum_is_portal_goal(plan->sheet[place]);
+}
+
+enum look look_of(const struct plan *plan, int place)
+{
+    uint8_t byte = plan->sheet[place];
+    if (plan->floor->costs[place] == HANJOLUM_WALL)
+        return WALL_CELL;
+    if (step_at(plan, place) == NULL)
+        return UNPLANNED;
+    if (hanjolum_get_compass_dir_from_bits(byte) != HANJOLUM_ZERO)
+        return ARROW;
+    if (hanjolum_is_wall(byte))
+        return UNREACHED;
+    return hanjolum_is_goal(byte) ? GOAL : IN_SIGHT;
+}
+
+/* The place that the arrow of a place points at. */
+static int next_place(const struct plan *plan, int place)
+{
+    static const int east[] = {0, 1, 0, -1, 1, 1, -1, -1};
+    static const int south[] = {-1, 0, 1, 0, -1, 1, 1, -1};
+    uint8_t direction = hanjolum_get_compass_dir_from_bits(plan->sheet[place]);
+    return place_at(column_of(place) + east[direction], row_of(place) + south[direction]);
+}
+
+/* Where following the arrows from a place ends; `way`, if lent, takes the places, and `moves` how many moves there were. */
+static enum ending follow(const struct plan *plan, int place, int *way, int *moves)
+{
+    for (*moves = 0; *moves < MOST_MOVES - 1; *moves += 1) {
+        enum look look = look_of(plan, place);
+        if (way != NULL)
+            way[*moves] = place;
+        if (look == GOAL || look == IN_SIGHT)
+            return ARRIVES;
+        if (look != ARROW)
+            return NO_ARROW;
+        place = next_place(plan, place);
+    }
+    if (way != NULL)
+        way[*moves] = place;
+    return NEVER;
+}
+
+/* A way that never ends is cut where a cell comes a second time. */
+static void cut(struct plan *plan)
+{
+    char met[HANJOLUM_FLOOR] = {0};
+    for (int i = 0; i <= plan->moves; i++) {
+        if (met[plan->way[i]]) {
+            plan->moves = i;
+            return;
+        }
+        met[plan->way[i]] = 1;
+    }
+}
+
+static void follow_cart(struct plan *plan)
+{
+    int cart = plan->floor->cart;
+    plan->moves = -1;
+    plan->crossing = -1;
+    if (cart < 0)
+        return;
+    if (look_of(plan, cart) == WALL_CELL)
+        fail("%s: the cart stands on a wall", plan->floor->name);
+    if (look_of(plan, cart) == UNPLANNED)
+        fail("%s: the cart stands in sector %d, which the leg does not name", plan->floor->name, cart / HANJOLUM_CELLS);
+    follow(plan, cart, plan->way, &plan->moves);
+    cut(plan);
+    for (int i = plan->moves; i >= 0 && plan->way[i] / HANJOLUM_CELLS == plan->floor->goal / HANJOLUM_CELLS; i--)
+        plan->crossing = i;
+}
+
+void plan_floor(struct plan *plan, const struct floor *floor)
+{
+    int moves;
+    memset(plan, 0, sizeof *plan);
+    plan->floor = floor;
+    make_steps(plan);
+    uint8_t number = plan_first(plan, plan->count);
+    if (number != HANJOLUM_ACCEPTED)
+        refuse(plan, number);
+    memset(plan->step_of, -1, sizeof plan->step_of);
+    for (int i = 0; i < plan->count; i++)
+        plan->step_of[plan->steps[i * HANJOLUM_STEP + HANJOLUM_STEP_SECTOR]] = i;
+    for (int place = 0; place < HANJOLUM_FLOOR; place++)
+        plan->endings[place] = follow(plan, place, NULL, &moves);
+    follow_cart(plan);
+}
+
+void say_way(const struct plan *plan, char *line, size_t size)
+{
+    int cart = plan->floor->cart;
+    if (cart < 0) {
+        snprintf(line, size, "no cart is drawn");
+        return;
+    }
+    int length = snprintf(line, size, "the cart, sector %d, column %d, row %d: ", cart / HANJOLUM_CELLS, cart % SIDE, cart % HANJOLUM_CELLS / SIDE);
+    line += length, size -= (size_t)length;
+    int inside = plan->moves - plan->crossing;
+    if (plan->moves == 0 && plan->endings[cart] == NO_ARROW)
+        snprintf(line, size, "nothing reaches it");
+    else if (plan->crossing < 0)
+        snprintf(line, size, "it does not come into the goal's sector");
+    else if (plan->endings[cart] == NEVER)
+        snprintf(line, size, "%d moves into the goal's sector, and there arrows that lead in a circle", plan->crossing);
+    else
+        snprintf(line, size, "%d moves into the goal's sector, %d more until the goal is in sight or reached", plan->crossing, inside);
+}
