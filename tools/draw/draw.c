@@ -18,7 +18,8 @@
 static const char SIDES[] = "NESW";
 static const char *const EDGES[] = {"north edge (row 1)", "east edge (column 10)", "south edge (row 10)", "west edge (column 1)"};
 
-static const char USAGE[] = "usage: draw [--ascii] [FILE | --practice SEED | --floor FILE [--costs]] [--picture OUT], FILE - or none for standard input; tools/draw/run --help says what a drawing is";
+static const char USAGE[] = "usage: draw [--ascii] [FILE | --practice SEED | --floor FILE [--costs]] [--picture OUT], FILE - or none for "
+                            "standard input; tools/draw/run --help says what a drawing is";
 
 const char *const ARROWS[] = {"↑", "→", "↓", "←", "↗", "↘", "↙", "↖"};
 const char *const LETTERS[] = {"N ", "E ", "S ", "W ", "NE", "SE", "SW", "NW"};

@@ -4,7 +4,7 @@
  */
 #include "draw.h"
 
-enum { CELL = 24, LEFT = 34, TOP = 84, FOOT = 84, LEAST = 760 };
+enum { CELL = 24, LEFT = 34, TOP = 84, FOOT = 84, LEAST = 840 };
 
 static const char *const STYLE =
     "<style>\n"
@@ -14,12 +14,13 @@ static const char *const STYLE =
     "text{font-family:sans-serif;fill:#222}\n"
     ".n{font-size:8px;fill:#5a3a10}\n"
     ".e{font-size:9px;fill:#777;text-anchor:middle}\n"
-    ".s{font-size:110px;font-weight:bold;fill:#1f3f77;fill-opacity:.13;text-anchor:middle}\n"
+    ".s{font-size:110px;font-weight:bold;fill:#1f3f77;fill-opacity:.2;text-anchor:middle}\n"
     ".u{fill:#fff;fill-opacity:.62}\n"
     ".k{fill:none;stroke:#1f3f77;stroke-width:1.7;stroke-linecap:round;stroke-linejoin:round}\n"
     ".r{fill:none;stroke:#d01c1c;stroke-width:2.2;stroke-linecap:round;stroke-linejoin:round}\n"
     ".x{stroke:#999;stroke-width:1.5}\n"
-    ".i{fill:#3f9a52}\n"
+    ".i,.h{fill:#3f9a52}\n"
+    ".l{font-size:13px;font-weight:bold;fill:#fff;text-anchor:middle}\n"
     ".p{fill:none;stroke:#0a6ed1;stroke-width:2.5}\n"
     ".q{fill:none;stroke:#a03fc9;stroke-width:2.2;stroke-dasharray:4 2.5}\n"
     ".f{fill:none;stroke:#3d4450;stroke-width:1}\n"
@@ -88,8 +89,7 @@ static void write_sign(const struct plan *plan, FILE *out, int place)
     else if (look == IN_SIGHT)
         fprintf(out, "<circle class=\"i\" cx=\"%d\" cy=\"%d\" r=\"2.5\"/>\n", x, y);
     else if (look == GOAL)
-        fprintf(out, "<circle cx=\"%d\" cy=\"%d\" r=\"10\" fill=\"#3f9a52\"/><text x=\"%d\" y=\"%d\" text-anchor=\"middle\" font-size=\"13\" font-weight=\"bold\" style=\"fill:#fff\">G</text>\n",
-                x, y, x, y + 5);
+        fprintf(out, "<circle class=\"h\" cx=\"%d\" cy=\"%d\" r=\"10\"/><text class=\"l\" x=\"%d\" y=\"%d\">G</text>\n", x, y, x, y + 5);
 }
 
 /* A sector's number, its frame, and a veil where no step names it. */
@@ -169,7 +169,7 @@ static void write_legend(FILE *out, int y)
         {"<rect class=\"w\" x=\"-8\" y=\"-8\" width=\"16\" height=\"16\" transform=\"translate(%d %d)\"/>", "wall"},
     };
     for (int i = 0; i < 7; i++) {
-        int x = LEFT + 10 + i * 104;
+        int x = LEFT + 10 + i * 114;
         fprintf(out, rows[i].sign, x, y + 26);
         fprintf(out, "<text x=\"%d\" y=\"%d\" font-size=\"11\">%s</text>\n", x + 13, y + 30, rows[i].text);
     }
@@ -194,7 +194,8 @@ void write_picture(const struct plan *plan, FILE *out)
 {
     int wide = 2 * LEFT + plan->floor->columns * CELL, high = TOP + plan->floor->rows * CELL;
     int width = wide < LEAST ? LEAST : wide;
-    fprintf(out, "<svg xmlns=\"http://www.w3.org/2000/svg\" viewBox=\"0 0 %d %d\" width=\"%d\" height=\"%d\">\n", width, high + FOOT, width, high + FOOT);
+    fprintf(out, "<svg xmlns=\"http://www.w3.org/2000/svg\" viewBox=\"0 0 %d %d\" ", width, high + FOOT);
+    fprintf(out, "width=\"%d\" height=\"%d\">\n", width, high + FOOT);
     write_steps(plan, out);
     fprintf(out, "<rect width=\"%d\" height=\"%d\" fill=\"#fff\"/>\n%s", width, high + FOOT, STYLE);
     write_head(plan, out);
