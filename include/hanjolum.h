@@ -75,6 +75,11 @@
  * Time and stack.  Every call ends, on all input. Each wave is one call on the stack, of 592 bytes in the compiled
  * archive, and there are at most 101 at a time: no call needs as much as 80,000 bytes (read off the archive, not proved).
  * Give a thread that calls sector, leg, bounds, window costs, tour, init or build 256 KB.
+ * In bytes, with 101 waves, beside what memcpy and memset need (tools/stack/frames reads it off the archive):
+ *     hanjolum_leg 73968, hanjolum_window_costs 68016, hanjolum_window_tour 67840, hanjolum_bounds 67696,
+ *     hanjolum_sector 67600, hanjolum_build 64704, hanjolum_init 50592, hanjolum_flow_new 1080, hanjolum_line 848,
+ *     hanjolum_practice_floor 752, hanjolum_walk_bresenham_shallow 592, hanjolum_walk_bresenham_steep 592,
+ *     hanjolum_flow_build 480, hanjolum_line_end 56; leg files and the readers of a byte 8
  */
 #ifndef HANJOLUM_H
 #define HANJOLUM_H
