@@ -1,0 +1,193 @@
+/*
+ * Times every call of the library: for each the median of 101 rounds, a round being some calls over different inputs, in
+ * nanoseconds of processor time a call. The inputs are practice floors, the same everywhere; the times belong to the machine,
+ * and are for comparing only where nothing else runs on it.
+ *
+ *     rt staticlib hanjolum
+ *     cc -std=c11 -O2 -Iinclude tools/time/time.c target/staticlib/libhanjolum.a -o target/time && target/time
+ */
+#define _POSIX_C_SOURCE 200809L
+#include <stdio.h>
+#include <stdlib.h>
+#include <string.h>
+#include <time.h>
+
+#include "hanjolum.h"
+
+enum { INPUTS = 64, ROUNDS = 101, SMALL = 200 };
+
+/* One input of each kind: a sector with a goal, a window, eight windows, a leg of sixteen steps, and what was made of them. */
+struct input {
+    uint8_t costs[HANJOLUM_CELLS];
+    uint8_t high[HANJOLUM_CELLS];
+    uint8_t goal[HANJOLUM_STEP];
+    uint8_t window[HANJOLUM_STEP];
+    uint8_t windows[HANJOLUM_STEP * HANJOLUM_WINDOWS];
+    uint8_t floor[HANJOLUM_FLOOR];
+    uint8_t steps[HANJOLUM_STEP * HANJOLUM_STEPS];
+    uint8_t file[HANJOLUM_FILE];
+    HanjolumIntegrationField started, built;
+};
+
+static struct input inputs[INPUTS];
+static uint8_t sheet[HANJOLUM_FLOOR];
+static uint32_t zeros[HANJOLUM_CELLS];
+static volatile unsigned sink;
+
+/* The longest run along a side without a wall, as a window. */
+static void make_window(uint8_t *step, const uint8_t *costs, int sector, int side)
+{
+    static const int starts[] = {0, 9, 90, 0};
+    int stride = side % 2 == 0 ? 1 : 10, best = 0, length = 0;
+    memset(step, 0, HANJOLUM_STEP);
+    for (int i = 0; i < 10; i++) {
+        length = costs[starts[side] + i * stride] == HANJOLUM_WALL ? 0 : length + 1;
+        if (length > best) {
+            best = length;
+            step[HANJOLUM_STEP_FIRST] = (uint8_t)(starts[side] + (i - length + 1) * stride);
+            step[HANJOLUM_STEP_LAST] = (uint8_t)(starts[side] + i * stride);
+        }
+    }
+    step[HANJOLUM_STEP_SECTOR] = (uint8_t)sector;
+    step[HANJOLUM_STEP_MARK] = HANJOLUM_MARK_WINDOW;
+    step[HANJOLUM_STEP_BOUNDARY] = (uint8_t)side;
+}
+
+/* Eight windows of one cell, two along each side: the first and the last cell that is no wall. */
+static void make_windows(struct input *input)
+{
+    for (int i = 0; i < HANJOLUM_WINDOWS; i++) {
+        uint8_t *step = input->windows + i * HANJOLUM_STEP;
+        make_window(step, input->costs, 0, i % 4);
+        step[i < 4 ? HANJOLUM_STEP_LAST : HANJOLUM_STEP_FIRST] = step[i < 4 ? HANJOLUM_STEP_FIRST : HANJOLUM_STEP_LAST];
+    }
+}
+
+/* A leg over sectors 0 to 7 and back over 15 to 8, on a floor of practice floors of which all windows are taken. */
+static uint32_t make_leg(struct input *input, uint32_t seed)
+{
+    uint8_t number;
+    do {
+        for (int sector = 0; sector < HANJOLUM_SECTORS; sector++)
+            memcpy(input->floor + sector * HANJOLUM_CELLS, hanjolum_practice_floor(seed++).costs, HANJOLUM_CELLS);
+        memset(input->steps, 0, HANJOLUM_STEP);
+        input->floor[0] = 1;
+        for (int i = 1; i < HANJOLUM_STEPS; i++) {
+            int sector = i < 8 ? i : 23 - i;
+            int side = i < 8 ? HANJOLUM_WEST : i == 8 ? HANJOLUM_NORTH : HANJOLUM_EAST;
+            make_window(input->steps + i * HANJOLUM_STEP, input->floor + sector * HANJOLUM_CELLS, sector, side);
+        }
+        number = hanjolum_leg(input->floor, HANJOLUM_FLOOR, input->steps, sizeof input->steps, sheet, sizeof sheet);
+    } while (number != HANJOLUM_ACCEPTED);
+    return seed;
+}
+
+static void make_inputs(void)
+{
+    uint32_t seed = 1;
+    for (int i = 0; i < INPUTS; i++) {
+        struct input *input = &inputs[i];
+        HanjolumPracticeFloor floor = hanjolum_practice_floor((uint32_t)i);
+        memcpy(input->costs, floor.costs, sizeof input->costs);
+        for (int cell = 0; cell < HANJOLUM_CELLS; cell++)
+            input->high[cell] = floor.costs[cell] == HANJOLUM_WALL ? HANJOLUM_WALL : (uint8_t)(floor.costs[cell] + 3);
+        input->goal[HANJOLUM_STEP_GOAL] = floor.goal;
+        make_window(input->window, input->costs, 0, HANJOLUM_EAST);
+        make_windows(input);
+        seed = make_leg(input, seed);
+        hanjolum_leg_file_write(input->steps, sizeof input->steps, input->file, sizeof input->file);
+        input->started = hanjolum_init(input->costs, HANJOLUM_CELLS, input->goal, HANJOLUM_STEP).field;
+        input->built = hanjolum_build(input->costs, HANJOLUM_CELLS, input->started).field;
+    }
+}
+
+/* The calls, one for each line of the table. */
+#define CALL(name, expression) \
+    static unsigned name(struct input *in, unsigned i) { (void)in; (void)i; return expression; }
+#define COSTS in->costs, HANJOLUM_CELLS
+#define PART sheet, HANJOLUM_CELLS
+
+CALL(sector_goal, hanjolum_sector(COSTS, in->goal, HANJOLUM_STEP, false, NULL, 0, PART).number)
+CALL(sector_window, hanjolum_sector(COSTS, in->window, HANJOLUM_STEP, true, zeros, HANJOLUM_CELLS, PART).number)
+CALL(leg, hanjolum_leg(in->floor, HANJOLUM_FLOOR, in->steps, sizeof in->steps, sheet, HANJOLUM_FLOOR))
+CALL(bounds, hanjolum_bounds(COSTS, in->high, HANJOLUM_CELLS, in->window, HANJOLUM_STEP).number)
+CALL(window_costs, hanjolum_window_costs(COSTS, in->windows, sizeof in->windows).number)
+CALL(window_tour, hanjolum_window_tour(COSTS, in->windows, sizeof in->windows, 65535).number)
+CALL(leg_file_write, hanjolum_leg_file_write(in->steps, sizeof in->steps, in->file, sizeof in->file))
+CALL(leg_file_read, hanjolum_leg_file_read(in->file, sizeof in->file).number)
+CALL(practice_floor, hanjolum_practice_floor(i).goal * 0u)
+CALL(init, hanjolum_init(COSTS, in->goal, HANJOLUM_STEP).number)
+CALL(build, hanjolum_build(COSTS, in->started).number)
+CALL(flow_new, hanjolum_flow_new(in->goal, HANJOLUM_STEP, in->built, false, NULL, 0, PART))
+CALL(flow_new_and_build, hanjolum_flow_new(in->goal, HANJOLUM_STEP, in->built, false, NULL, 0, PART) + hanjolum_flow_build(in->built, PART))
+CALL(line, hanjolum_line(i % 10, i / 7 % 10, i / 3 % 10, i / 11 % 10).number)
+CALL(walk_shallow, hanjolum_walk_bresenham_shallow(0, i % 10, 9, i / 7 % 10).number)
+CALL(walk_steep, hanjolum_walk_bresenham_steep(i % 10, 0, i / 7 % 10, 9).number)
+CALL(line_end, hanjolum_line_end(i % 10, i / 7 % 10, i / 3 % 10, i / 11 % 10).number)
+CALL(reader, hanjolum_is_goal((uint8_t)i) * 0u)
+
+static const struct { const char *name; unsigned (*call)(struct input *, unsigned); int times; } CALLS[] = {
+    {"hanjolum_sector, a goal", sector_goal, 1},
+    {"hanjolum_sector, a window", sector_window, 1},
+    {"hanjolum_leg, sixteen steps", leg, 1},
+    {"hanjolum_bounds", bounds, 1},
+    {"hanjolum_window_costs, eight windows", window_costs, 1},
+    {"hanjolum_window_tour, eight windows, all orders", window_tour, 1},
+    {"hanjolum_leg_file_write, sixteen steps", leg_file_write, SMALL},
+    {"hanjolum_leg_file_read, sixteen steps", leg_file_read, SMALL},
+    {"hanjolum_practice_floor", practice_floor, 1},
+    {"hanjolum_init, a goal", init, 1},
+    {"hanjolum_build, a goal's field", build, 1},
+    {"hanjolum_flow_new", flow_new, 1},
+    {"hanjolum_flow_new and hanjolum_flow_build", flow_new_and_build, 1},
+    {"hanjolum_line", line, SMALL},
+    {"hanjolum_walk_bresenham_shallow", walk_shallow, SMALL},
+    {"hanjolum_walk_bresenham_steep", walk_steep, SMALL},
+    {"hanjolum_line_end", line_end, SMALL},
+    {"a reader of a byte", reader, SMALL},
+};
+
+static double now(void)
+{
+    struct timespec time;
+    clock_gettime(CLOCK_PROCESS_CPUTIME_ID, &time);
+    return (double)time.tv_sec * 1e9 + (double)time.tv_nsec;
+}
+
+static int by_size(const void *a, const void *b)
+{
+    double left = *(const double *)a, right = *(const double *)b;
+    return (left > right) - (left < right);
+}
+
+/* The median of the rounds of a call, each over all inputs. */
+static double median(unsigned (*call)(struct input *, unsigned), int times)
+{
+    double rounds[ROUNDS];
+    for (int round = 0; round < ROUNDS; round++) {
+        unsigned sum = 0;
+        double begin = now();
+        for (int i = 0; i < INPUTS * times; i++)
+            sum += call(&inputs[i % INPUTS], (unsigned)i);
+        rounds[round] = (now() - begin) / (INPUTS * times);
+        sink = sum;
+        if (sum != 0) {
+            fprintf(stderr, "time: a call is refused\n");
+            exit(1);
+        }
+    }
+    qsort(rounds, ROUNDS, sizeof *rounds, by_size);
+    return rounds[ROUNDS / 2];
+}
+
+int main(int count, char **words)
+{
+    if (count != 1) {
+        fprintf(stderr, "usage: %s, which takes no words\n", words[0]);
+        return 1;
+    }
+    make_inputs();
+    for (size_t i = 0; i < sizeof CALLS / sizeof *CALLS; i++)
+        printf("%-50s %10.0f ns\n", CALLS[i].name, median(CALLS[i].call, CALLS[i].times));
+    return fflush(stdout) != 0 || ferror(stdout);
+}
