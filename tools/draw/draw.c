@@ -143,13 +143,13 @@ static void make_step(const struct drawing *drawing, uint8_t *step)
 {
     memset(step, 0, HANJOLUM_STEP);
     if (drawing->mark == 'G') {
-        step[1] = (uint8_t)drawing->first;
+        step[HANJOLUM_STEP_GOAL] = (uint8_t)drawing->first;
         return;
     }
-    step[2] = 1;
-    step[3] = (uint8_t)drawing->first;
-    step[4] = (uint8_t)drawing->last;
-    step[5] = (uint8_t)(strchr(SIDES, drawing->mark) - SIDES);
+    step[HANJOLUM_STEP_MARK] = HANJOLUM_MARK_WINDOW;
+    step[HANJOLUM_STEP_FIRST] = (uint8_t)drawing->first;
+    step[HANJOLUM_STEP_LAST] = (uint8_t)drawing->last;
+    step[HANJOLUM_STEP_BOUNDARY] = (uint8_t)(strchr(SIDES, drawing->mark) - SIDES);
 }
 
 /* How a cell is shown: its arrow where its byte has one. */
@@ -165,26 +165,6 @@ static const char *shown(uint8_t byte, uint8_t cost, int ascii)
     return ascii ? "* " : "*";
 }
 
-/* Whether a reached cell's arrows never arrive. */
-static int is_lost(const uint8_t *sheet, const HanjolumArrivals *arrivals, int cell)
-{
-    return arrivals->moves[cell] == HANJOLUM_NEVER && !hanjolum_is_wall(sheet[cell]);
-}
-
-/* One line that says which cells these are, where there are any. */
-static void show_lost(const uint8_t *sheet, const HanjolumArrivals *arrivals)
-{
-    int lost = 0;
-    for (int cell = 0; cell < HANJOLUM_CELLS; cell++) {
-        if (!is_lost(sheet, arrivals, cell))
-            continue;
-        printf(lost == 0 ? "! followed, the arrows never arrive: cells %d" : " %d", cell);
-        lost += 1;
-    }
-    if (lost > 0)
-        printf("\n");
-}
-
 /* How a cell of a practice floor is drawn. */
 static char cell_of(const struct drawing *drawing, int cell)
 {
@@ -193,23 +173,32 @@ static char cell_of(const struct drawing *drawing, int cell)
     return drawing->costs[cell] == 1 ? '.' : drawing->costs[cell] == 10 ? ':' : '#';
 }
 
+/* A row of a sector: of a practice floor its cells, and of any its arrows and its flow bytes. */
+static void show_row(const struct drawing *drawing, const uint8_t *sheet, const char *lost, int row, int practice, int ascii)
+{
+    for (int column = 0; practice && column < SIDE; column++)
+        printf("%c%s", cell_of(drawing, row * SIDE + column), column == SIDE - 1 ? "   " : "");
+    for (int column = 0; column < SIDE; column++) {
+        int cell = row * SIDE + column;
+        printf("%s%c", shown(sheet[cell], drawing->costs[cell], ascii), lost[cell] ? '!' : ' ');
+    }
+    printf("  ");
+    for (int column = 0; column < SIDE; column++)
+        printf("%02x", sheet[row * SIDE + column]);
+    printf("\n");
+}
+
 static void show(const struct drawing *drawing, const uint8_t *sheet, int practice, int ascii)
 {
     HanjolumArrivals arrivals = hanjolum_arrivals(sheet, HANJOLUM_CELLS);
-    for (int row = 0; row < SIDE; row++) {
-        for (int column = 0; practice && column < SIDE; column++)
-            printf("%c%s", cell_of(drawing, row * SIDE + column), column == SIDE - 1 ? "   " : "");
-        for (int column = 0; column < SIDE; column++) {
-            int cell = row * SIDE + column;
-            printf("%s%c", shown(sheet[cell], drawing->costs[cell], ascii), is_lost(sheet, &arrivals, cell) ? '!' : ' ');
-        }
-        printf("  ");
-        for (int column = 0; column < SIDE; column++)
-            printf("%02x", sheet[row * SIDE + column]);
-        printf("\n");
-    }
+    char lost[HANJOLUM_CELLS];
+    for (int cell = 0; cell < HANJOLUM_CELLS; cell++)
+        lost[cell] = (char)is_lost(sheet, arrivals.moves, cell);
+    for (int row = 0; row < SIDE; row++)
+        show_row(drawing, sheet, lost, row, practice, ascii);
     printf("\n%s wall   x not reached   G goal   * goal in sight, no arrow needed\n", ascii ? "##" : "█");
-    show_lost(sheet, &arrivals);
+    if (name_lost("! followed, the arrows never arrive: cells", lost) > 0)
+        printf("\n");
     if (practice)
         printf("on the left, the floor: . cost 1   : cost 10   # wall   G goal, cell %d, cost 1\n", drawing->first);
 }

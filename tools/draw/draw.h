@@ -12,8 +12,7 @@
 enum {
     SIDE = 10,                       /* cells along a sector */
     ACROSS = 8,                      /* sectors along a floor */
-    FLOOR_SIDE = SIDE * ACROSS,      /* cells along a floor */
-    MOST_MOVES = HANJOLUM_FLOOR + 1  /* more moves than a floor has cells: some cell comes a second time */
+    FLOOR_SIDE = SIDE * ACROSS       /* cells along a floor */
 };
 
 /* A window by which a sector is left, and the line of the drawing that says so. */
@@ -33,9 +32,6 @@ struct floor {
     int leave_count;                 /* in the order of driving */
 };
 
-/* How following the arrows from a cell ends. */
-enum ending { NO_ARROW, ARRIVES, NEVER };
-
 /* A planned leg over a floor, followed. */
 struct plan {
     const struct floor *floor;
@@ -43,8 +39,9 @@ struct plan {
     int count;                       /* steps, from the goal back */
     int step_of[HANJOLUM_SECTORS];   /* the step that names a sector, from 0; -1 for none */
     uint8_t sheet[HANJOLUM_FLOOR];
-    enum ending endings[HANJOLUM_FLOOR];
-    int way[MOST_MOVES];             /* the cart's places, `moves` + 1 of them; -1 moves where there is no cart */
+    uint8_t arrivals[HANJOLUM_FLOOR]; /* in each named sector, the library's moves to its goal, its sight or its window */
+    char lost[HANJOLUM_FLOOR];       /* whether a reached cell's arrows never arrive, followed from sector to sector */
+    int way[HANJOLUM_FLOOR + 1];     /* the cart's places, `moves` + 1 of them; -1 moves where there is no cart */
     int moves;
     int crossing;                    /* the moves after which it is in the goal's sector; -1 if it never is */
 };
@@ -77,8 +74,14 @@ enum look look_of(const struct plan *plan, int place);
 int is_window(const struct plan *plan, int place);
 int counts(const struct plan *plan, int place);
 
+/* Whether a reached cell of a sector's sheet has arrows that never arrive, by what the library says of the sheet. */
+int is_lost(const uint8_t *sheet, const uint8_t *arrivals, int cell);
+
 /* What the cart does, as a sentence. */
 void say_way(const struct plan *plan, char *line, size_t size);
+
+/* Names the lost cells of a sector behind some words, where there are any, and answers how many there are. */
+int name_lost(const char *before, const char *lost);
 
 void show_floor(const struct plan *plan, int ascii, int with_costs);
 void write_picture(const struct plan *plan, FILE *out);

@@ -15,6 +15,7 @@
  */
 #include <ctype.h>
 #include <errno.h>
+#include <inttypes.h>
 #include <stdarg.h>
 #include <stdlib.h>
 #include <string.h>
@@ -375,10 +376,12 @@ struct floor read_floor(const char *name)
 
 struct floor practice_floor(const char *seed)
 {
-    struct floor floor = {.name = seed, .columns = SIDE, .rows = SIDE, .cart = -1};
+    static char name[40];
+    struct floor floor = {.name = name, .columns = SIDE, .rows = SIDE, .cart = -1};
     int64_t number = number_of(seed, UINT32_MAX);
     if (number < 0)
         fail("--practice takes a seed, a whole number from 0 to 4294967295");
+    snprintf(name, sizeof name, "practice floor %" PRId64, number);
     HanjolumPracticeFloor practice = hanjolum_practice_floor((uint32_t)number);
     memset(floor.costs, HANJOLUM_WALL, sizeof floor.costs);
     memcpy(floor.costs, practice.costs, sizeof practice.costs);

@@ -1,6 +1,6 @@
 /*
- * Plans the leg of a drawn floor and follows its arrows. Every byte of the sheet comes from hanjolum_leg; what is done here is
- * to go from cell to cell by the arrows that the sheet has.
+ * Plans the leg of a drawn floor and follows its arrows. Every byte of the sheet comes from hanjolum_leg, and which arrows of a
+ * sector never arrive from hanjolum_arrivals; what is done here is to go from cell to cell by the arrows that the sheet has.
  */
 #include <string.h>
 
@@ -80,57 +80,69 @@ static int next_place(const struct plan *plan, int place)
     return place_at(column_of(place) + east[direction], row_of(place) + south[direction]);
 }
 
-/* Where following the arrows from a place ends; `way`, if lent, takes the places, and `moves` how many moves there were. */
-static enum ending follow(const struct plan *plan, int place, int *way, int *moves)
+int is_lost(const uint8_t *sheet, const uint8_t *arrivals, int cell)
 {
-    for (*moves = 0; *moves < MOST_MOVES - 1; *moves += 1) {
-        enum look look = look_of(plan, place);
-        if (way != NULL)
-            way[*moves] = place;
-        if (look == GOAL || look == IN_SIGHT)
-            return ARRIVES;
-        if (look != ARROW)
-            return NO_ARROW;
+    return arrivals[cell] == HANJOLUM_NEVER && !hanjolum_is_wall(sheet[cell]);
+}
+
+/* The place that so many arrows lead to. */
+static int moved(const struct plan *plan, int place, int moves)
+{
+    for (; moves > 0; moves--)
         place = next_place(plan, place);
-    }
-    if (way != NULL)
-        way[*moves] = place;
-    return NEVER;
+    return place;
 }
 
-/* A way that never ends is cut where a cell comes a second time. */
-static void cut(struct plan *plan)
+/* Whether a place's arrows never arrive: the library tells it of each sector, and a window's cell leads into the next. */
+static int never_arrives(const struct plan *plan, int place)
 {
-    char met[HANJOLUM_FLOOR] = {0};
-    for (int i = 0; i <= plan->moves; i++) {
-        if (met[plan->way[i]]) {
-            plan->moves = i;
-            return;
-        }
-        met[plan->way[i]] = 1;
+    for (int step = plan->step_of[place / HANJOLUM_CELLS]; step >= 0; step--) {
+        if (hanjolum_is_wall(plan->sheet[place]))
+            return 0;
+        if (is_lost(plan->sheet, plan->arrivals, place))
+            return 1;
+        if (step > 0)
+            place = moved(plan, place, plan->arrivals[place] + 1);
     }
+    return 0;
 }
 
+/* Asks the library which arrows of each named sector arrive. */
+static void find_lost(struct plan *plan)
+{
+    for (int i = 0; i < plan->count; i++) {
+        size_t at = (size_t)plan->steps[i * HANJOLUM_STEP + HANJOLUM_STEP_SECTOR] * HANJOLUM_CELLS;
+        HanjolumArrivals answer = hanjolum_arrivals(plan->sheet + at, HANJOLUM_CELLS);
+        memcpy(plan->arrivals + at, answer.moves, sizeof answer.moves);
+    }
+    for (int place = 0; place < HANJOLUM_FLOOR; place++)
+        plan->lost[place] = (char)never_arrives(plan, place);
+}
+
+/* Follows the cart's arrows until there is none, or a cell comes a second time. */
 static void follow_cart(struct plan *plan)
 {
-    int cart = plan->floor->cart;
-    plan->moves = -1;
-    plan->crossing = -1;
-    if (cart < 0)
+    char met[HANJOLUM_FLOOR] = {0};
+    int place = plan->floor->cart;
+    plan->moves = plan->crossing = -1;
+    if (place < 0)
         return;
-    if (look_of(plan, cart) == WALL_CELL)
+    if (look_of(plan, place) == WALL_CELL)
         fail("%s: the cart stands on a wall", plan->floor->name);
-    if (look_of(plan, cart) == UNPLANNED)
-        fail("%s: the cart stands in sector %d, which the leg does not name", plan->floor->name, cart / HANJOLUM_CELLS);
-    follow(plan, cart, plan->way, &plan->moves);
-    cut(plan);
+    if (look_of(plan, place) == UNPLANNED)
+        fail("%s: the cart stands in sector %d, which the leg does not name", plan->floor->name, place / HANJOLUM_CELLS);
+    plan->way[plan->moves = 0] = place;
+    while (look_of(plan, place) == ARROW && !met[place]) {
+        met[place] = 1;
+        place = next_place(plan, place);
+        plan->way[++plan->moves] = place;
+    }
     for (int i = plan->moves; i >= 0 && plan->way[i] / HANJOLUM_CELLS == plan->floor->goal / HANJOLUM_CELLS; i--)
         plan->crossing = i;
 }
 
 void plan_floor(struct plan *plan, const struct floor *floor)
 {
-    int moves;
     memset(plan, 0, sizeof *plan);
     plan->floor = floor;
     make_steps(plan);
@@ -140,8 +152,7 @@ void plan_floor(struct plan *plan, const struct floor *floor)
     memset(plan->step_of, -1, sizeof plan->step_of);
     for (int i = 0; i < plan->count; i++)
         plan->step_of[plan->steps[i * HANJOLUM_STEP + HANJOLUM_STEP_SECTOR]] = i;
-    for (int place = 0; place < HANJOLUM_FLOOR; place++)
-        plan->endings[place] = follow(plan, place, NULL, &moves);
+    find_lost(plan);
     follow_cart(plan);
 }
 
@@ -155,11 +166,11 @@ void say_way(const struct plan *plan, char *line, size_t size)
     int length = snprintf(line, size, "the cart, sector %d, column %d, row %d: ", cart / HANJOLUM_CELLS, cart % SIDE, cart % HANJOLUM_CELLS / SIDE);
     line += length, size -= (size_t)length;
     int inside = plan->moves - plan->crossing;
-    if (plan->moves == 0 && plan->endings[cart] == NO_ARROW)
+    if (look_of(plan, cart) == UNREACHED)
         snprintf(line, size, "nothing reaches it");
     else if (plan->crossing < 0)
-        snprintf(line, size, "it does not come into the goal's sector");
-    else if (plan->endings[cart] == NEVER)
+        snprintf(line, size, "its arrows lead in a circle before the goal's sector");
+    else if (plan->lost[cart])
         snprintf(line, size, "%d moves into the goal's sector, and there arrows that lead in a circle", plan->crossing);
     else
         snprintf(line, size, "%d moves into the goal's sector, %d more until the goal is in sight or reached", plan->crossing, inside);
