@@ -128,8 +128,8 @@ impl Place {
     }
 
     /// Where the arrow of a planned floor's sheet leads from here; none where the cell has no arrow: the goal, a cell with
-    /// the goal in sight, a wall, a cell that nothing reaches. In the goal's sector arrows need not lead to the goal: a
-    /// cart that follows them there has to notice a cell that comes a second time.
+    /// the goal in sight, a wall, a cell that nothing reaches. In the goal's sector arrows need not lead to the goal:
+    /// [`arrivals`](crate::arrivals) tells from which cells they do.
     pub fn next(self, sheet: &[u8]) -> Option<Place> {
         self.moved(FlowByte(self.byte_of(sheet)?).direction()?)
     }

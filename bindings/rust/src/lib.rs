@@ -60,6 +60,8 @@ pub const FILE_HEAD: usize = 6;
 pub const FILE: usize = 134;
 /// The cost byte of a wall.
 pub const WALL: u8 = 255;
+/// The number of moves of arrows that never arrive.
+pub const NEVER: u8 = 255;
 /// The cost of a cell that nothing reaches.
 pub const UNREACHED: u32 = 65535;
 /// The version of this crate and of the header that it declares.
@@ -134,6 +136,21 @@ impl Line {
     /// The cells in order.
     pub fn cells(&self) -> &[FieldCell] {
         &self.cells[..self.count]
+    }
+}
+
+/// Which arrows of a sector's sheet arrive.
+#[derive(Clone, Copy, Debug, PartialEq, Eq)]
+pub struct Arrivals {
+    /// For each cell the moves after which its arrows first come to the goal, into its sight or to a window; [`NEVER`] where
+    /// they never do.
+    pub moves: [u8; CELLS],
+}
+
+impl Arrivals {
+    /// The moves of a cell; none where its arrows never arrive, and for an index over 99.
+    pub fn of(&self, cell: usize) -> Option<u8> {
+        self.moves.get(cell).copied().filter(|moves| *moves != NEVER)
     }
 }
 
@@ -229,6 +246,14 @@ pub fn leg(floor: &[u8], steps: impl AsRef<[u8]>, sheet: &mut [u8]) -> Result<()
         sys::hanjolum_leg(floor.as_ptr(), floor.len(), steps.as_ptr(), steps.len(), sheet.as_mut_ptr(), sheet.len())
     };
     unless_refused(number, ())
+}
+
+/// Which arrows of a sector's sheet of 100 flow bytes arrive, told before a cart is driven. Of a planned leg with no cost 0, a
+/// look at the goal's sector tells the whole way: the number of the cell where a cart comes in.
+pub fn arrivals(sheet: &[u8]) -> Result<Arrivals, Refusal> {
+    // SAFETY: the pointer with its length is a live slice.
+    let answer = unsafe { sys::hanjolum_arrivals(sheet.as_ptr(), sheet.len()) };
+    unless_refused(answer.number, Arrivals { moves: answer.moves })
 }
 
 /// The file of a leg's steps, for carrying. No byte of a step is judged: that is done when the leg is planned.

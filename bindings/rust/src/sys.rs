@@ -73,6 +73,16 @@ pub struct Bounds {
     pub sure: [bool; 100],
 }
 
+/// `HanjolumArrivals`.
+#[repr(C)]
+#[derive(Clone, Copy)]
+pub struct Arrivals {
+    /// 0, or the number of the refusal.
+    pub number: u8,
+    /// The moves of each cell.
+    pub moves: [u8; 100],
+}
+
 /// `HanjolumWindowCosts`.
 #[repr(C)]
 #[derive(Clone, Copy)]
@@ -114,6 +124,7 @@ unsafe extern "C" {
         sheet: *mut u8,
         sheet_length: usize,
     ) -> BuildAnswer;
+    pub fn hanjolum_arrivals(sheet: *const u8, sheet_length: usize) -> Arrivals;
     pub fn hanjolum_bounds(
         low: *const u8,
         low_length: usize,

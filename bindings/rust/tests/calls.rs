@@ -49,6 +49,28 @@ fn the_sector_call_is_made_of_the_calls_by_hand() {
 }
 
 #[test]
+fn arrows_that_never_arrive_are_told() {
+    // With a wall at 1 and the goal at 10 the arrows of 2 and 3 point at each other, and those of 4 to 9 lead to them.
+    let mut sheet = marked();
+    sector(&with(1, WALL), Step::goal(0, 10), None, &mut sheet).unwrap();
+    let found = arrivals(&sheet).unwrap();
+    for cell in 0..CELLS {
+        assert_eq!(found.of(cell).is_none(), (1..=9).contains(&cell), "cell {cell}");
+    }
+    assert_eq!((found.of(10), found.of(100)), (Some(0), None));
+    // Left by a window, every reached cell arrives, in as many moves as there are columns to it.
+    sector(&ONES, EAST, Some(&[0; CELLS]), &mut sheet).unwrap();
+    for cell in 0..CELLS {
+        assert_eq!(arrivals(&sheet).unwrap().of(cell), Some(9 - (cell % 10) as u8), "cell {cell}");
+    }
+    // Out of the sector, and onto a byte with no direction.
+    let mut by_hand = [0; CELLS];
+    by_hand[..3].copy_from_slice(&[0x11, 0x12, 0x12]);
+    assert_eq!(arrivals(&by_hand).unwrap().moves, [NEVER; CELLS]);
+    assert_eq!(arrivals(&by_hand[1..]), Err(Refusal::Sheet));
+}
+
+#[test]
 fn a_step_is_judged_and_nothing_is_written() {
     let mut sheet = marked();
     let zeros = [0; CELLS];

@@ -59,6 +59,7 @@ fn layouts() -> Vec<Layout> {
         layout!("LegFile", sys::LegFile, number, start, length),
         layout!("PracticeFloor", PracticeFloor, costs, goal),
         layout!("Bounds", sys::Bounds, number, least, greatest, sure),
+        layout!("Arrivals", sys::Arrivals, number, moves),
         layout!("WindowRow", WindowRow, costs),
         layout!("WindowCosts", sys::WindowCosts, number, rows),
         layout!("WindowTour", sys::WindowTour, number, found, order, sum, tried, least),
@@ -110,6 +111,7 @@ fn constants_are_the_header_s() {
         ("FILE_HEAD", hanjolum::FILE_HEAD),
         ("FILE", hanjolum::FILE),
         ("WALL", hanjolum::WALL.into()),
+        ("NEVER", hanjolum::NEVER.into()),
         ("FIELD_COST", hanjolum::UNREACHED as usize),
     ];
     let body: String = constants.iter().map(|(name, _)| format!("put(HANJOLUM_{name});\n")).collect();
@@ -203,6 +205,6 @@ fn every_function_is_declared_as_the_header_has_it() {
         let expected = declared(prototype);
         assert!(source.contains(&expected), "sys.rs lacks `{expected}`");
     }
-    assert_eq!(prototypes.len(), 22);
+    assert_eq!(prototypes.len(), 23);
     assert_eq!(source.matches("pub fn hanjolum_").count(), prototypes.len());
 }

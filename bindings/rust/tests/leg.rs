@@ -79,6 +79,38 @@ fn a_leg_is_planned_carried_and_followed() {
     }
 }
 
+/// How many moves the arrows take within a sector to the goal, into its sight or to a window; none where they never do.
+fn moves_within(sheet: &[u8], from: Place) -> Option<u8> {
+    let mut place = from;
+    for count in 0..100 {
+        let byte = FlowByte(place.byte_of(sheet).unwrap());
+        if byte.is_goal() || byte.has_line_of_sight() || byte.is_portal_goal() {
+            return Some(count);
+        }
+        place = place.next(sheet).filter(|place| place.sector == from.sector)?;
+    }
+    None
+}
+
+/// The goal's sector 9 has a wall at 1 and its goal at 10, so that arrows of its cells 2 to 9 never arrive; sector 1 leads there.
+#[test]
+fn arrivals_tell_a_planned_leg_s_whole_way() {
+    let (mut floor, mut sheet) = ([1; FLOOR], [0; FLOOR]);
+    floor[9 * CELLS + 1] = WALL;
+    let list = [Step::goal(9, 10), Step::window(1, Boundary::South, 92, 99)];
+    leg(&floor, Steps::new(&list).unwrap(), &mut sheet).unwrap();
+    for sector in [9, 1] {
+        let found = arrivals(&sheet[usize::from(sector) * CELLS..][..CELLS]).unwrap();
+        for cell in (0..100).filter(|cell| (sector, *cell) != (9, 1)) {
+            let place = Place { sector, cell };
+            assert_eq!(found.of(cell.into()), moves_within(&sheet, place), "{place:?}");
+            assert_eq!(found.of(cell.into()).is_none(), sector == 9 && (2..=9).contains(&cell), "{place:?}");
+        }
+    }
+    let entered = Place { sector: 1, cell: 95 }.next(&sheet).unwrap();
+    assert_eq!((entered.sector, moves_within(&sheet, entered)), (9, None));
+}
+
 #[test]
 fn a_leg_is_what_its_sector_calls_write() {
     let (floor, mut sheet, mut part) = (floor(), [0; FLOOR], [0; CELLS]);
