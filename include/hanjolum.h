@@ -72,14 +72,31 @@
  * buffer that is not exactly as long as the file. The call for bounds judges 1 for either floor, and 16 on both. The calls
  * for window costs and tours judge 4 to 8, 16 and 20 for one step before the next.
  *
- * Time and stack.  Every call ends, on all input. Each wave is one call on the stack, of 592 bytes in the compiled
- * archive, and there are at most 101 at a time: no call needs as much as 80,000 bytes (read off the archive, not proved).
- * Give a thread that calls sector, leg, bounds, window costs, tour, init or build 256 KB.
- * In bytes, with 101 waves, beside what memcpy and memset need (tools/stack/frames reads it off the archive):
- *     hanjolum_leg 73968, hanjolum_window_costs 68016, hanjolum_window_tour 67840, hanjolum_bounds 67696,
- *     hanjolum_sector 67600, hanjolum_build 64704, hanjolum_init 50592, hanjolum_flow_new 1080, hanjolum_line 848,
- *     hanjolum_practice_floor 752, hanjolum_walk_bresenham_shallow 592, hanjolum_walk_bresenham_steep 592,
- *     hanjolum_flow_build 480, hanjolum_line_end 56; leg files and the readers of a byte 8
+ * Stack and time.  Every call ends, on all input. Each wave is one call on the stack, of 592 bytes in the compiled archive,
+ * and there are at most 101 at a time: no call needs as much as 80,000 bytes. Give a thread that calls sector, leg, bounds,
+ * window costs, tour, init or build 256 KB.
+ * Below, for each call, its bytes of stack with 101 waves, beside what memcpy and memset need, read off the archive
+ * (tools/stack/frames); and its nanoseconds, the median on practice floors (tools/time/header) on one core of an AMD EPYC that
+ * did nothing else. Neither is proved, and times belong to the machine. Readers of a byte are alike.
+ *     hanjolum_sector, a goal                             67600      4148
+ *     hanjolum_sector, a window                           67600      3013
+ *     hanjolum_arrivals                                      40      4835
+ *     hanjolum_bounds                                     67696      8609
+ *     hanjolum_window_costs, eight windows                68016     15864
+ *     hanjolum_window_tour, eight windows, all orders     67840    336820
+ *     hanjolum_leg, sixteen steps                         73968     51642
+ *     hanjolum_leg_file_write, sixteen steps                  8         5
+ *     hanjolum_leg_file_read, sixteen steps                   8         4
+ *     hanjolum_practice_floor                               752       194
+ *     hanjolum_init, a goal                               50592      1505
+ *     hanjolum_build, a goal                              64704      1686
+ *     hanjolum_flow_new, a goal                            1080       112
+ *     hanjolum_flow_build, a goal                           480       633
+ *     hanjolum_line                                         848        47
+ *     hanjolum_walk_bresenham_shallow                       592        36
+ *     hanjolum_walk_bresenham_steep                         592        36
+ *     hanjolum_line_end                                      56         9
+ *     hanjolum_is_goal                                        8         3
  */
 #ifndef HANJOLUM_H
 #define HANJOLUM_H

@@ -1,10 +1,7 @@
 /*
- * Times every call of the library: for each the median of 101 rounds, a round being some calls over different inputs, in
- * nanoseconds of processor time a call. The inputs are practice floors, the same everywhere; the times belong to the machine,
- * and are for comparing only where nothing else runs on it.
- *
- *     rt staticlib hanjolum
- *     cc -std=c11 -O2 -Iinclude tools/time/time.c target/staticlib/libhanjolum.a -o target/time && target/time
+ * Times every call of the library, in the order of the header: for each the median of 101 rounds, a round being some calls over
+ * different inputs, in nanoseconds of processor time a call. The inputs are practice floors, the same everywhere; the times
+ * belong to the machine, and are for comparing only where nothing else runs on it. tools/time/header builds and runs it.
  */
 #define _POSIX_C_SOURCE 200809L
 #include <stdio.h>
@@ -27,6 +24,8 @@ struct input {
     uint8_t steps[HANJOLUM_STEP * HANJOLUM_STEPS];
     uint8_t file[HANJOLUM_FILE];
     HanjolumIntegrationField started, built;
+    uint8_t fresh[HANJOLUM_CELLS];      /* the built field's first flow bytes */
+    uint8_t planned[HANJOLUM_CELLS];    /* all of them */
 };
 
 static struct input inputs[INPUTS];
@@ -98,6 +97,9 @@ static void make_inputs(void)
         hanjolum_leg_file_write(input->steps, sizeof input->steps, input->file, sizeof input->file);
         input->started = hanjolum_init(input->costs, HANJOLUM_CELLS, input->goal, HANJOLUM_STEP).field;
         input->built = hanjolum_build(input->costs, HANJOLUM_CELLS, input->started).field;
+        hanjolum_flow_new(input->goal, HANJOLUM_STEP, input->built, false, NULL, 0, input->fresh, HANJOLUM_CELLS);
+        memcpy(input->planned, input->fresh, HANJOLUM_CELLS);
+        hanjolum_flow_build(input->built, input->planned, HANJOLUM_CELLS);
     }
 }
 
@@ -109,6 +111,7 @@ static void make_inputs(void)
 
 CALL(sector_goal, hanjolum_sector(COSTS, in->goal, HANJOLUM_STEP, false, NULL, 0, PART).number)
 CALL(sector_window, hanjolum_sector(COSTS, in->window, HANJOLUM_STEP, true, zeros, HANJOLUM_CELLS, PART).number)
+CALL(arrivals, hanjolum_arrivals(in->planned, HANJOLUM_CELLS).number)
 CALL(leg, hanjolum_leg(in->floor, HANJOLUM_FLOOR, in->steps, sizeof in->steps, sheet, HANJOLUM_FLOOR))
 CALL(bounds, hanjolum_bounds(COSTS, in->high, HANJOLUM_CELLS, in->window, HANJOLUM_STEP).number)
 CALL(window_costs, hanjolum_window_costs(COSTS, in->windows, sizeof in->windows).number)
@@ -119,7 +122,7 @@ CALL(practice_floor, hanjolum_practice_floor(i).goal * 0u)
 CALL(init, hanjolum_init(COSTS, in->goal, HANJOLUM_STEP).number)
 CALL(build, hanjolum_build(COSTS, in->started).number)
 CALL(flow_new, hanjolum_flow_new(in->goal, HANJOLUM_STEP, in->built, false, NULL, 0, PART))
-CALL(flow_new_and_build, hanjolum_flow_new(in->goal, HANJOLUM_STEP, in->built, false, NULL, 0, PART) + hanjolum_flow_build(in->built, PART))
+CALL(flow_build, (memcpy(sheet, in->fresh, HANJOLUM_CELLS), hanjolum_flow_build(in->built, PART)))
 CALL(line, hanjolum_line(i % 10, i / 7 % 10, i / 3 % 10, i / 11 % 10).number)
 CALL(walk_shallow, hanjolum_walk_bresenham_shallow(0, i % 10, 9, i / 7 % 10).number)
 CALL(walk_steep, hanjolum_walk_bresenham_steep(i % 10, 0, i / 7 % 10, 9).number)
@@ -129,22 +132,23 @@ CALL(reader, hanjolum_is_goal((uint8_t)i) * 0u)
 static const struct { const char *name; unsigned (*call)(struct input *, unsigned); int times; } CALLS[] = {
     {"hanjolum_sector, a goal", sector_goal, 1},
     {"hanjolum_sector, a window", sector_window, 1},
-    {"hanjolum_leg, sixteen steps", leg, 1},
+    {"hanjolum_arrivals", arrivals, 1},
     {"hanjolum_bounds", bounds, 1},
     {"hanjolum_window_costs, eight windows", window_costs, 1},
     {"hanjolum_window_tour, eight windows, all orders", window_tour, 1},
+    {"hanjolum_leg, sixteen steps", leg, 1},
     {"hanjolum_leg_file_write, sixteen steps", leg_file_write, SMALL},
     {"hanjolum_leg_file_read, sixteen steps", leg_file_read, SMALL},
     {"hanjolum_practice_floor", practice_floor, 1},
     {"hanjolum_init, a goal", init, 1},
-    {"hanjolum_build, a goal's field", build, 1},
-    {"hanjolum_flow_new", flow_new, 1},
-    {"hanjolum_flow_new and hanjolum_flow_build", flow_new_and_build, 1},
+    {"hanjolum_build, a goal", build, 1},
+    {"hanjolum_flow_new, a goal", flow_new, 1},
+    {"hanjolum_flow_build, a goal", flow_build, 1},
     {"hanjolum_line", line, SMALL},
     {"hanjolum_walk_bresenham_shallow", walk_shallow, SMALL},
     {"hanjolum_walk_bresenham_steep", walk_steep, SMALL},
     {"hanjolum_line_end", line_end, SMALL},
-    {"a reader of a byte", reader, SMALL},
+    {"hanjolum_is_goal", reader, SMALL},
 };
 
 static double now(void)
@@ -188,6 +192,6 @@ int main(int count, char **words)
     }
     make_inputs();
     for (size_t i = 0; i < sizeof CALLS / sizeof *CALLS; i++)
-        printf("%-50s %10.0f ns\n", CALLS[i].name, median(CALLS[i].call, CALLS[i].times));
+        printf("%s: %.0f\n", CALLS[i].name, median(CALLS[i].call, CALLS[i].times));
     return fflush(stdout) != 0 || ferror(stdout);
 }
