@@ -14,9 +14,11 @@ enum { SECTORS = 3 };
 
 /* The goal is in sector 9. Sector 10, east of it, is left by its west window; sector 18, south of 10, by its north. */
 static const uint8_t STEPS[SECTORS][HANJOLUM_STEP] = {
-    {9, 44, 0, 0, 0, 0, 0, 0},
-    {10, 0, 1, 30, 60, 3, 0, 0},
-    {18, 0, 1, 3, 6, 0, 0, 0},
+    {[HANJOLUM_STEP_SECTOR] = 9, [HANJOLUM_STEP_GOAL] = 44},
+    {[HANJOLUM_STEP_SECTOR] = 10, [HANJOLUM_STEP_MARK] = HANJOLUM_MARK_WINDOW, [HANJOLUM_STEP_FIRST] = 30, [HANJOLUM_STEP_LAST] = 60,
+     [HANJOLUM_STEP_BOUNDARY] = HANJOLUM_WEST},
+    {[HANJOLUM_STEP_SECTOR] = 18, [HANJOLUM_STEP_MARK] = HANJOLUM_MARK_WINDOW, [HANJOLUM_STEP_FIRST] = 3, [HANJOLUM_STEP_LAST] = 6,
+     [HANJOLUM_STEP_BOUNDARY] = HANJOLUM_NORTH},
 };
 
 /* Their cells, a row a line: '#' a wall, '.' a cost of 1. */
@@ -95,15 +97,15 @@ int main(void)
     for (int i = 0; i < SECTORS; i++)
         for (int cell = 0; cell < HANJOLUM_CELLS; cell++)
             if (DRAWN[i][cell] == '#')
-                floor[STEPS[i][0] * HANJOLUM_CELLS + cell] = HANJOLUM_WALL;
+                floor[STEPS[i][HANJOLUM_STEP_SECTOR] * HANJOLUM_CELLS + cell] = HANJOLUM_WALL;
 
     uint8_t number = hanjolum_leg(floor, sizeof floor, &STEPS[0][0], sizeof STEPS, sheet, sizeof sheet);
-    if (number != 0) {
+    if (number != HANJOLUM_ACCEPTED) {
         fprintf(stderr, "refused with number %d: %s\n", number, hanjolum_refusal_text(number));
         return 1;
     }
     for (int i = 0; i < SECTORS; i++)
-        print_sector(sheet, STEPS[i][0]);
-    print_arrivals(sheet, STEPS[0][0]);
+        print_sector(sheet, STEPS[i][HANJOLUM_STEP_SECTOR]);
+    print_arrivals(sheet, STEPS[0][HANJOLUM_STEP_SECTOR]);
     return 0;
 }

@@ -250,12 +250,12 @@ static void write_legend(FILE *out, int y)
         {"<rect class=\"d\" x=\"-10\" y=\"-10\" width=\"20\" height=\"20\"/><use href=\"#a\" class=\"r\"/>", "never arrives"},
         {"<path class=\"t\" d=\"M-4 0H9\"/><circle class=\"o\" cx=\"-4\" r=\"6\"/>", "the cart and its way"},
         {"<circle class=\"h\" r=\"9\"/><text class=\"l\" y=\"5\">G</text>", "goal"},
-        {"<circle class=\"i\" r=\"3\"/>", "goal in sight, straight on"},
-        {"<rect class=\"p\" x=\"-9\" y=\"-9\" width=\"18\" height=\"18\"/>", "window cell"},
-        {"<rect class=\"q\" x=\"-9\" y=\"-9\" width=\"18\" height=\"18\"/>", "does not count"},
+        {"<circle class=\"i\" r=\"3\"/>", "goal in sight, no arrow needed"},
         {"<rect class=\"w\" x=\"-9\" y=\"-9\" width=\"18\" height=\"18\"/>", "wall"},
         {"<use href=\"#b\" class=\"x\"/>", "not reached"},
         {"<rect class=\"f\" x=\"-9\" y=\"-9\" width=\"18\" height=\"18\"/>", "not in the leg"},
+        {"<rect class=\"p\" x=\"-9\" y=\"-9\" width=\"18\" height=\"18\"/>", "window cell"},
+        {"<rect class=\"q\" x=\"-9\" y=\"-9\" width=\"18\" height=\"18\"/>", "window cell, does not count"},
     };
     for (int i = 0; i < 10; i++)
         fprintf(out, "<g transform=\"translate(%d %d)\">%s<text x=\"17\" y=\"4\" font-size=\"12\">%s</text></g>\n", LEFT + 12 + i % 5 * 160,
