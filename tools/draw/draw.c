@@ -119,7 +119,7 @@ static void read_drawing(struct drawing *drawing, FILE *file)
         if (row == SIDE)
             fail("%s: more than %d rows", drawing->name, SIDE);
         if (length != SIDE)
-            fail("%s: row %d has %ld cells, not %d", drawing->name, row + 1, length, SIDE);
+            fail("%s: row %d has %ld cells, not %d; a whole floor is drawn with --floor", drawing->name, row + 1, length, SIDE);
         for (int column = 0; column < SIDE; column++)
             drawing->costs[row * SIDE + column] = cost_of(drawing, line[column], row, column);
         row += 1;

@@ -27,7 +27,7 @@ enum { LINE = 1024, WORDS = 128, LETTER = 256 };
 static const char *const SIDES[] = {"north", "east", "south", "west"};
 
 /* The words that a porter may put in between. */
-static const char *const FILLERS[] = {"sector", "side", "from", "to", "at", "column", "row", "by"};
+static const char *const FILLERS[] = {"sector", "side", "from", "to", "at", "column", "row", "by", "the"};
 
 /* A drawing as it is read: cells from the north-west of the rectangle, letters not yet costs. */
 struct drawn {
@@ -89,6 +89,14 @@ int64_t number_of(const char *digits, int64_t most)
     return number;
 }
 
+/* Whether a word is another, capitals or not. */
+static int same(const char *word, const char *other)
+{
+    while (*word != '\0' && tolower((unsigned char)*word) == *other)
+        word++, other++;
+    return *word == *other;
+}
+
 /* Takes a line apart at spaces and commas, leaves a porter's small words out, and answers how many words there are. */
 static int words_of(char *line, char **words)
 {
@@ -96,7 +104,7 @@ static int words_of(char *line, char **words)
     for (char *word = strtok(line, " ,\t"); word != NULL && count < WORDS; word = strtok(NULL, " ,\t")) {
         int filler = 0;
         for (size_t i = 0; i < sizeof FILLERS / sizeof *FILLERS; i++)
-            filler |= strcmp(word, FILLERS[i]) == 0;
+            filler |= same(word, FILLERS[i]);
         if (!filler)
             words[count++] = word;
     }
@@ -137,7 +145,7 @@ static void read_place(struct drawn *drawn, char **words, int count, int *said)
 static int side_of(const struct drawn *drawn, const char *word)
 {
     for (int side = 0; side < 4; side++)
-        if (strcmp(word, SIDES[side]) == 0 || (strlen(word) == 1 && tolower((unsigned char)word[0]) == SIDES[side][0]))
+        if (same(word, SIDES[side]) || (strlen(word) == 1 && tolower((unsigned char)word[0]) == SIDES[side][0]))
             return side;
     FAULT(drawn, "'%s' is no side: north, east, south or west", word);
     return 0;
@@ -255,15 +263,15 @@ static void read_words(struct drawn *drawn, char *line)
     int count = words_of(line, words);
     if (count == 0 || isdigit((unsigned char)words[0][0]) || words[0][0] == '#')
         read_numbers(drawn, words, count);
-    else if (strcmp(words[0], "leave") == 0)
+    else if (same(words[0], "leave"))
         read_leave(drawn, words, count);
-    else if (strcmp(words[0], "cost") == 0)
+    else if (same(words[0], "cost"))
         read_cost(drawn, words, count);
-    else if (strcmp(words[0], "goal") == 0)
+    else if (same(words[0], "goal"))
         read_place(drawn, words, count, drawn->said_goal);
-    else if (strcmp(words[0], "cart") == 0)
+    else if (same(words[0], "cart"))
         read_place(drawn, words, count, drawn->said_cart);
-    else if (strcmp(words[0], "corner") == 0 && count == 2)
+    else if (same(words[0], "corner") && count == 2)
         drawn->floor.corner = number_in(drawn, words[1], HANJOLUM_SECTORS - 1, "sector");
     else
         FAULT(drawn, "'%s' begins no line that is understood: corner, cost, leave, goal, cart, or a row of cells", words[0]);

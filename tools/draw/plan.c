@@ -22,6 +22,17 @@ static uint8_t plan_first(struct plan *plan, int count)
     return hanjolum_leg(plan->floor->costs, HANJOLUM_FLOOR, plan->steps, (size_t)count * HANJOLUM_STEP, plan->sheet, HANJOLUM_FLOOR);
 }
 
+/* Why a step is refused, in the words of a drawing, whose leg is said in the order of driving. */
+static const char *refusal_words(uint8_t number)
+{
+    switch (number) {
+    case HANJOLUM_REFUSED_LEG_ORDER: return "the leg is in this sector twice";
+    case HANJOLUM_REFUSED_NOT_ACROSS: return "that side does not lead into the sector where the leg goes on";
+    case HANJOLUM_REFUSED_NO_COUNTING_CELL: return "no cell of its window faces a cell from which the leg goes on";
+    default: return hanjolum_refusal_text(number);
+    }
+}
+
 /* Says which step a leg is refused for: the last of the fewest that are refused with its number. */
 static void refuse(struct plan *plan, uint8_t number)
 {
@@ -30,10 +41,10 @@ static void refuse(struct plan *plan, uint8_t number)
     while (count < plan->count && plan_first(plan, count) != number)
         count += 1;
     if (count == 1)
-        fail("%s: the goal's step is refused with number %d: %s", floor->name, number, hanjolum_refusal_text(number));
+        fail("%s: the goal's step is refused with number %d: %s", floor->name, number, refusal_words(number));
     const struct leave *leave = &floor->leaves[plan->count - count];
     fail("%s, line %d: leaving sector %d is refused with number %d: %s", floor->name, leave->line,
-         leave->step[HANJOLUM_STEP_SECTOR], number, hanjolum_refusal_text(number));
+         leave->step[HANJOLUM_STEP_SECTOR], number, refusal_words(number));
 }
 
 static const uint8_t *step_at(const struct plan *plan, int place)
