@@ -45,6 +45,14 @@ _Noreturn void fail(const char *format, ...)
     exit(1);
 }
 
+const char *byte_words(char byte)
+{
+    static char words[40];
+    int printed = byte >= ' ' && byte <= '~';
+    snprintf(words, sizeof words, printed ? "the byte 0x%02x ('%c')" : "the byte 0x%02x", (unsigned char)byte, byte);
+    return words;
+}
+
 /* The name of the edge that a letter stands for. */
 static const char *edge_of(char side)
 {
@@ -88,8 +96,8 @@ static uint8_t cost_of(struct drawing *drawing, char letter, int row, int column
     if (letter == 'G' || (letter != '\0' && strchr(SIDES, letter) != NULL))
         mark(drawing, letter, row, column);
     else if (letter != '.')
-        fail("%s: row %d, column %d: the byte 0x%02x is none of '#', '.', a digit, 'G', 'N', 'E', 'S', 'W'",
-             drawing->name, row + 1, column + 1, (unsigned char)letter);
+        fail("%s: row %d, column %d: %s is none of '#', '.', a digit, 'G', 'N', 'E', 'S', 'W'", drawing->name, row + 1, column + 1,
+             byte_words(letter));
     return 1;
 }
 

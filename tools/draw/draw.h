@@ -52,6 +52,9 @@ enum look { WALL_CELL, UNPLANNED, UNREACHED, GOAL, IN_SIGHT, ARROW };
 /* Ends the program with a line on standard error. */
 _Noreturn void fail(const char *format, ...);
 
+/* A byte of a drawing in words; it holds until it is called again. */
+const char *byte_words(char byte);
+
 /* The number that digits give, at most `most`; -1 for anything else. */
 int64_t number_of(const char *digits, int64_t most);
 

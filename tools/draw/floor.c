@@ -33,6 +33,7 @@ static const char *const FILLERS[] = {"sector", "side", "from", "to", "at", "col
 struct drawn {
     struct floor floor;
     int line;
+    int corner_said;
     int cells[FLOOR_SIDE][FLOOR_SIDE];   /* a cost, or LETTER plus a small letter */
     int lines[FLOOR_SIDE];               /* where each row stands in the file */
     int letters[128];                    /* the cost of each letter, -1 for none */
@@ -120,6 +121,16 @@ static int number_in(const struct drawn *drawn, const char *word, int most, cons
     return (int)number;
 }
 
+static void read_corner(struct drawn *drawn, char **words, int count)
+{
+    if (count != 2)
+        FAULT(drawn, "say it as: corner 9, the sector at the north-west of the drawing");
+    if (drawn->corner_said)
+        FAULT(drawn, "a second corner");
+    drawn->corner_said = 1;
+    drawn->floor.corner = number_in(drawn, words[1], HANJOLUM_SECTORS - 1, "sector");
+}
+
 static void read_cost(struct drawn *drawn, char **words, int count)
 {
     if (count != 3 || strlen(words[1]) != 1 || !islower((unsigned char)words[1][0]))
@@ -203,7 +214,7 @@ static int cell_of(struct drawn *drawn, char letter, int column)
     else if (letter == 'C')
         mark_place(drawn, drawn->cart, letter, column);
     else if (letter != '.')
-        FAULT(drawn, "cell %d: the byte 0x%02x is none of '#', '.', a digit, a small letter, 'G', 'C'", column + 1, (unsigned char)letter);
+        FAULT(drawn, "cell %d: %s is none of '#', '.', a digit, a small letter, 'G', 'C'", column + 1, byte_words(letter));
     return 1;
 }
 
@@ -271,8 +282,8 @@ static void read_words(struct drawn *drawn, char *line)
         read_place(drawn, words, count, drawn->said_goal);
     else if (same(words[0], "cart"))
         read_place(drawn, words, count, drawn->said_cart);
-    else if (same(words[0], "corner") && count == 2)
-        drawn->floor.corner = number_in(drawn, words[1], HANJOLUM_SECTORS - 1, "sector");
+    else if (same(words[0], "corner"))
+        read_corner(drawn, words, count);
     else
         FAULT(drawn, "'%s' begins no line that is understood: corner, cost, leave, goal, cart, or a row of cells", words[0]);
 }
