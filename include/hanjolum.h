@@ -78,25 +78,25 @@
  * Below, for each call, its bytes of stack with 101 waves, beside what memcpy and memset need, read off the archive
  * (tools/stack/frames); and its nanoseconds, the median on practice floors (tools/time/header) on one core of an AMD EPYC that
  * did nothing else. Neither is proved, and times belong to the machine. Readers of a byte are alike.
- *     hanjolum_sector, a goal                             67600      4148
- *     hanjolum_sector, a window                           67600      3013
- *     hanjolum_arrivals                                      40      4835
- *     hanjolum_bounds                                     67696      8609
- *     hanjolum_window_costs, eight windows                68016     15864
- *     hanjolum_window_tour, eight windows, all orders     67840    336820
- *     hanjolum_leg, sixteen steps                         73968     51642
+ *     hanjolum_sector, a goal                             67600      6056
+ *     hanjolum_sector, a window                           67600      4420
+ *     hanjolum_arrivals                                      40      9380
+ *     hanjolum_bounds                                     67696     10227
+ *     hanjolum_window_costs, eight windows                68016     22604
+ *     hanjolum_window_tour, eight windows, all orders     67840    569286
+ *     hanjolum_leg, sixteen steps                         73968     72443
  *     hanjolum_leg_file_write, sixteen steps                  8         5
  *     hanjolum_leg_file_read, sixteen steps                   8         4
- *     hanjolum_practice_floor                               752       194
- *     hanjolum_init, a goal                               50592      1505
- *     hanjolum_build, a goal                              64704      1686
- *     hanjolum_flow_new, a goal                            1080       112
- *     hanjolum_flow_build, a goal                           480       633
- *     hanjolum_line                                         848        47
+ *     hanjolum_practice_floor                               752       200
+ *     hanjolum_init, a goal                               50592      2264
+ *     hanjolum_build, a goal                              64704      2407
+ *     hanjolum_flow_new, a goal                            1080       254
+ *     hanjolum_flow_build, a goal                           480      1545
+ *     hanjolum_line                                         848        48
  *     hanjolum_walk_bresenham_shallow                       592        36
  *     hanjolum_walk_bresenham_steep                         592        36
- *     hanjolum_line_end                                      56         9
- *     hanjolum_is_goal                                        8         3
+ *     hanjolum_line_end                                      56        10
+ *     hanjolum_is_goal                                        8         4
  */
 #ifndef HANJOLUM_H
 #define HANJOLUM_H

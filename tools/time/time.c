@@ -1,7 +1,8 @@
 /*
- * Times every call of the library, in the order of the header: for each the median of 101 rounds, a round being some calls over
- * different inputs, in nanoseconds of processor time a call. The inputs are practice floors, the same everywhere; the times
- * belong to the machine, and are for comparing only where nothing else runs on it. tools/time/header builds and runs it.
+ * Times every call of the library, in the order of the header: for each the median of 21 rounds, a round being some calls over
+ * different inputs, in nanoseconds of processor time a call. The calls take turns, a round each, so that what disturbs for a
+ * moment disturbs few rounds of any. The inputs are practice floors, the same everywhere; the times belong to the machine, and
+ * are for comparing only where nothing else runs on it. tools/time/header builds it and takes the median of several runs.
  */
 #define _POSIX_C_SOURCE 200809L
 #include <stdio.h>
@@ -11,7 +12,7 @@
 
 #include "hanjolum.h"
 
-enum { INPUTS = 64, ROUNDS = 101, SMALL = 200 };
+enum { INPUTS = 64, ROUNDS = 21, SMALL = 200 };
 
 /* One input of each kind: a sector with a goal, a window, eight windows, a leg of sixteen steps, and what was made of them. */
 struct input {
@@ -62,22 +63,36 @@ static void make_windows(struct input *input)
     }
 }
 
-/* A leg over sectors 0 to 7 and back over 15 to 8, on a floor of practice floors of which all windows are taken. */
+/* The step of a leg's place i, on a practice floor: over sectors 0 to 7, and back over 15 to 8; the goal is cell 0 of sector 0. */
+static void make_leg_step(struct input *input, int i, uint32_t seed)
+{
+    int sector = i < 8 ? i : 23 - i;
+    int side = i < 8 ? HANJOLUM_WEST : i == 8 ? HANJOLUM_NORTH : HANJOLUM_EAST;
+    uint8_t *part = input->floor + sector * HANJOLUM_CELLS;
+    memcpy(part, hanjolum_practice_floor(seed).costs, HANJOLUM_CELLS);
+    if (i > 0)
+        make_window(input->steps + i * HANJOLUM_STEP, part, sector, side);
+    else
+        part[0] = 1;
+}
+
+/* The next seed: practice floors of seeds that lie close are alike, so that seeds leap. */
+static uint32_t leap(uint32_t seed)
+{
+    return seed * 1664525u + 1013904223u;
+}
+
+/* A leg of sixteen steps, each on a practice floor that the leg so far takes; where ten in turn are refused, it begins anew. */
 static uint32_t make_leg(struct input *input, uint32_t seed)
 {
-    uint8_t number;
-    do {
-        for (int sector = 0; sector < HANJOLUM_SECTORS; sector++)
-            memcpy(input->floor + sector * HANJOLUM_CELLS, hanjolum_practice_floor(seed++).costs, HANJOLUM_CELLS);
-        memset(input->steps, 0, HANJOLUM_STEP);
-        input->floor[0] = 1;
-        for (int i = 1; i < HANJOLUM_STEPS; i++) {
-            int sector = i < 8 ? i : 23 - i;
-            int side = i < 8 ? HANJOLUM_WEST : i == 8 ? HANJOLUM_NORTH : HANJOLUM_EAST;
-            make_window(input->steps + i * HANJOLUM_STEP, input->floor + sector * HANJOLUM_CELLS, sector, side);
-        }
-        number = hanjolum_leg(input->floor, HANJOLUM_FLOOR, input->steps, sizeof input->steps, sheet, sizeof sheet);
-    } while (number != HANJOLUM_ACCEPTED);
+    for (int i = 0, tries = 0; i < HANJOLUM_STEPS; tries++) {
+        if (tries == 10)
+            i = tries = 0;
+        make_leg_step(input, i, seed = leap(seed));
+        size_t length = (size_t)(i + 1) * HANJOLUM_STEP;
+        if (hanjolum_leg(input->floor, HANJOLUM_FLOOR, input->steps, length, sheet, HANJOLUM_FLOOR) == HANJOLUM_ACCEPTED)
+            i += 1, tries = -1;
+    }
     return seed;
 }
 
@@ -86,7 +101,7 @@ static void make_inputs(void)
     uint32_t seed = 1;
     for (int i = 0; i < INPUTS; i++) {
         struct input *input = &inputs[i];
-        HanjolumPracticeFloor floor = hanjolum_practice_floor((uint32_t)i);
+        HanjolumPracticeFloor floor = hanjolum_practice_floor(seed = leap(seed));
         memcpy(input->costs, floor.costs, sizeof input->costs);
         for (int cell = 0; cell < HANJOLUM_CELLS; cell++)
             input->high[cell] = floor.costs[cell] == HANJOLUM_WALL ? HANJOLUM_WALL : (uint8_t)(floor.costs[cell] + 3);
@@ -164,34 +179,37 @@ static int by_size(const void *a, const void *b)
     return (left > right) - (left < right);
 }
 
-/* The median of the rounds of a call, each over all inputs. */
-static double median(unsigned (*call)(struct input *, unsigned), int times)
+/* The nanoseconds of one call, in a round of calls over all inputs. */
+static double round_of(unsigned (*call)(struct input *, unsigned), int times)
 {
-    double rounds[ROUNDS];
-    for (int round = 0; round < ROUNDS; round++) {
-        unsigned sum = 0;
-        double begin = now();
-        for (int i = 0; i < INPUTS * times; i++)
-            sum += call(&inputs[i % INPUTS], (unsigned)i);
-        rounds[round] = (now() - begin) / (INPUTS * times);
-        sink = sum;
-        if (sum != 0) {
-            fprintf(stderr, "time: a call is refused\n");
-            exit(1);
-        }
+    unsigned sum = 0;
+    double begin = now();
+    for (int i = 0; i < INPUTS * times; i++)
+        sum += call(&inputs[i % INPUTS], (unsigned)i);
+    double time = (now() - begin) / (INPUTS * times);
+    sink = sum;
+    if (sum != 0) {
+        fprintf(stderr, "time: a call is refused\n");
+        exit(1);
     }
-    qsort(rounds, ROUNDS, sizeof *rounds, by_size);
-    return rounds[ROUNDS / 2];
+    return time;
 }
 
 int main(int count, char **words)
 {
+    enum { ALL = sizeof CALLS / sizeof *CALLS };
+    static double rounds[ALL][ROUNDS];
     if (count != 1) {
         fprintf(stderr, "usage: %s, which takes no words\n", words[0]);
         return 1;
     }
     make_inputs();
-    for (size_t i = 0; i < sizeof CALLS / sizeof *CALLS; i++)
-        printf("%s: %.0f\n", CALLS[i].name, median(CALLS[i].call, CALLS[i].times));
+    for (int round = 0; round < ROUNDS; round++)
+        for (int i = 0; i < ALL; i++)
+            rounds[i][round] = round_of(CALLS[i].call, CALLS[i].times);
+    for (int i = 0; i < ALL; i++) {
+        qsort(rounds[i], ROUNDS, sizeof *rounds[i], by_size);
+        printf("%s: %.0f\n", CALLS[i].name, rounds[i][ROUNDS / 2]);
+    }
     return fflush(stdout) != 0 || ferror(stdout);
 }
