@@ -78,23 +78,23 @@
  * Below, for each call, its bytes of stack with 101 waves, beside what memcpy and memset need, read off the archive
  * (tools/stack/frames); and its nanoseconds, the median on practice floors (tools/time/header) on one core of an AMD EPYC that
  * did nothing else. Neither is proved, and times belong to the machine. Readers of a byte are alike.
- *     hanjolum_sector, a goal                             67600      6056
- *     hanjolum_sector, a window                           67600      4420
- *     hanjolum_arrivals                                      40      9380
- *     hanjolum_bounds                                     67696     10227
- *     hanjolum_window_costs, eight windows                68016     22604
- *     hanjolum_window_tour, eight windows, all orders     67840    569286
- *     hanjolum_leg, sixteen steps                         73968     72443
+ *     hanjolum_sector, a goal                             67600      6173
+ *     hanjolum_sector, a window                           67600      4438
+ *     hanjolum_arrivals                                     144      9454
+ *     hanjolum_bounds                                     67696     10194
+ *     hanjolum_window_costs, eight windows                68016     22600
+ *     hanjolum_window_tour, eight windows, all orders     67840    582763
+ *     hanjolum_leg, sixteen steps                         73968     73007
  *     hanjolum_leg_file_write, sixteen steps                  8         5
  *     hanjolum_leg_file_read, sixteen steps                   8         4
  *     hanjolum_practice_floor                               752       200
- *     hanjolum_init, a goal                               50592      2264
- *     hanjolum_build, a goal                              64704      2407
- *     hanjolum_flow_new, a goal                            1080       254
- *     hanjolum_flow_build, a goal                           480      1545
+ *     hanjolum_init, a goal                               50592      2232
+ *     hanjolum_build, a goal                              64704      2419
+ *     hanjolum_flow_new, a goal                            1088       261
+ *     hanjolum_flow_build, a goal                           480      1584
  *     hanjolum_line                                         848        48
  *     hanjolum_walk_bresenham_shallow                       592        36
- *     hanjolum_walk_bresenham_steep                         592        36
+ *     hanjolum_walk_bresenham_steep                         592        37
  *     hanjolum_line_end                                      56        10
  *     hanjolum_is_goal                                        8         4
  */
