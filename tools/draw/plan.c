@@ -1,6 +1,7 @@
 /*
  * Plans the leg of a drawn floor and follows its arrows. Every byte of the sheet comes from hanjolum_leg, and which arrows of a
- * sector never arrive from hanjolum_arrivals; what is done here is to go from cell to cell by the arrows that the sheet has.
+ * sector never arrive from hanjolum_arrivals; what is done here is to go from cell to cell by the arrows that the sheet has,
+ * which is tested (tools/draw/check) and not proved.
  */
 #include <string.h>
 
