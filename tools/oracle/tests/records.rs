@@ -387,6 +387,41 @@ fn slips_of(word: &str) -> Vec<&'static (Slip, &'static str)> {
     slips
 }
 
+/// The number of a record, and whether a model answers what it says.
+type NumberSo = fn(&Model, &mut Reader) -> (u8, bool);
+
+/// The numbers of a file's records, each once; the model answers what each record says.
+fn numbers_in(name: &str, so: NumberSo) -> Vec<u8> {
+    let mut numbers = Vec::new();
+    each(name, |r| {
+        let (number, agrees) = so(&MODEL, r);
+        assert!(agrees);
+        numbers.push(number);
+    });
+    numbers.sort();
+    numbers.dedup();
+    numbers
+}
+
+/// Each of these slips is shown by a record of the call, one that the model decided or one that the table of refusals did.
+fn show_every(slips: impl IntoIterator<Item = &'static (Slip, &'static str)>, call: &str, so: NumberSo) {
+    let differs = |slip: Slip, record: &[u8]| !so(&Model { slip }, &mut Reader(record)).1;
+    for (slip, text) in slips {
+        let files = ["model", "table"].map(|judge| section(&format!("{call}.{judge}")));
+        let shown = files.iter().any(|file| file.records.iter().any(|record| differs(*slip, record)));
+        assert!(shown, "not shown: {text}");
+    }
+}
+
+/// Lists of so many places each, in the order of their lengths: what stands in them, and zeros beyond.
+fn listed<'a, const N: usize>(r: &mut Reader<'a>, lengths: [usize; N], places: [usize; N]) -> [&'a [u8]; N] {
+    std::array::from_fn(|k| {
+        let (list, beyond) = r.bytes(places[k]).split_at(lengths[k]);
+        assert!(beyond.iter().all(|byte| *byte == 0), "zeros beyond");
+        list
+    })
+}
+
 /// The model alone made these records, so they are also asked to tell it from each wrong one.
 #[test]
 fn leg_files_show_every_slip() {
@@ -427,118 +462,79 @@ fn practice_floors_show_every_slip() {
 /// The number of a record of bounds, and whether a model answers what it says.
 fn bounds_so(model: &Model, r: &mut Reader) -> (u8, bool) {
     let lengths = [(); 3].map(|()| usize::from(r.byte()));
-    let [low, high, step] = [101, 101, 9].map(|places| r.bytes(places));
-    let beyond = |bytes: &[u8], length: usize| bytes[length..].iter().all(|byte| *byte == 0);
-    assert!([low, high, step].iter().zip(lengths).all(|(bytes, length)| beyond(bytes, length)), "zeros beyond");
+    let [low, high, step] = listed(r, lengths, [101, 101, 9]);
     let (number, least, greatest) = (r.byte(), r.cells(), r.cells());
     let sure = std::array::from_fn(|_| r.byte() == 1);
-    let answer = model.bounds(&low[..lengths[0]], &high[..lengths[1]], &step[..lengths[2]]);
+    let answer = model.bounds(low, high, step);
     (number, answer == Bounds { number, least, greatest, sure })
 }
 
 #[test]
 fn bounds() {
     each("bounds.model", |r| assert_eq!(bounds_so(&MODEL, r), (0, true)));
-    let mut numbers = Vec::new();
-    each("bounds.table", |r| {
-        let (number, agrees) = bounds_so(&MODEL, r);
-        assert!(agrees);
-        numbers.push(number);
-    });
-    numbers.sort();
-    numbers.dedup();
-    assert_eq!(numbers, [1, 3, 4, 5, 6, 7, 8, ON_WALL, NO_RANGE]);
+    assert_eq!(numbers_in("bounds.table", bounds_so), [1, 3, 4, 5, 6, 7, 8, ON_WALL, NO_RANGE]);
 }
 
 #[test]
 fn bounds_show_every_slip() {
-    let agrees = |model: &Model, r: &mut Reader| bounds_so(model, r).1;
-    for (slip, text) in slips_of("bounds: ") {
-        let taken = shown(*slip, "bounds.model", agrees);
-        assert!(taken || shown(*slip, "bounds.table", agrees), "not shown: {text}");
-    }
+    show_every(slips_of("bounds: "), "bounds", bounds_so);
 }
 
 /// The number of a record of window costs, and whether a model answers what it says.
 fn windows_so(model: &Model, r: &mut Reader) -> (u8, bool) {
     let lengths = [(); 2].map(|()| usize::from(r.byte()));
-    let [costs, steps] = [101, 136].map(|places| r.bytes(places));
-    let beyond = |bytes: &[u8], length: usize| bytes[length..].iter().all(|byte| *byte == 0);
-    assert!([costs, steps].iter().zip(lengths).all(|(bytes, length)| beyond(bytes, length)), "zeros beyond");
+    let [costs, steps] = listed(r, lengths, [101, 136]);
     let number = r.byte();
     let square = std::array::from_fn(|_| std::array::from_fn(|_| r.word()));
-    let answer = model.window_costs(&costs[..lengths[0]], &steps[..lengths[1]]);
+    let answer = model.window_costs(costs, steps);
     (number, answer == WindowCosts::new(number, square))
 }
 
 #[test]
 fn window_costs() {
     each("window_costs.model", |r| assert_eq!(windows_so(&MODEL, r), (0, true)));
-    let mut numbers = Vec::new();
-    each("window_costs.table", |r| {
-        let (number, agrees) = windows_so(&MODEL, r);
-        assert!(agrees);
-        numbers.push(number);
-    });
-    numbers.sort();
-    numbers.dedup();
-    assert_eq!(numbers, [1, 3, 4, 5, 6, 7, 8, ON_WALL, NOT_2_TO_8, NO_WINDOW_THERE]);
+    assert_eq!(
+        numbers_in("window_costs.table", windows_so),
+        [1, 3, 4, 5, 6, 7, 8, ON_WALL, NOT_2_TO_8, NO_WINDOW_THERE]
+    );
 }
 
 #[test]
 fn window_costs_show_every_slip() {
-    let agrees = |model: &Model, r: &mut Reader| windows_so(model, r).1;
-    for (slip, text) in slips_of("window costs: ") {
-        let taken = shown(*slip, "window_costs.model", agrees);
-        assert!(taken || shown(*slip, "window_costs.table", agrees), "not shown: {text}");
-    }
+    show_every(slips_of("window costs: "), "window_costs", windows_so);
 }
 
 /// The number of a record of a tour, and whether a model answers what it says.
 fn tour_so(model: &Model, r: &mut Reader) -> (u8, bool) {
     let lengths = [(); 2].map(|()| usize::from(r.byte()));
     let limit = r.short() as u16;
-    let [costs, steps] = [101, 136].map(|places| r.bytes(places));
-    let beyond = |bytes: &[u8], length: usize| bytes[length..].iter().all(|byte| *byte == 0);
-    assert!([costs, steps].iter().zip(lengths).all(|(bytes, length)| beyond(bytes, length)), "zeros beyond");
+    let [costs, steps] = listed(r, lengths, [101, 136]);
     let (number, found) = (r.byte(), r.byte() == 1);
     let order = r.bytes(8).try_into().expect("eight bytes");
     let [sum, tried, least] = [(); 3].map(|()| r.word());
-    let answer = model.window_tour(&costs[..lengths[0]], &steps[..lengths[1]], limit);
+    let answer = model.window_tour(costs, steps, limit);
     (number, answer == WindowTour { number, found, order, sum, tried, least })
 }
 
 #[test]
 fn window_tours() {
     each("window_tour.model", |r| assert_eq!(tour_so(&MODEL, r), (0, true)));
-    let mut numbers = Vec::new();
-    each("window_tour.table", |r| {
-        let (number, agrees) = tour_so(&MODEL, r);
-        assert!(agrees);
-        numbers.push(number);
-    });
-    numbers.sort();
-    numbers.dedup();
-    assert_eq!(numbers, [1, 3, 4, 5, 6, 7, 8, ON_WALL, NOT_2_TO_8, NO_WINDOW_THERE]);
+    assert_eq!(numbers_in("window_tour.table", tour_so), [1, 3, 4, 5, 6, 7, 8, ON_WALL, NOT_2_TO_8, NO_WINDOW_THERE]);
 }
 
 /// Those of the numbers are shown by each of the two calls.
 #[test]
 fn window_tours_show_every_slip() {
-    let agrees = |model: &Model, r: &mut Reader| tour_so(model, r).1;
     let numbers = slips_of("window costs: ").into_iter().filter(|(slip, _)| format!("{slip:?}").starts_with("List"));
-    for (slip, text) in slips_of("window tour: ").into_iter().chain(numbers) {
-        let taken = shown(*slip, "window_tour.model", agrees);
-        assert!(taken || shown(*slip, "window_tour.table", agrees), "not shown: {text}");
-    }
+    show_every(slips_of("window tour: ").into_iter().chain(numbers), "window_tour", tour_so);
 }
 
 /// The number of a record of arrivals, and whether a model answers what it says.
 fn arrivals_so(model: &Model, r: &mut Reader) -> (u8, bool) {
-    let (length, sheet) = (usize::from(r.byte()), r.bytes(101));
-    assert!(sheet[length..].iter().all(|byte| *byte == 0), "zeros beyond");
+    let length = usize::from(r.byte());
+    let [sheet] = listed(r, [length], [101]);
     let (number, moves) = (r.byte(), r.bytes(100).try_into().expect("a hundred bytes"));
-    (number, model.arrivals(&sheet[..length]) == Arrivals { number, moves })
+    (number, model.arrivals(sheet) == Arrivals { number, moves })
 }
 
 #[test]
@@ -549,9 +545,5 @@ fn arrivals() {
 
 #[test]
 fn arrivals_show_every_slip() {
-    let agrees = |model: &Model, r: &mut Reader| arrivals_so(model, r).1;
-    for (slip, text) in slips_of("arrivals: ") {
-        let taken = shown(*slip, "arrivals.model", agrees);
-        assert!(taken || shown(*slip, "arrivals.table", agrees), "not shown: {text}");
-    }
+    show_every(slips_of("arrivals: "), "arrivals", arrivals_so);
 }
