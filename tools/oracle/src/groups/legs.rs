@@ -325,7 +325,7 @@ fn close_window(rng: &mut Rng, case: &mut Case, at: usize) {
     let (facing, before) = ((usize::from(step[5]) + 2) % 4, usize::from(case.steps[8 * (at - 2)]) * CELLS);
     let along = |cell: u8| usize::from(if step[5] % 2 == 0 { cell % 10 } else { cell / 10 });
     let (first, last) = (along(step[3]), along(step[4]));
-    let inward = |cell: usize| [cell + 10, cell - 1, cell.wrapping_sub(10), cell + 1][facing];
+    let inward = |cell: usize| [cell + 10, cell.wrapping_sub(1), cell.wrapping_sub(10), cell + 1][facing];
     let around = rng.one_in(2);
     for place in first..=last {
         let cell = edge_cell(facing, place);
