@@ -19,20 +19,31 @@ returns c = let a = c .before .before .before .before .args in
     promised (now (a .costs)) (now (a .step)) _ (c .refused .ensures ∙ costs-refused (now (a .costs)) (now (a .step)) (λ e. omega (arith, c .before .if1 .taken)))
 
 returns-2 : tie.Need-returns-2
-returns-2 c = let a = c .before .before .before .before .before .before .args in
-    promised (now (a .costs)) (now (a .step)) _
-    (c .refused2 .ensures ∙ ap initRefused (c .before .before .step-number-on .ensures) ∙ step-refused (now (a .costs)) (now (a .step)) (c .before .before .before .if1 .left) (λ e. c .before .if2 .taken (c .before .before .step-number-on .ensures ∙ e)))
+returns-2 c =
+    let judged = c .before .before in
+    let hundred = judged .before in
+    let a = hundred .before .before .before .args in
+    let costs = now (a .costs) in
+    let step = now (a .step) in
+    let told = judged .step-number-on .ensures in
+    promised costs step _
+    (c .refused2 .ensures ∙ ap initRefused told ∙ step-refused costs step (hundred .if1 .left) (λ e. c .before .if2 .taken (told ∙ e)))
 
--- the step is good, and its target is held
+-- from where the target is made: where the costs are known to be a hundred, and the call; the step is good, and its target is held
+abbrev hundred : tie.After-as-target → tie.Else1
+hundred c = c .before .before .before .before
+
 abbrev start : tie.After-as-target → tie.Start
-start c = c .before .before .before .before .before .before .before
+start c = hundred c .before .before .before
 
 good : (c : tie.After-as-target) → stepNumberOn (now (start c .args .costs)) (now (start c .args .step)) ≡ 0
 good c = sym (c .before .before .before .step-number-on .ensures) ∙ c .before .before .if2 .left
 
 start-requires : tie.Need-start-requires
 start-requires c κs =
-    (c .before .before .before .before .if1 .left, made-held (now (start c .args .step)) (c .before .new .result) (c .as-target .result) (c .before .new .ensures) (c .as-target .ensures) (accepted-on _ _ (good c)))
+    let made = c .before in
+    let step = now (start c .args .step) in
+    (hundred c .if1 .left, made-held step (made .new .result) (c .as-target .result) (made .new .ensures) (c .as-target .ensures) (accepted-on _ _ (good c)))
 
 returns-3 : tie.Need-returns-3
 returns-3 c =
@@ -42,7 +53,7 @@ returns-3 c =
     let target = made-target step (t .before .new .result) (t .as-target .result) (t .before .new .ensures) (t .as-target .ensures) in
     promised costs step _
     (ap₂ (λ (n : ℕ) (f : IntegrationField). record { number = n; field = f }) (t .before .before .if2 .left) (c .start .ensures ∙ ap (started costs) target)
-    ∙ accepts costs step (t .before .before .before .before .if1 .left) (good t))
+    ∙ accepts costs step (hundred t .if1 .left) (good t))
 
 pub init-spec : {M : Type 1} → statement M
 init-spec = tie.close (tie.spec

@@ -21,17 +21,8 @@ module _ (t : tie.After-from-index2) where
   to-inside : Inside (t .from-index2 .result)
   to-inside = rw (t .from-index2 .ensures) (cell-inside _ (start .pre .1))
 
-is-wall-at-requires : tie.Need-is-wall-at-requires
-is-wall-at-requires c κs = search needs
-
 returns : tie.Need-returns
 returns c = rw (sym (c .before .is-wall-at .ensures) ∙ c .if1 .taken)
-
-from-index-requires : tie.Need-from-index-requires
-from-index-requires c κs = search needs
-
-from-index-requires-2 : tie.Need-from-index-requires-2
-from-index-requires-2 c κs = search needs
 
 mul-in-row : tie.Need-mul-in-row
 mul-in-row c = omega (arith, from-inside (c .before) .row-in)
@@ -57,9 +48,6 @@ mul-in-column-2 c = let t = c .before .before .before .before .before in omega (
 element-copy-out-in-column : tie.Need-element-copy-out-in-column
 element-copy-out-in-column c = let t = c .before .before .before .before .before in omega (arith, to-inside t .row-in, from-inside t .column-in)
 
-passes-wall-requires : tie.Need-passes-wall-requires
-passes-wall-requires c κs = search needs
-
 returns-2 : tie.Need-returns-2
 returns-2 c =
     let t = c .before .before .before .before .before .before .before in
@@ -70,20 +58,7 @@ returns-2 c =
     (c .passes-wall .ensures ∙ sym (passes-at (now (start t .args .cells)) _ _ (from-inside t) (to-inside t)))
 
 pub is-stopped-spec : {M : Type 1} → statement M
-is-stopped-spec =
-    tie.close
-    (tie.spec
-    is-wall-at-requires
-    returns
-    from-index-requires
-    from-index-requires-2
-    mul-in-row
-    add-in-row
-    mul-in-row-2
-    element-copy-out-in-row
-    mul-in-column
-    add-in-column
-    mul-in-column-2
-    element-copy-out-in-column
-    passes-wall-requires
-    returns-2)
+is-stopped-spec = tie.close (tie.spec
+    (λ c κs. search needs) returns (λ c κs. search needs) (λ c κs. search needs) mul-in-row add-in-row
+    mul-in-row-2 element-copy-out-in-row mul-in-column add-in-column mul-in-column-2 element-copy-out-in-column
+    (λ c κs. search needs) returns-2)
