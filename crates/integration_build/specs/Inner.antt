@@ -11,11 +11,16 @@ use Rattle.integration_field.specs.Listed.{Indexes}
 abbrev pub Differs : List ℕ → List ℕ → ℕ → Type 0
 Differs before cells x = getD cells x 0 ≡ getD before x 0 → ⊥
 
--- The first `found` places of `next` hold the cells whose word is no longer the one before the wave, each once; and values have only fallen.
+-- a value is no lower than that which some cell held before the wave
+abbrev pub NotBelowAll : List ℕ → ℕ → Type 0
+NotBelowAll before v = (y : ℕ) × (y < 100) × (low (getD before y 0) ≤ v)
+
+-- The first `found` places of `next` hold the cells whose word is no longer the one before the wave, each once; each of them has a lower value than
+-- before, which some cell offered.
 pub record ChangedCells (before cells next : List ℕ) (found : ℕ) : Type 0 where
   pub full : length cells ≡ 100
-  pub indexes : Indexes 101 next found
+  pub indexes : Indexes 100 next found
   pub once : (i j : ℕ) → i < j → j < found → getD next i 0 ≡ getD next j 0 → ⊥
   pub differs : (i : ℕ) → i < found → Differs before cells (getD next i 0)
   pub listed : (x : ℕ) → Differs before cells x → (i : ℕ) × (i < found) × (getD next i 0 ≡ x)
-  pub fallen : (x : ℕ) → low (getD cells x 0) ≤ low (getD before x 0)
+  pub lowered : (x : ℕ) → Differs before cells x → (low (getD cells x 0) < low (getD before x 0)) × NotBelowAll before (low (getD cells x 0))

@@ -10,7 +10,6 @@ ghost use Prim.Native.Nat.{_<_, _≤_};
 ghost use lib.Dec.{eqb};
 ghost use lib.ListN.{length, take};
 ghost use Rattle.utilities.specs.Compass.{orthogonal};
-ghost use Rattle.utilities.specs.Padded.{padded as paddedTo};
 ghost use Rattle.fields.specs.Cell.{cellAt, stepped};
 ghost use Rattle.integration_field.specs.Listed.{listOf, padded, Indexes};
 ghost use Rattle.integration_field.specs.Wave.{isWritten, relaxed, offered, offeredAround, offeredBy};
@@ -19,7 +18,7 @@ ghost use Rattle.integration_field.specs.Answer.{answerOf, allCells, Accepted, 
 ghost use Rattle.integration_field.specs.Promise.{LeastWalks, Counted, EarliestCorners};
 ghost use Rattle.least_walks.specs.Promise.{BuildsStarted};
 ghost use Rattle.integration_build.specs.Wavefront.{Settles};
-ghost use Rattle.integration_build.specs.Inner.{ChangedCells};
+ghost use Rattle.integration_build.specs.Inner.{NotBelowAll, ChangedCells};
 
 // A cost byte as a number of a cell's width.
 fn wide(cost: u8) -> u32
@@ -52,18 +51,18 @@ fn is_first(written: bool, old: u32, before: u32) -> bool
 fn relax(
     cells: &mut [u32; 100],
     before: &[u32; 100],
-    next: &mut [u8; 101],
+    next: &mut [u8; 100],
     found: usize,
     index: usize,
     sum: u32,
 ) -> usize
-    requires { ⌜ (index < 100) × ChangedCells (now before) (now cells) (now next) found ⌝ }
+    requires { ⌜ (index < 100) × (NotBelowAll (now before) sum × ChangedCells (now before) (now cells) (now next) found) ⌝ }
     ensures offers { λ _. ⌜ now (cells .exit) ≡ relaxed sum index (now (cells .entry)) ⌝ }
     ensures changes { λ r. ⌜ ChangedCells (now (before .entry)) (now (cells .exit)) (now (next .exit)) r ⌝ }
 {
     let old = cells[index];
     let written = is_written(old, sum);
-    // Both are written in either case, and the list has a place more than there are cells: no branch depends on a cell.
+    // Both are written in either case: no branch depends on a cell. There is a place, since a cell with the least value never changes in a wave.
     let new = if written { sum } else { old };
     cells[index] = new;
     next[found] = index as u8;
@@ -76,13 +75,14 @@ fn offer_towards(
     cells: &mut [u32; 100],
     costs: &[u8],
     before: &[u32; 100],
-    next: &mut [u8; 101],
+    next: &mut [u8; 100],
     found: usize,
     value: u32,
     cell: usize,
     dir: CompassDir,
 ) -> usize
-    requires { ⌜ (value < 65536) × ((length (now costs) ≡ 100) × ChangedCells (now before) (now cells) (now next) found) ⌝ }
+    requires { ⌜ (value < 65536) × ((length (now costs) ≡ 100)
+        × (NotBelowAll (now before) value × ChangedCells (now before) (now cells) (now next) found)) ⌝ }
     ensures offers { λ _. ⌜ now (cells .exit) ≡ offered (now (costs .entry)) value (stepped (cellAt cell) dir) (now (cells .entry)) ⌝ }
     ensures changes { λ r. ⌜ ChangedCells (now (before .entry)) (now (cells .exit)) (now (next .exit)) r ⌝ }
 {
@@ -101,12 +101,13 @@ fn offer_around(
     cells: &mut [u32; 100],
     costs: &[u8],
     before: &[u32; 100],
-    next: &mut [u8; 101],
+    next: &mut [u8; 100],
     found: usize,
     value: u32,
     cell: usize,
 ) -> usize
-    requires { ⌜ (value < 65536) × ((length (now costs) ≡ 100) × ChangedCells (now before) (now cells) (now next) found) ⌝ }
+    requires { ⌜ (value < 65536) × ((length (now costs) ≡ 100)
+        × (NotBelowAll (now before) value × ChangedCells (now before) (now cells) (now next) found)) ⌝ }
     ensures offers { λ _. ⌜ now (cells .exit) ≡ offeredAround (now (costs .entry)) value (cellAt cell) orthogonal (now (cells .entry)) ⌝ }
     ensures changes { λ r. ⌜ ChangedCells (now (before .entry)) (now (cells .exit)) (now (next .exit)) r ⌝ }
 {
@@ -125,11 +126,11 @@ fn offer_wave(
     cells: &mut [u32; 100],
     costs: &[u8],
     before: &[u32; 100],
-    wave: &[u8; 101],
+    wave: &[u8; 100],
     count: usize,
-    next: &mut [u8; 101],
+    next: &mut [u8; 100],
 ) -> usize
-    requires { ⌜ (Indexes 101 (now wave) count) × ((length (now costs) ≡ 100) × ChangedCells (now before) (now cells) (now next) 0) ⌝ }
+    requires { ⌜ (Indexes 100 (now wave) count) × ((length (now costs) ≡ 100) × ChangedCells (now before) (now cells) (now next) 0) ⌝ }
     ensures offers { λ _. ⌜ now (cells .exit) ≡ offeredBy (now (costs .entry)) (now (before .entry)) (take count (now (wave .entry))) (now (cells .entry)) ⌝ }
     ensures changes { λ r. ⌜ ChangedCells (now (before .entry)) (now (cells .exit)) (now (next .exit)) r ⌝ }
 {
@@ -144,16 +145,15 @@ fn offer_wave(
     found
 }
 
-// The waves from a wavefront on, one a call, at most `fuel` of them. Answers how many changed a cell. A wavefront has 100 places for cells and
-// one behind them, which is written and never read.
+// The waves from a wavefront on, one a call, at most `fuel` of them. Answers how many changed a cell.
 fn propagate_integrated_wavefront(
     costs: &[u8],
     cells: &mut [u32; 100],
-    wavefront: &[u8; 101],
+    wavefront: &[u8; 100],
     count: usize,
     fuel: usize,
 ) -> usize
-    requires { ⌜ (Indexes 101 (now wavefront) count) × ((count ≤ 100) × ((length (now cells) ≡ 100) × (length (now costs) ≡ 100))) ⌝ }
+    requires { ⌜ (Indexes 100 (now wavefront) count) × ((length (now cells) ≡ 100) × (length (now costs) ≡ 100)) ⌝ }
     ensures { λ r. ⌜ Settles (now (costs .entry)) (now (cells .entry)) (take count (now (wavefront .entry))) fuel (now (cells .exit)) r ⌝ }
 {
     if fuel == 0 {
@@ -164,7 +164,7 @@ fn propagate_integrated_wavefront(
         return 0;
     }
     let before = *cells;
-    let mut next: [u8; 101] = [0; 101];
+    let mut next: [u8; 100] = [0; 100];
     let some = offer_wave(cells, costs, &before, wavefront, count, &mut next);
     if some == 0 {
         return 0;
@@ -201,11 +201,11 @@ fn clear_beyond(corners: &mut [usize; 100], count: usize)
 }
 
 // Wave 0: the listed corners, and 0 in the places beyond them.
-fn corner_wave(corners: &[usize; 100], count: usize) -> [u8; 101]
+fn corner_wave(corners: &[usize; 100], count: usize) -> [u8; 100]
     requires { ⌜ Indexes 100 (now corners) count ⌝ }
-    ensures { λ r. ⌜ r ≡ paddedTo 101 0 (take count (now (corners .entry))) ⌝ }
+    ensures { λ r. ⌜ r ≡ padded (take count (now (corners .entry))) ⌝ }
 {
-    let mut cells: [u8; 101] = [0; 101];
+    let mut cells: [u8; 100] = [0; 100];
     let mut i = 0;
     while i < count {
         cells[i] = corners[i] as u8;

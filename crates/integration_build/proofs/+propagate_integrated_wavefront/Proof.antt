@@ -6,7 +6,7 @@ use native.Mathlib.Nat.{pos-of-ne-zero}
 use native.Mathlib.Omega.{arith}
 use borrow.Fn.Kinds.{In}
 use borrow.Fn.PlainCycle.{Measures, is, falls, and}
-use Rattle.integration_build.proofs.Changed.{changed-none, changed-few}
+use Rattle.integration_build.proofs.Changed.{changed-none}
 use Rattle.integration_build.proofs.Recursion.{settles-none, settles-empty, settles-still, settles-more}
 use Rattle.integration_build.proofs.propagate_integrated_wavefront.Reads as go
 use Rattle.integration_build.proofs.propagate_integrated_wavefront.Kinds as kinds
@@ -52,13 +52,13 @@ module _ (t : ℕ) where
   offer-wave-requires c κs =
       let some = c .before .before .before in
       let p = some .before .before .before .before .pre .1 in
-      (p .0, (p .1 .1 .1, changed-none _ _ (p .1 .1 .0) refl))
+      (p .0, (p .1 .1, changed-none _ _ (p .1 .0) refl))
 
   returns-3 : lts.Need-returns-3 (calls t) (at t) go.Post
   returns-3 c =
       let m = c .before in
       let made = m .offer-wave .ensures in
-      settles-still _ _ _ _ _ _ (start m .pre .1 .1 .1 .0) (made .0) (made .1) _ (c .if3 .taken)
+      settles-still _ _ _ _ _ _ (start m .pre .1 .1 .0) (made .0) (made .1) _ (c .if3 .taken)
 
   sub-fuel : lts.Need-sub-propagate-integrated-wavefront (calls t) (at t) go.Post
   sub-fuel c = some-fuel (c .before .before .before)
@@ -69,7 +69,7 @@ module _ (t : ℕ) where
       let p = start m .pre in
       let found = m .offer-wave .ensures .1 in
       let less : start m .args .fuel - 1 < t = omega (arith, p .0, some-fuel m) in
-      (less, (found .indexes, (changed-few found, (found .full, p .1 .1 .1 .1))))
+      (less, (found .indexes, (found .full, p .1 .1 .1)))
 
   add-waves : lts.Need-add-result (calls t) (at t) go.Post
   add-waves c =
@@ -81,7 +81,7 @@ module _ (t : ℕ) where
       let more = c .before .before .before in
       let m = more .before in
       let made = m .offer-wave .ensures in
-      settles-more _ _ _ _ _ _ (start m .pre .1 .1 .1 .0) (made .0) (made .1) _ _ _ (fuelled m .if1 .left) (more .if3 .left)
+      settles-more _ _ _ _ _ _ (start m .pre .1 .1 .0) (made .0) (made .1) _ _ _ (fuelled m .if1 .left) (more .if3 .left)
       (c .propagate-integrated-wavefront .ensures)
 
 pub +propagate-integrated-wavefront-spec : {M : Type 1} → statement M

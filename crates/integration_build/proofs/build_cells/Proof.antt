@@ -41,8 +41,8 @@ waves-requires c κs =
     let w = c .before .before in
     let s = start w in
     let f = s .args .t2 in (
-      corners-indexes (now (s .args .costs)) f (long s) (s .pre) 101 (omega arith) _ (w .corner-wave .ensures) (f .count) (omega arith),
-      (s .pre .count-in, (full s, s .pre .costs-hundred)),
+      corners-indexes (now (s .args .costs)) f (long s) (s .pre) 100 (omega arith) _ (w .corner-wave .ensures) (f .count) (omega arith),
+      (full s, s .pre .costs-hundred),
     )
 
 returns : tie.Need-returns
@@ -50,7 +50,7 @@ returns c =
     let w = c .before .before .before in
     let s = start w in
     ap (λ (b : Built). b .cells)
-    (built-cells (now (s .args .costs)) (s .args .t2) (long s) (s .pre) 101 (omega arith) _ (w .corner-wave .ensures) (full s)
+    (built-cells (now (s .args .costs)) (s .args .t2) (long s) (s .pre) 100 (omega arith) _ (w .corner-wave .ensures) (full s)
     (c .propagate-integrated-wavefront .ensures) (omega arith))
 
 pub build-cells-spec : {M : Type 1} → statement M

@@ -7,8 +7,7 @@ use native.Mathlib.Omega.{arith}
 use lib.ListN.{length}
 use denote.Ref.{now}
 use borrow.Author.Needs.{needs}
-use Rattle.utilities.specs.Padded.{padded as paddedTo}
-use Rattle.integration_field.specs.Listed.{listOf}
+use Rattle.integration_field.specs.Listed.{padded, listOf}
 use Rattle.integration_field.specs.Build.{Built, build}
 use Rattle.integration_field.specs.Position.{positions}
 use Rattle.integration_build.proofs.Recursion.{listed, corners-indexes, built-cells, built-is}
@@ -32,19 +31,19 @@ corner-wave-requires c κs =
     corners-indexes (now (s .args .costs)) (s .args .given) (long s) (s .pre) 100 (omega arith) _ (m .clear-beyond .ensures) _ (omega arith)
 
 -- the first wave is the list as well
-wave : (c : tie.After-corner-wave) → let s = start (c .before .before .before) in c .corner-wave .result ≡ paddedTo 101 0 (listOf (s .args .given))
+wave : (c : tie.After-corner-wave) → let s = start (c .before .before .before) in c .corner-wave .result ≡ padded (listOf (s .args .given))
 wave c =
     let m = c .before .before .before in
     let s = start m in
     let same = listed (now (s .args .costs)) (s .args .given) (long s) (s .pre) 100 (omega arith) _ (m .clear-beyond .ensures) in
-    c .corner-wave .ensures ∙ ap (paddedTo 101 0) same
+    c .corner-wave .ensures ∙ ap padded same
 
 propagate-integrated-wavefront-requires : tie.Need-propagate-integrated-wavefront-requires
 propagate-integrated-wavefront-requires c κs =
     let w = c .before .before in
     let s = start (w .before .before .before) in
-    let cells = corners-indexes (now (s .args .costs)) (s .args .given) (long s) (s .pre) 101 (omega arith) _ (wave w) (s .args .given .count) (omega arith) in
-    (cells, (s .pre .count-in, (full s, s .pre .costs-hundred)))
+    let cells = corners-indexes (now (s .args .costs)) (s .args .given) (long s) (s .pre) 100 (omega arith) _ (wave w) (s .args .given .count) (omega arith) in
+    (cells, (full s, s .pre .costs-hundred))
 
 corner-positions-requires : tie.Need-corner-positions-requires
 corner-positions-requires c κs =
@@ -56,7 +55,7 @@ corner-positions-requires c κs =
     let f = s .args .given in
     let e = m .clear-beyond .ensures in
     let same = listed costs f (long s) (s .pre) 100 (omega arith) _ e in
-    let left = built-cells costs f (long s) (s .pre) 101 (omega arith) _ (wave w) (full s) (p .propagate-integrated-wavefront .ensures) (omega arith) in (
+    let left = built-cells costs f (long s) (s .pre) 100 (omega arith) _ (wave w) (full s) (p .propagate-integrated-wavefront .ensures) (omega arith) in (
       s .pre .costs-hundred,
       (
         full s,
@@ -77,7 +76,7 @@ returns c =
     let f = s .args .given in
     let e = m .clear-beyond .ensures in
     let same = listed costs f (long s) (s .pre) 100 (omega arith) _ e in
-    let left = built-cells costs f (long s) (s .pre) 101 (omega arith) _ (wave w) (full s) (p .propagate-integrated-wavefront .ensures) (omega arith) in
+    let left = built-cells costs f (long s) (s .pre) 100 (omega arith) _ (wave w) (full s) (p .propagate-integrated-wavefront .ensures) (omega arith) in
     built-is costs f (long s) (s .pre) _ e left
     (c .corner-positions .ensures ∙ ap (positions costs (f .field)) same)
 

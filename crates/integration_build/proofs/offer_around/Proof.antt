@@ -25,19 +25,19 @@ offer-towards-requires-2 : tie.Need-offer-towards-requires-2
 offer-towards-requires-2 c κs =
     let n = c .before .before in
     let p = start n .pre in
-    (p .0, (p .1 .0, n .offer-towards .ensures .1))
+    (p .0, (p .1 .0, (p .1 .1 .0, n .offer-towards .ensures .1)))
 
 offer-towards-requires-3 : tie.Need-offer-towards-requires-3
 offer-towards-requires-3 c κs =
     let e = c .before .before in
     let p = start (north e) .pre in
-    (p .0, (p .1 .0, e .offer-towards2 .ensures .1))
+    (p .0, (p .1 .0, (p .1 .1 .0, e .offer-towards2 .ensures .1)))
 
 offer-towards-requires-4 : tie.Need-offer-towards-requires-4
 offer-towards-requires-4 c κs =
     let s = c .before .before in
     let p = start (north (east s)) .pre in
-    (p .0, (p .1 .0, s .offer-towards3 .ensures .1))
+    (p .0, (p .1 .0, (p .1 .1 .0, s .offer-towards3 .ensures .1)))
 
 returns : tie.Need-returns
 unfolding offeredAround

@@ -22,7 +22,7 @@ returns c =
     let a = s .args in (
       ap (λ (t : Stepped). offered (now (a .costs)) (a .value) t (now (a .cells)))
           (sym (step-told _ _ (step .before .from-index .ensures) (step .get-in-compass-direction .ensures .0) (c .enum-told .given .1))),
-      s .pre .1 .1,
+      s .pre .1 .1 .1,
     )
 
 -- the call, and where its step arrives
@@ -44,7 +44,10 @@ shared-slice-read-wide : tie.Need-shared-slice-read-wide
 shared-slice-read-wide c = omega (arith, index (c .before) .1, start (c .before .before) .pre .1 .0)
 
 relax-requires : tie.Need-relax-requires
-relax-requires c κs = let found = c .before .before .before .before in (index found .1, start (found .before) .pre .1 .1)
+relax-requires c κs =
+    let found = c .before .before .before .before in
+    let p = start (found .before) .pre .1 .1 in
+    (index found .1, ((p .0 .0, p .0 .1, omega (arith, p .0 .2)), p .1))
 
 returns-2 : tie.Need-returns-2
 returns-2 c =

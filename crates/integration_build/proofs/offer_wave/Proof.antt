@@ -12,7 +12,7 @@ use Rattle.utilities.specs.Compass.{orthogonal}
 use Rattle.fields.specs.Cell.{cellAt}
 use Rattle.integration_field.specs.Word.{low}
 use Rattle.integration_field.specs.Wave.{offeredAround, offeredBy}
-use Rattle.integration_build.specs.Inner.{ChangedCells}
+use Rattle.integration_build.specs.Inner.{NotBelowAll, ChangedCells}
 use Rattle.integration_build.proofs.Loops.{wave-step, wave-end}
 use Rattle.integration_build.proofs.offer_wave.Statement.{statement}
 use Rattle.integration_build.proofs.offer_wave.Tie as tie
@@ -48,8 +48,12 @@ element-copy-out-low-bits c = cell-in c
 
 offer-around-requires : tie.Need-offer-around-requires Inv-loop μ-loop
 offer-around-requires c κs =
-    let t = turn (c .before .before .before .before) in
-    (omega (arith, c .before .before .low-bits .ensures), (t .before .before .before .pre .1 .0, t .before .loop .inv .2))
+    let found = c .before .before .before .before in
+    let t = turn found in
+    let value = c .before .before .low-bits in
+    let told : NotBelowAll (t .before .before .before .args .before .now) (value .result) =
+    (found .index-of .result, cell-in found, omega (arith, value .ensures)) in
+    (omega (arith, value .ensures), (t .before .before .before .pre .1 .0, (told, t .before .loop .inv .2)))
 
 add-i : tie.Need-add-i Inv-loop μ-loop
 add-i c = search needs

@@ -18,8 +18,8 @@ use Rattle.integration_build.proofs.relax.Tie as tie
 abbrev start : tie.After-is-written → tie.Start
 start c = c .before .before
 
-few : (c : tie.After-is-written) → start c .args .found ≤ 100
-few c = changed-few (start c .pre .1)
+few : (c : tie.After-is-written) → start c .args .found ≤ 99
+few c = changed-few (start c .pre .1 .1)
 
 element-write-next : tie.Need-element-write-next
 element-write-next c = omega (arith, few (c .before))
@@ -42,7 +42,7 @@ returns c =
     let new = c .before .before in
     let s = start (new .before) in
     let e = written new in
-    (e, changed-offer (s .pre .1) (s .args .index) (s .pre .0) (s .args .sum) e (new .before .is-written .ensures) (c .is-first .ensures))
+    (e, changed-offer (s .pre .1 .1) (s .args .index) (s .pre .0) (s .args .sum) (s .pre .1 .0) e (new .before .is-written .ensures) (c .is-first .ensures))
 
 pub relax-spec : {M : Type 1} → statement M
 relax-spec = tie.close (tie.spec
