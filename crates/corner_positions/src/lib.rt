@@ -97,7 +97,7 @@ fn place_towards(
     let Stepped::Cell(neighbour) = from.get_in_compass_direction(dir) else {
         return queued;
     };
-    let index = neighbour.as_1d_index();
+    let index = neighbour.index_beside(cell, dir);
     place_at(entered, queue, queued, value, index)
 }
 

@@ -7,6 +7,7 @@
 --     steps-out                     else it leaves the sector
 --     summed-in, summed-out         a step worked out by two sums and their range
 --     step-told                     where a step from an index arrives, by what its calls answer
+--     index-arrived                 the index of where it arrives, by the index that it was made from
 --     step-back                     a step is undone by the opposite step
 --     by-sums, undone, promised     what is promised of a step
 --     pointless                     Zero leads nowhere
@@ -14,7 +15,7 @@
 use mathlib.Core.Path.{_≡_, refl, sym, subst, ap, _∙_}
 use mathlib.Core.Bool.{Bool, true, false, _&&_, and-eq-true-iff, false≢true}
 use mathlib.Core.Logic.{_⊎_, inl, inr}
-use Prim.Native.Nat.{ℕ, _+_, _-_, _<_, _≤_, _/_, _%_, min}
+use Prim.Native.Nat.{ℕ, _+_, _-_, _*_, _<_, _≤_, _/_, _%_, min}
 use native.Mathlib.Omega.{arith}
 use borrow.Author.Tests.{lt-ltb, le-leb, ltb-true}
 use lib.Dec.{ltb}
@@ -140,6 +141,11 @@ module _ (c : FieldCell) (d : CompassDir) where
 -- where a step from an index arrives
 pub step-told : (from : ℕ) (d : CompassDir) {c : FieldCell} {t u : Stepped} → c ≡ cellAt from → t ≡ stepped c d → t ≡ u → stepped (cellAt from) d ≡ u
 step-told from d e f g = ap (λ (x : FieldCell). stepped x d) (sym e) ∙ sym f ∙ g
+
+-- the index of where it arrives: ten apart for a row, one for a column
+pub index-arrived : (from : ℕ) (d : CompassDir) (n : FieldCell) → Arrives (cellAt from) d n
+    → indexOf n + 11 ≡ from + differences d .row * 10 + differences d .column
+index-arrived from d n a = omega (arith, a .column-at, a .row-at, index-of-cell from)
 
 -- a step that stays inside is undone by the opposite step
 pub step-back : (c : FieldCell) (d : CompassDir) (n : FieldCell) → Inside c → stepped c d ≡ Cell n → stepped n (opposite d) ≡ Cell c

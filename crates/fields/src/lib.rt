@@ -2,8 +2,8 @@
 use utilities::CompassDir;
 ghost use mathlib.Core.Path.{_≡_};
 ghost use Prim.Native.Nat.{min};
-ghost use Rattle.fields.specs.Cell.{inside, cellAt, indexOr, cellIn, stepped};
-ghost use Rattle.fields.specs.Steps.{BySums, Undone};
+ghost use Rattle.fields.specs.Cell.{inside, indexOf, cellAt, indexOr, cellIn, stepped};
+ghost use Rattle.fields.specs.Steps.{Arrives, BySums, Undone};
 ghost use Rattle.fields.specs.Inner.{farOut};
 
 // ID of a cell within a field.
@@ -100,6 +100,16 @@ impl FieldCell {
             });
         }
         Stepped::Outside
+    }
+
+    // The index of the cell that a step arrived at, by the index that it was made from: a row is ten apart, a column one. It takes no division,
+    // so that whatever waits for the index does not wait for one.
+    pub fn index_beside(self, index: usize, dir: CompassDir) -> usize
+        requires { ⌜ Arrives (cellAt index) dir self ⌝ }
+        ensures { λ r. ⌜ r ≡ indexOf self ⌝ }
+    {
+        let apart = dir.differences();
+        index + apart.row * 10 + apart.column - 11
     }
 }
 

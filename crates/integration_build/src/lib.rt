@@ -90,7 +90,7 @@ fn offer_towards(
     let Stepped::Cell(neighbour) = from.get_in_compass_direction(dir) else {
         return found;
     };
-    let index = neighbour.as_1d_index();
+    let index = neighbour.index_beside(cell, dir);
     let cost = wide(costs[index]);
     let sum = value + cost;
     relax(cells, before, next, found, index, sum)

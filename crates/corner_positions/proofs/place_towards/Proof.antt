@@ -2,11 +2,13 @@
 -- Assumes nothing.
 use mathlib.Core.Path.{_≡_}
 use Prim.Native.Nat.{_<_}
+use native.Mathlib.Omega.{arith}
 use borrow.Author.Needs.{needs}
 use Rattle.fields.specs.declared.FieldCell.{FieldCell}
 use Rattle.fields.specs.declared.Stepped.the-variants.{Cell}
 use Rattle.fields.specs.Cell.{stepped, cellAt, indexOf}
-use Rattle.fields.proofs.Steps.{stepped-cell, step-told, index-told}
+use Rattle.fields.specs.Steps.{Arrives}
+use Rattle.fields.proofs.Steps.{stepped-cell, step-told, index-below}
 use Rattle.corner_positions.proofs.place_towards.Statement.{statement}
 use Rattle.corner_positions.proofs.place_towards.Tie as tie
 
@@ -27,8 +29,11 @@ arrives c =
     let step = c .before .before .before in
     step-told _ _ (step .before .from-index .ensures) (step .get-in-compass-direction .ensures .0) (c .before .neighbour .given .1)
 
-index : (c : tie.After-as-1d-index) → let i = c .as-1d-index .result in (i ≡ indexOf (neighbour (c .before))) × (i < 100)
-index c = index-told (stepped-cell _ _ _ (arrives (c .before)) .within) (c .as-1d-index .ensures)
+inside : (c : tie.After-known-told) → Arrives (cellAt (start c .args .cell)) (start c .args .dir) (neighbour c)
+inside c = stepped-cell _ _ _ (arrives c)
+
+index : (c : tie.After-index-beside) → let i = c .index-beside .result in (i ≡ indexOf (neighbour (c .before))) × (i < 100)
+index c = let e = c .index-beside .ensures in (e, omega (arith, e, index-below _ (inside (c .before) .within)))
 
 place-at-requires : tie.Need-place-at-requires
 place-at-requires c κs =
@@ -44,5 +49,5 @@ pub place-towards-spec : {M : Type 1} → statement M
 place-towards-spec = tie.close (tie.spec
     (λ c κs. search needs) (λ c κs. search needs) (λ c. search needs) (λ c. search needs)
     returns
-    (λ c κs. search needs)
+    (λ c κs. inside c)
     place-at-requires returns-2)

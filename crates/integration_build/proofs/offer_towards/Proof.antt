@@ -10,7 +10,8 @@ use Rattle.fields.specs.declared.FieldCell.{FieldCell}
 use Rattle.fields.specs.declared.Stepped.{Stepped}
 use Rattle.fields.specs.declared.Stepped.the-variants.{Cell}
 use Rattle.fields.specs.Cell.{stepped, cellAt, indexOf}
-use Rattle.fields.proofs.Steps.{stepped-cell, step-told, index-told}
+use Rattle.fields.specs.Steps.{Arrives}
+use Rattle.fields.proofs.Steps.{stepped-cell, step-told, index-below}
 use Rattle.integration_field.specs.Wave.{relaxed, offered}
 use Rattle.integration_build.proofs.offer_towards.Statement.{statement}
 use Rattle.integration_build.proofs.offer_towards.Tie as tie
@@ -37,8 +38,11 @@ arrives c =
     let step = c .before .before .before in
     step-told _ _ (step .before .from-index .ensures) (step .get-in-compass-direction .ensures .0) (c .before .neighbour .given .1)
 
-index : (c : tie.After-as-1d-index) → let i = c .as-1d-index .result in (i ≡ indexOf (neighbour (c .before))) × (i < 100)
-index c = index-told (stepped-cell _ _ _ (arrives (c .before)) .within) (c .as-1d-index .ensures)
+inside : (c : tie.After-known-told) → Arrives (cellAt (start c .args .cell)) (start c .args .dir) (neighbour c)
+inside c = stepped-cell _ _ _ (arrives c)
+
+index : (c : tie.After-index-beside) → let i = c .index-beside .result in (i ≡ indexOf (neighbour (c .before))) × (i < 100)
+index c = let e = c .index-beside .ensures in (e, omega (arith, e, index-below _ (inside (c .before) .within)))
 
 shared-slice-read-wide : tie.Need-shared-slice-read-wide
 shared-slice-read-wide c = omega (arith, index (c .before) .1, start (c .before .before) .pre .1 .0)
@@ -54,7 +58,7 @@ returns-2 c =
     let found = c .before .before .before .before .before in
     let a = start (found .before) .args in (
       c .relax .ensures .0
-          ∙ ap (λ (w : ℕ). relaxed (a .value + w) (found .as-1d-index .result) (now (a .cells))) (c .before .before .before .wide .ensures .0)
+          ∙ ap (λ (w : ℕ). relaxed (a .value + w) (found .index-beside .result) (now (a .cells))) (c .before .before .before .wide .ensures .0)
           ∙ ap (λ (i : ℕ). relaxed (a .value + getD (now (a .costs)) i 0) i (now (a .cells))) (index found .0)
           ∙ sym (ap (λ (s : Stepped). offered (now (a .costs)) (a .value) s (now (a .cells))) (arrives (found .before))),
       c .relax .ensures .1,
@@ -64,7 +68,7 @@ pub offer-towards-spec : {M : Type 1} → statement M
 offer-towards-spec = tie.close (tie.spec
     (λ c κs. search needs) (λ c κs. search needs) (λ c. search needs) (λ c. search needs)
     returns
-    (λ c κs. search needs)
+    (λ c κs. inside c)
     shared-slice-read-wide
     (λ c κs. search needs) (λ c. search needs)
     relax-requires returns-2)

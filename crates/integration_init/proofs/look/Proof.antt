@@ -2,10 +2,12 @@
 -- Assumes nothing.
 use mathlib.Core.Path.{_≡_}
 use Prim.Native.Nat.{_<_}
+use native.Mathlib.Omega.{arith}
 use borrow.Author.Needs.{needs}
 use Rattle.fields.specs.declared.Stepped.the-variants.{Cell, Outside}
 use Rattle.fields.specs.Cell.{stepped, cellAt, indexOf}
-use Rattle.fields.proofs.Steps.{stepped-cell, step-told, index-told}
+use Rattle.fields.specs.Steps.{Arrives}
+use Rattle.fields.proofs.Steps.{stepped-cell, step-told, index-below}
 use Rattle.integration_init.proofs.look.Statement.{statement}
 use Rattle.integration_init.proofs.look.Tie as tie
 
@@ -16,7 +18,7 @@ start c = c .before .before
 abbrev step : tie.After-known-told → tie.After-get-in-compass-direction
 step c = c .before .before .before
 
-abbrev known : tie.After-as-1d-index → tie.After-known-told
+abbrev known : tie.After-index-beside → tie.After-known-told
 known c = c .before
 
 returns : tie.Need-returns
@@ -32,8 +34,11 @@ arrives c =
     let taken = step c in
     step-told _ _ (taken .before .from-index .ensures) (taken .get-in-compass-direction .ensures .0) (c .before .neighbour .given .1)
 
-index : (c : tie.After-as-1d-index) → let i = c .as-1d-index .result in (i ≡ indexOf (known c .before .neighbour .given .0 .0)) × (i < 100)
-index c = index-told (stepped-cell _ _ _ (arrives (known c)) .within) (c .as-1d-index .ensures)
+inside : (c : tie.After-known-told) → let a = start (step c) .args in Arrives (cellAt (a .from)) (a .dir) (c .before .neighbour .given .0 .0)
+inside c = stepped-cell _ _ _ (arrives c)
+
+index : (c : tie.After-index-beside) → let i = c .index-beside .result in (i ≡ indexOf (known c .before .neighbour .given .0 .0)) × (i < 100)
+index c = let e = c .index-beside .ensures in (e, omega (arith, e, index-below _ (inside (known c) .within)))
 
 look-at-requires : tie.Need-look-at-requires
 look-at-requires c κs =
@@ -50,5 +55,5 @@ pub look-spec : {M : Type 1} → statement M
 look-spec = tie.close (tie.spec
     (λ c κs. search needs) (λ c κs. search needs) (λ c. search needs) (λ c. search needs)
     returns
-    (λ c κs. search needs)
+    (λ c κs. inside c)
     look-at-requires returns-2)
