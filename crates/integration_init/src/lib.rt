@@ -15,7 +15,7 @@ use route::WindowCells;
 use started_field::InitAnswer;
 use utilities::CompassDir;
 ghost use mathlib.Core.Path.{_≡_};
-ghost use mathlib.Core.Bool.{not, _||_};
+ghost use mathlib.Core.Bool.{_||_};
 ghost use mathlib.Core.List.{List, [], map};
 ghost use Prim.Native.Nat.{ℕ, suc, _+_, _<_, _≤_};
 ghost use lib.ListN.{length, take};
@@ -214,15 +214,15 @@ fn meet_wall(
     )
 }
 
-// Whether a neighbour comes into sight: its word has neither BLOCKED nor GOAL nor IMPASSABLE nor LOS, which one mask tells.
-fn comes_into_sight(cost: u32) -> bool
-    ensures { λ r. ⌜ r ≡ not ((isBlocked cost || isGoal cost) || (isImpassable cost || isLos cost)) ⌝ }
+// Whether a look leaves a cell as it is: its word has BLOCKED, GOAL or LOS, which one mask tells.
+fn is_left_alone(cost: u32) -> bool
+    ensures { λ r. ⌜ r ≡ ((isBlocked cost || isGoal cost) || isLos cost) ⌝ }
 {
-    cost & (INT_BITS_WAVE_BLOCKED | INT_BITS_GOAL | INT_BITS_IMPASSABLE | INT_BITS_LOS) == 0
+    cost & (INT_BITS_WAVE_BLOCKED | INT_BITS_GOAL | INT_BITS_LOS) != 0
 }
 
-// Looks at neighbour n of cell `from`: it comes into sight and is queued, or is a wall and met, or is left as it is. Whether it comes into
-// sight is asked first, with one test; the others are for the rest.
+// Looks at neighbour n of cell `from`: it is left as it is, or is a wall and met, or comes into sight and is queued. Most looks find a cell that
+// is in sight already, and no cell in sight is a wall: so that is asked first, with one test.
 fn look_at(
     cells: &mut [u32; 100],
     corners: &mut [usize; 100],
@@ -242,26 +242,19 @@ fn look_at(
     let listed = counts.corners;
     let queued = counts.queued;
     let cost = cells[n];
-    if comes_into_sight(cost) {
-        cells[n] = wavefront_cost + INT_BITS_LOS;
-        queue[queued] = n as u8;
-        return Counts {
-            corners: listed,
-            queued: queued + 1,
-        };
-    }
-    if integration_bits::is_blocked(cost) {
-        return counts;
-    }
-    if integration_bits::is_goal(cost) {
+    if is_left_alone(cost) {
         return counts;
     }
     if integration_bits::is_impassable(cost) {
         let corners = meet_wall(cells, corners, listed, from, n, dir, goal, wavefront_cost);
         return Counts { corners, queued };
     }
-    // It is in sight already.
-    counts
+    cells[n] = wavefront_cost + INT_BITS_LOS;
+    queue[queued] = n as u8;
+    Counts {
+        corners: listed,
+        queued: queued + 1,
+    }
 }
 
 // Looks at the neighbour of cell `from` in one direction, where there is one.

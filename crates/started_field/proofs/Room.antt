@@ -58,6 +58,11 @@ module _ (s : Sight) (r : Room s) where
   still : (f : ℕ → Bool) (n v m : ℕ) → n < 100 → f v ≡ true → f (getD (s .cells) m 0) ≡ true → f (getD (set (s .cells) n v) m 0) ≡ true
   still f n v m h t u = at-set (λ x. f x ≡ true) (s .cells) n v m (omega (arith, r .full)) (λ q. t) (λ q. u)
 
+  -- no cell in sight is a wall, where a word that is no wall's is written
+  open-still : (n v : ℕ) → n < 100 → isImpassable v ≡ false
+      → (m : ℕ) → m < 100 → isLos (getD (set (s .cells) n v) m 0) ≡ true → isImpassable (getD (set (s .cells) n v) m 0) ≡ false
+  open-still n v h f m k = at-set (λ x. isLos x ≡ true → isImpassable x ≡ false) (s .cells) n v m (omega (arith, r .full)) (λ q t. f) (λ q. r .seen-open m k)
+
   pub room-listed : (value n : ℕ) → n < 100 → value < 0x10000 → isBlocked (getD (s .cells) n 0) ≡ false → Room (listed value n s)
   room-listed value n h v e =
       let w = cornerWord value in
@@ -72,6 +77,7 @@ module _ (s : Sight) (r : Room s) where
         queued-in = r .queued-in;
         queued-known = λ i k. still isKnown n w _ h (known-corner value v) (r .queued-known i k);
         queued-once = r .queued-once;
+        seen-open = open-still n w h (corner-flags value v .impassable-is);
       }
 
   pub room-seen : (wave n : ℕ) → n < 100 → wave < 0x10000 → isLos (getD (s .cells) n 0) ≡ false → isBlocked (getD (s .cells) n 0) ≡ false
@@ -83,13 +89,15 @@ module _ (s : Sight) (r : Room s) where
       record {
         full = length-set (s .cells) n w ∙ r .full;
         corner-in = r .corner-in;
-        corner-blocked = λ i k. at-set (λ x. isBlocked x ≡ true) (s .cells) n w _ (omega (arith, r .full)) (λ q. absurd (apart isBlocked n b _ (r .corner-blocked i k) q)) (λ q. r .corner-blocked i k);
+        corner-blocked = λ i k. at-set (λ x. isBlocked x ≡ true) (s .cells) n w _ (omega (arith, r .full))
+            (λ q. absurd (apart isBlocked n b _ (r .corner-blocked i k) q)) (λ q. r .corner-blocked i k);
         corner-once = r .corner-once;
         queued-in = each-more (s .queue) n (λ m. m < 100) (r .queued-in) h;
         queued-known = each-more (s .queue) n (λ m. isKnown (getD (set (s .cells) n w) m 0) ≡ true)
             (λ i k. still isKnown n w _ h (known-seen wave v) (r .queued-known i k))
             (at-set (λ x. isKnown x ≡ true) (s .cells) n w n (omega (arith, r .full)) (λ q. known-seen wave v) (λ q. absurd (q refl)));
         queued-once = once-more (s .queue) n (r .queued-once) (λ i k. apart isKnown n e _ (r .queued-known i k));
+        seen-open = open-still n w h (seen-flags wave v .impassable-is);
       }
 
 -- a wave begins with an empty queue
@@ -102,6 +110,7 @@ room-begins s r = record {
   queued-in = λ i h. absurd (omega arith);
   queued-known = λ i h. absurd (omega arith);
   queued-once = λ i j h k. absurd (omega arith);
+  seen-open = r .seen-open;
 }
 
 -- walls stay, where a word that is no wall is written over a word that is none

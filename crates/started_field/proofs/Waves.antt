@@ -17,7 +17,7 @@ use Rattle.utilities.specs.declared.CompassDir.{CompassDir}
 use Rattle.fields.specs.declared.FieldCell.{FieldCell}
 use Rattle.fields.specs.declared.Stepped.the-variants.{Cell}
 use Rattle.fields.specs.Cell.{cellAt, indexOf, stepped}
-use Rattle.integration_field.specs.Word.{isGoal, isBlocked, isImpassable}
+use Rattle.integration_field.specs.Word.{isLos, isGoal, isBlocked, isImpassable}
 use Rattle.integration_field.specs.Diagonal.{wallAt}
 use Rattle.started_field.specs.Sight.{walls, withGoal, Sight, begun, waveLooked, sightAfter}
 use Rattle.started_field.specs.Lines.{Lines}
@@ -90,6 +90,7 @@ module _ (goal : ℕ) (goal-in : goal < 100) (costs : List ℕ) (hundred : lengt
       queued-in = λ i h. absurd (omega arith);
       queued-known = λ i h. absurd (omega arith);
       queued-once = λ i j h k. absurd (omega arith);
+      seen-open = λ i h t. absurd (true≢false (sym t ∙ fails costs _ _ isLos refl refl refl i _ (before i h)));
     };
     same = λ n. refl;
     at-goal = start-goal;
