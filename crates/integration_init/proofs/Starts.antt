@@ -1,7 +1,7 @@
 -- What sight starts with.
 --     wall-step, wall-end            walls, cell by cell
 --     portal-step .. portal-put      a window's cells, marked and listed one after another
---     goal-before .. goal-wavefront  the goal and the first wave
+--     goal-sight .. goal-wavefront   the goal and the first wave
 -- Assumes nothing.
 use mathlib.Core.Path.{_≡_, refl, sym, ap, ap₂, _∙_}
 use mathlib.Core.List.{List, [], _∷_, _++_}
@@ -13,15 +13,15 @@ use lib.Seq.{slice, slice-cons, slice-empty, take-suc, take-suc-set, take-all, l
 use Rattle.route.specs.declared.WindowCells.{WindowCells}
 use Rattle.route.specs.Inner.{heldCells, WindowHeld}
 use Rattle.route.proofs.Targets.{held-length}
-use Rattle.integration_field.specs.declared.IntegrationField.{IntegrationField}
-use Rattle.integration_field.specs.Listed.{padded, Indexes, withCorners}
+use Rattle.integration_field.specs.Listed.{padded, Indexes, noPositions}
 use Rattle.integration_field.proofs.Lists.{padded-push}
-use Rattle.started_field.specs.Sight.{Sight, wallOr, walls, withPortals, withGoal, begun, waveLooked, sightAfter}
+use Rattle.started_field.specs.Sight.{wallOr, walls, withPortals, withGoal, sightAfter}
+use Rattle.started_field.specs.Started.{startedAt}
 use Rattle.started_field.specs.CornerLine.{cornerLine}
 use Rattle.started_field.proofs.Before.{walls-length}
 use Rattle.started_field.proofs.Lines.{corner-lines}
 use Rattle.started_field.proofs.Waves.{sight-room}
-use Rattle.integration_init.specs.Stages.{windowPut, goalPut, BeforeSight}
+use Rattle.integration_init.specs.Held.{sightOf, Ready}
 
 module _ (costs cells : List ℕ) (hundred : length costs ≡ 100) (full : length cells ≡ 100) where
   pub wall-step : (i x : ℕ) → i < 100 → x ≡ wallOr (getD costs i 0) → take i cells ≡ take i (walls costs) → take (i + 1) (set cells i x) ≡ take (i + 1) (walls costs)
@@ -59,38 +59,28 @@ module _ (held : WindowCells) (w : WindowHeld held) where
       ∙ padded-push (take i window) (getD window i 0) (omega (arith, w .count-in))
       ∙ ap padded (sym (take-suc window i 0 (omega (arith, w .full, w .count-in))) ∙ ap (λ (k : ℕ). take k window) (sym (add-one i)))
 
-  pub portal-put : (f : IntegrationField) (cells corners places : List ℕ) → cells ≡ withPortals (heldCells held) (f .field)
-      → corners ≡ padded (heldCells held) → places ≡ f .positions
-      → record { field = cells; «los_corners» = corners; count = count; positions = places } ≡ windowPut (heldCells held) f
-  portal-put f cells corners places e g h =
+  pub portal-put : (costs cells corners places : List ℕ) → cells ≡ withPortals (heldCells held) (walls costs)
+      → corners ≡ padded (heldCells held) → places ≡ noPositions
+      → record { field = cells; «los_corners» = corners; count = count; positions = places } ≡ startedAt costs (heldCells held)
+  unfolding startedAt
+  portal-put costs cells corners places e g h =
       let l = heldCells held in
       ap₂ (λ (x y : List ℕ). record { field = x; «los_corners» = y; count = count; positions = places }) e g
-      ∙ ap₂ (λ (n : ℕ) (z : List ℕ). record { field = withPortals l (f .field); «los_corners» = padded l; count = n; positions = z })
+      ∙ ap₂ (λ (n : ℕ) (z : List ℕ). record { field = withPortals l (walls costs); «los_corners» = padded l; count = n; positions = z })
       (sym (held-length held w)) h
 
-set-twice : (l : List ℕ) (i x : ℕ) → set (set l i x) i x ≡ set l i x
-set-twice [] i x = refl
-set-twice (y ∷ l) zero x = refl
-set-twice (y ∷ l) (suc i) x = ap (λ (r : List ℕ). y ∷ r) (set-twice l i x)
-
-module _ (costs : List ℕ) (hundred : length costs ≡ 100) (goal : ℕ) (inside : goal < 100) where
-  pub goal-before : BeforeSight goal (goalPut goal (withCorners (walls costs) []))
+-- the walls with the goal in them, no corner, and the goal as the first wave
+module _ (costs cells : List ℕ) (e : cells ≡ walls costs) (goal : ℕ) where
+  pub goal-sight : sightOf (set cells goal 0x20000) (replicate 100 0) 0 (goal ∷ []) ≡ sightAfter (cornerLine goal) (walls costs) goal 0
   unfolding sightAfter withGoal
-  goal-before = record {
-    goal-in = inside;
-    goal-put = sym (set-twice (walls costs) goal 0x20000);
-    ready = record {
-      room = sight-room goal inside costs hundred (cornerLine goal) (corner-lines goal) 0;
-      held = record { cells-held = refl; corners-held = refl; count-held = refl };
-    };
-  }
+  goal-sight = ap (λ (l : List ℕ). record { cells = set l goal 0x20000; corners = []; queue = goal ∷ [] }) e
 
--- the goal is marked once or twice: sight is the same
-pub goal-sight : (costs : List ℕ) (goal k : ℕ)
-    → sightAfter (cornerLine goal) (withGoal goal (walls costs)) goal k ≡ sightAfter (cornerLine goal) (walls costs) goal k
-unfolding sightAfter withGoal
-goal-sight costs goal zero = ap (λ (l : List ℕ). record { cells = l; corners = []; queue = goal ∷ [] }) (set-twice (walls costs) goal 0x20000)
-goal-sight costs goal (suc k) = ap (λ (s : Sight). waveLooked (cornerLine goal) (suc k) (s .queue) (begun s)) (goal-sight costs goal k)
+  pub goal-ready : length costs ≡ 100 → goal < 100 → Ready (set cells goal 0x20000) (replicate 100 0) 0
+  unfolding sightAfter withGoal
+  goal-ready hundred inside = rw e record {
+    room = sight-room goal inside costs hundred (cornerLine goal) (corner-lines goal) 0;
+    held = record { cells-held = refl; corners-held = refl; count-held = refl };
+  }
 
 pub goal-wavefront : (goal : ℕ) → goal < 100 → Indexes 100 (set (replicate 100 0) 0 goal) 1
 goal-wavefront goal inside = record { full = refl; count-in = omega arith; cells-in = first }

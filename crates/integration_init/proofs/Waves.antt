@@ -16,12 +16,10 @@ use Rattle.utilities.specs.declared.CompassDir.{CompassDir}
 use Rattle.utilities.specs.declared.CompassDir.the-variants.{Zero}
 use Rattle.utilities.specs.Compass.{orthogonal, sideOf}
 use Rattle.fields.specs.Cell.{cellAt, stepped}
-use Rattle.integration_field.specs.declared.IntegrationField.{IntegrationField}
-use Rattle.integration_field.specs.Listed.{Indexes}
+use Rattle.integration_field.specs.Listed.{Indexes, noPositions, withCorners}
 use Rattle.started_field.specs.Sight.{Sight, begun, looked, lookedAround, waveLooked, sightAfter}
 use Rattle.started_field.proofs.Room.{room-queued}
 use Rattle.integration_init.specs.Held.{sightOf, Holds, Ready, ReadyAll}
-use Rattle.integration_init.specs.Stages.{refilled}
 
 pub wave-next : (line : ℕ → List ℕ) (cells : List ℕ) (goal k wave : ℕ) (s : Sight) → wave ≡ suc k → s ≡ sightAfter line cells goal k
     → waveLooked line wave (s .queue) (begun s) ≡ sightAfter line cells goal (suc k)
@@ -36,11 +34,11 @@ held-as {s} {cells} {corners} {count} queue r e =
 pub held-same : {s t : Sight} {cells corners : List ℕ} {count : ℕ} → Holds s cells corners count → s ≡ t → Holds t cells corners count
 held-same {cells = cells} {corners = corners} {count = count} h e = subst (λ (u : Sight). Holds u cells corners count) e h
 
-pub held-field : {s : Sight} {cells corners : List ℕ} {count : ℕ} (f : IntegrationField) → Holds s cells corners count
-    → record { field = cells; «los_corners» = corners; count = count; positions = f .positions } ≡ refilled (s .cells) (s .corners) f
-held-field {s} {cells} {corners} {count} f h =
-    ap (λ (x : List ℕ). record { field = x; «los_corners» = corners; count = count; positions = f .positions }) (h .cells-held)
-    ∙ ap₂ (λ (x : List ℕ) (n : ℕ). record { field = s .cells; «los_corners» = x; count = n; positions = f .positions }) (h .corners-held) (h .count-held)
+pub held-field : {s : Sight} {cells corners : List ℕ} {count : ℕ} → Holds s cells corners count
+    → record { field = cells; «los_corners» = corners; count = count; positions = noPositions } ≡ withCorners (s .cells) (s .corners)
+held-field {s} {cells} {corners} {count} h =
+    ap (λ (x : List ℕ). record { field = x; «los_corners» = corners; count = count; positions = noPositions }) (h .cells-held)
+    ∙ ap₂ (λ (x : List ℕ) (n : ℕ). record { field = s .cells; «los_corners» = x; count = n; positions = noPositions }) (h .corners-held) (h .count-held)
 
 pub held-wavefront : {cells corners : List ℕ} {count : ℕ} {queue : List ℕ} {queued : ℕ} → ReadyAll cells corners count queue queued → Indexes 100 queue queued
 held-wavefront {cells} {corners} {count} {queue} {queued} h = record {

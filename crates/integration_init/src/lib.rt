@@ -21,7 +21,7 @@ ghost use Prim.Native.Nat.{ℕ, suc, _+_, _<_, _≤_};
 ghost use lib.ListN.{length, take};
 ghost use Rattle.utilities.specs.Compass.{orthogonal};
 ghost use Rattle.fields.specs.Cell.{cellAt, indexOf, stepped};
-ghost use Rattle.integration_field.specs.Listed.{padded, Indexes, withCorners};
+ghost use Rattle.integration_field.specs.Listed.{Indexes};
 ghost use Rattle.route.specs.Target.{targetOf};
 ghost use Rattle.integration_field.specs.Word.{isLos, isGoal, isBlocked, isImpassable};
 ghost use Rattle.integration_field.specs.Diagonal.{wallAt};
@@ -32,7 +32,6 @@ ghost use Rattle.started_field.specs.Sight.{wallOr, walls, marked, stopped, lin
 ghost use Rattle.started_field.specs.Sight.{neighbourLooked, looked, lookedAround, waveLooked, sightAfter};
 ghost use Rattle.least_walks.specs.Promise.{OnceBuilt};
 ghost use Rattle.integration_init.specs.Held.{sightOf, Holds, Ready, Applied, AppliedAll, HoldsAll, ReadyAll, InWave, Drawn};
-ghost use Rattle.integration_init.specs.Stages.{windowPut, goalPut, BeforeSight, sightPut};
 
 // How many corners are listed, and how many cells the wave has queued.
 struct Counts {
@@ -427,10 +426,10 @@ fn mark_walls(costs: &[u8], cells: &mut [u32; 100])
     }
 }
 
-// The record as it is made: cells as their costs give them, no corner listed, no cell with a position.
-fn walled(costs: &[u8]) -> IntegrationField
-    requires { ⌜ length (now costs) ≡ 100 ⌝ }
-    ensures { λ r. ⌜ r ≡ withCorners (walls (now (costs .entry))) [] ⌝ }
+// The field that starts at window cells, which need not lie side by side: they are marked as portals and listed as corners in order.
+pub fn start_at(costs: &[u8], window: WindowCells) -> IntegrationField
+    requires { ⌜ (length (now costs) ≡ 100) × (WindowHeld window) ⌝ }
+    ensures { λ r. ⌜ r ≡ startedAt (now (costs .entry)) (heldCells window) ⌝ }
 {
     let mut field = IntegrationField {
         field: [65535; 100],
@@ -439,20 +438,10 @@ fn walled(costs: &[u8]) -> IntegrationField
         positions: [255; 100],
     };
     mark_walls(costs, &mut field.field);
-    field
-}
-
-// Marks the cells of a window as portals, and lists them as corners in order.
-fn with_window(given: IntegrationField, window: WindowCells) -> IntegrationField
-    requires { ⌜ (WindowHeld window) × (given .«los_corners» ≡ padded []) ⌝ }
-    ensures { λ r. ⌜ r ≡ windowPut (heldCells window) given ⌝ }
-{
-    let mut field = given;
-    let listed = window.cells;
     let count = window.count;
     let mut i = 0;
     while i < count {
-        let n = listed[i];
+        let n = window.cells[i];
         field.field[n] = INT_BITS_PORTAL;
         field.los_corners[i] = n;
         i += 1;
@@ -461,29 +450,26 @@ fn with_window(given: IntegrationField, window: WindowCells) -> IntegrationField
     field
 }
 
-// Marks the goal.
-fn with_goal(given: IntegrationField, goal: usize) -> IntegrationField
-    requires { ⌜ goal < 100 ⌝ }
-    ensures { λ r. ⌜ r ≡ goalPut goal given ⌝ }
+// The field that starts from a goal, with the sight of it. Cells and corners are lent to the waves of sight; of a record only one array can be
+// lent at a time, so the cells are put into it at the end.
+fn start_from(costs: &[u8], goal: usize) -> IntegrationField
+    requires { ⌜ (length (now costs) ≡ 100) × (goal < 100) ⌝ }
+    ensures { λ r. ⌜ r ≡ startedFrom (now (costs .entry)) goal ⌝ }
 {
-    let mut field = given;
-    field.field[goal] = INT_BITS_GOAL;
-    field
-}
-
-// Spreads the sight of a goal. Cells and corners are lent to its waves; of a record only one array can be lent at a time, so the corners are
-// taken out and put back.
-fn with_sight(given: IntegrationField, goal: usize) -> IntegrationField
-    requires { ⌜ BeforeSight goal given ⌝ }
-    ensures { λ r. ⌜ r ≡ sightPut goal given ⌝ }
-{
-    let mut field = given;
-    let mut corners = field.los_corners;
+    let mut field = IntegrationField {
+        field: [0; 100],
+        los_corners: [0; 100],
+        count: 0,
+        positions: [255; 100],
+    };
+    let mut cells: [u32; 100] = [65535; 100];
+    mark_walls(costs, &mut cells);
+    cells[goal] = INT_BITS_GOAL;
     let mut wavefront: [u8; 100] = [0; 100];
     wavefront[0] = goal as u8;
-    let count = propagate_los(
-        &mut field.field,
-        &mut corners,
+    field.count = propagate_los(
+        &mut cells,
+        &mut field.los_corners,
         0,
         &wavefront,
         1,
@@ -491,27 +477,8 @@ fn with_sight(given: IntegrationField, goal: usize) -> IntegrationField
         1,
         100,
     );
-    field.los_corners = corners;
-    field.count = count;
+    field.field = cells;
     field
-}
-
-// The field that starts at window cells, which need not lie side by side.
-pub fn start_at(costs: &[u8], window: WindowCells) -> IntegrationField
-    requires { ⌜ (length (now costs) ≡ 100) × (WindowHeld window) ⌝ }
-    ensures { λ r. ⌜ r ≡ startedAt (now (costs .entry)) (heldCells window) ⌝ }
-{
-    let field = walled(costs);
-    with_window(field, window)
-}
-
-// The field that starts from a goal, with the sight of it.
-fn start_from(costs: &[u8], goal: usize) -> IntegrationField
-    requires { ⌜ (length (now costs) ≡ 100) × (goal < 100) ⌝ }
-    ensures { λ r. ⌜ r ≡ startedFrom (now (costs .entry)) goal ⌝ }
-{
-    let field = with_goal(walled(costs), goal);
-    with_sight(field, goal)
 }
 
 // The field that a target starts.

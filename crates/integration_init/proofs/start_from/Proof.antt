@@ -1,35 +1,40 @@
--- `integration_init::start_from` meets its contract: walls, then the goal, then sight from it.
+-- `integration_init::start_from` meets its contract: walls, then the goal, then sight from it. The waves of sight hold what the definition says,
+-- and the record holds it.
 -- Assumes nothing.
-use mathlib.Core.Path.{_≡_, sym, ap, subst, _∙_}
-use mathlib.Core.List.{[]}
+use mathlib.Core.Path.{refl}
+use native.Mathlib.Omega.{arith}
 use borrow.Author.Needs.{needs}
 use denote.Ref.{now}
-use Rattle.integration_field.specs.declared.IntegrationField.{IntegrationField}
-use Rattle.integration_field.specs.Listed.{withCorners}
-use Rattle.started_field.specs.Sight.{Sight, walls}
+use Rattle.started_field.specs.Sight.{walls}
 use Rattle.started_field.specs.Started.{sightFrom, startedFrom}
-use Rattle.integration_init.specs.Stages.{goalPut, BeforeSight, sightPut}
-use Rattle.integration_init.proofs.Starts.{goal-before, goal-sight}
+use Rattle.integration_init.proofs.Starts.{goal-sight, goal-ready, goal-wavefront}
+use Rattle.integration_init.proofs.Waves.{held-field}
 use Rattle.integration_init.proofs.start_from.Statement.{statement}
 use Rattle.integration_init.proofs.start_from.Tie as tie
 
--- the record with its walls and its goal
-told : (c : tie.After-with-goal) → let a = c .before .before .before .args in c .with-goal .result ≡ goalPut (a .goal) (withCorners (walls (now (a .costs))) [])
-told c = c .with-goal .ensures ∙ ap (goalPut (c .before .before .before .args .goal)) (c .before .walled .ensures)
+-- from where the first wave is made: where the walls are marked, and what the function is given
+abbrev marked : tie.After-wavefront → tie.After-mark-walls
+marked m = m .before .before .before
 
-with-sight-requires : tie.Need-with-sight-requires
-with-sight-requires c κs =
-    let s = c .before .before .before in
-    let a = s .args in
-    subst (BeforeSight (a .goal)) (sym (told c)) (goal-before (now (a .costs)) (s .pre .0) (a .goal) (s .pre .1))
+abbrev start : tie.After-wavefront → tie.Start
+start m = marked m .before .before .before
+
+propagate-los-requires : tie.Need-propagate-los-requires
+propagate-los-requires c κs =
+    let s = start c in
+    let goal = s .args .goal in (
+      goal-ready (now (s .args .costs)) _ (marked c .mark-walls .ensures) goal (s .pre .0) (s .pre .1),
+      (goal-wavefront goal (s .pre .1), (s .pre .1, omega arith)),
+    )
 
 returns : tie.Need-returns
 unfolding startedFrom sightFrom
 returns c =
-    let a = c .before .before .before .before .args in
-    c .with-sight .ensures
-    ∙ ap (sightPut (a .goal)) (told (c .before))
-    ∙ ap (λ (s : Sight). withCorners (s .cells) (s .corners)) (goal-sight (now (a .costs)) (a .goal) 100)
+    let m = c .before in
+    let costs = now (start m .args .costs) in
+    held-field (c .propagate-los .ensures (walls costs) 0 refl (goal-sight costs _ (marked m .mark-walls .ensures) (start m .args .goal)))
 
 pub start-from-spec : {M : Type 1} → statement M
-start-from-spec = tie.close (tie.spec (λ c κs. search needs) (λ c κs. search needs) with-sight-requires returns)
+start-from-spec = tie.close (tie.spec
+    (λ c κs. search needs) (λ c. search needs) (λ c. search needs) (λ c. search needs) (λ c. search needs)
+    propagate-los-requires returns)
