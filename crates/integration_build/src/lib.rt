@@ -214,30 +214,39 @@ fn corner_wave(corners: &[usize; 100], count: usize) -> [u8; 100]
     cells
 }
 
+// Puts positions where they are lent.
+fn put(positions: &mut [u8; 100], found: [u8; 100])
+    ensures { λ _. ⌜ now (positions .exit) ≡ found ⌝ }
+{
+    *positions = found;
+}
+
 // A field whose corners are cells, built: its cells are lent to the waves, and no number of waves from 99 on gives another answer than 100.
-fn built(costs: &[u8], given: IntegrationField) -> BuildAnswer
+// It is built where it is answered from, so that it is not copied once more.
+pub fn built(costs: &[u8], given: IntegrationField) -> BuildAnswer
     requires { ⌜ Accepted (now costs) given ⌝ }
     ensures { λ r. ⌜ r ≡ answerOf 0 (now (costs .entry)) given ⌝ }
 {
-    let mut field = given;
-    let count = field.count;
-    let before = field.field;
-    clear_beyond(&mut field.los_corners, count);
-    let wavefront = corner_wave(&field.los_corners, count);
-    let waves = propagate_integrated_wavefront(costs, &mut field.field, &wavefront, count, 100);
+    let count = given.count;
+    let before = given.field;
+    let mut answer = BuildAnswer {
+        number: 0,
+        field: given,
+        waves: 0,
+    };
+    clear_beyond(&mut answer.field.los_corners, count);
+    let first = corner_wave(&answer.field.los_corners, count);
+    let waves = propagate_integrated_wavefront(costs, &mut answer.field.field, &first, count, 100);
     let positions = corner_positions::corner_positions(
         costs,
         &before,
-        &field.field,
-        &field.los_corners,
+        &answer.field.field,
+        &answer.field.los_corners,
         count,
     );
-    field.positions = positions;
-    BuildAnswer {
-        number: 0,
-        field,
-        waves,
-    }
+    answer.waves = waves;
+    put(&mut answer.field.positions, positions);
+    answer
 }
 
 // The cells of the same alone, for who answers no field: the corners that they belong to are not sought.

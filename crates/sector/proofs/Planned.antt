@@ -21,10 +21,10 @@ use Rattle.route.proofs.Targets.{target-in}
 use Rattle.integration_field.specs.declared.IntegrationField.{IntegrationField}
 use Rattle.integration_field.specs.declared.BuildAnswer.{BuildAnswer}
 use Rattle.integration_field.specs.Built.{waveCount}
-use Rattle.integration_field.specs.Answer.{refusal, answerOf, buildAnswer}
+use Rattle.integration_field.specs.Answer.{refusal, answerOf}
 use Rattle.started_field.specs.Started.{started}
 use Rattle.least_walks.specs.Promise.{StartedPositions}
-use Rattle.least_walks.proofs.Promise.{built, demand3, started-positions}
+use Rattle.least_walks.proofs.Promise.{demand3, started-positions}
 use Rattle.flow_byte.specs.New.{windowBits, newByte, newBytes}
 use Rattle.flow_byte.specs.Look.{builtByte, flowBuild}
 use Rattle.flow_build.specs.Flow.{buildNumber, buildSheet}
@@ -59,11 +59,11 @@ module _ (costs : List ℕ) (target : Target) (portal : PortalWindow) where
     unfolding sectorBytes
     run-bytes cells new bytes e r t = t ∙ rw (r, e) (ends (sectorField costs target .field))
 
-    pub runs : (f : IntegrationField) (b : BuildAnswer) (new bytes : List ℕ) → f ≡ started costs target → b ≡ buildAnswer costs f
+    pub runs : (f : IntegrationField) (b : BuildAnswer) (new bytes : List ℕ) → f ≡ started costs target → b ≡ answerOf 0 costs f
         → new ≡ newBytes portal (windowOf target) (b .field .field) has previous → bytes ≡ buildSheet (b .field .field) new
         → (b ≡ answerOf 0 costs (started costs target)) × (bytes ≡ sectorBytes costs target portal has previous)
     runs f b new bytes p q r t =
-        let e : b ≡ answerOf 0 costs (started costs target) = q ∙ built costs target full inside f p in
+        let e : b ≡ answerOf 0 costs (started costs target) = q ∙ ap (answerOf 0 costs) p in
         (e, run-bytes (b .field .field) new bytes (ap (λ (a : BuildAnswer). a .field .field) e) r t)
 
     pub sector-planned : OnEdge portal target

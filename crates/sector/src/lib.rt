@@ -73,7 +73,7 @@ pub fn run(
     ensures sheet { λ _. ⌜ now (sheet .exit) ≡ sectorBytes (now (costs .entry)) (heldTarget target) portal «has_previous» (now (previous .entry)) ⌝ }
 {
     let field = integration_init::start(costs, target);
-    let answer = integration_build::build(costs, field);
+    let answer = integration_build::built(costs, field);
     let built = answer.field;
     flow_new::new_cells(portal, target.window, built, has_previous, previous, sheet);
     flow_build::build(built, sheet);

@@ -4,83 +4,91 @@ use mathlib.Core.Path.{_≡_, sym, ap, _∙_}
 use mathlib.Core.List.{List}
 use Prim.Native.Nat.{ℕ}
 use native.Mathlib.Omega.{arith}
-use lib.ListN.{length}
+use lib.ListN.{length, take}
 use denote.Ref.{now}
 use borrow.Author.Needs.{needs}
-use Rattle.integration_field.specs.Listed.{padded, listOf}
+use Rattle.integration_field.specs.declared.IntegrationField.{IntegrationField}
+use Rattle.integration_field.specs.Listed.{padded, listOf, Indexes}
 use Rattle.integration_field.specs.Build.{Built, build}
 use Rattle.integration_field.specs.Position.{positions}
+use Rattle.integration_build.specs.Wavefront.{Settles}
 use Rattle.integration_build.proofs.Recursion.{listed, corners-indexes, built-cells, built-is}
 use Rattle.integration_build.proofs.built.Statement.{statement}
 use Rattle.integration_build.proofs.built.Tie as tie
 
--- the call, from where the places beyond the list are cleared
+-- the places: where the positions are found, the waves have run, the first wave is made, the places beyond the list are cleared; the call
+abbrev ran : tie.After-corner-positions → tie.After-propagate-integrated-wavefront
+ran c = c .before .before .before .before .before
+
+abbrev first : tie.After-propagate-integrated-wavefront → tie.After-corner-wave
+first c = c .before .before .before
+
+abbrev cleared : tie.After-corner-wave → tie.After-clear-beyond
+cleared c = c .before .before .before
+
 abbrev start : tie.After-clear-beyond → tie.Start
 start c = c .before .before .before .before
 
-full : (s : tie.Start) → length (s .args .given .field) ≡ 100
+-- what the call is given
+abbrev costs : tie.Start → List ℕ
+costs s = now (s .args .costs)
+
+abbrev given : tie.Start → IntegrationField
+given s = s .args .given
+
+full : (s : tie.Start) → length (given s .field) ≡ 100
 full s = search needs
 
-long : (s : tie.Start) → length (s .args .given .«los_corners») ≡ 100
+long : (s : tie.Start) → length (given s .«los_corners») ≡ 100
 long s = search needs
 
-corner-wave-requires : tie.Need-corner-wave-requires
-corner-wave-requires c κs =
-    let m = c .before .before in
-    let s = start m in
-    corners-indexes (now (s .args .costs)) (s .args .given) (long s) (s .pre) 100 (omega arith) _ (m .clear-beyond .ensures) _ (omega arith)
+-- places that hold the list, and 0 beyond it: the list before the count, and cells of the sector
+module _ (s : tie.Start) {places : List ℕ} (held : places ≡ padded (listOf (given s))) where
+  same : take (given s .count) places ≡ listOf (given s)
+  same = listed (costs s) (given s) (long s) (s .pre) 100 (omega arith) places held
+
+  indexes : Indexes 100 places (given s .count)
+  indexes = corners-indexes (costs s) (given s) (long s) (s .pre) 100 (omega arith) places held (given s .count) (omega arith)
+
+  -- and what the waves from there leave
+  left : {cells : List ℕ} {waves : ℕ} → Settles (costs s) (given s .field) (take (given s .count) places) 100 cells waves
+      → record { cells = cells; waves = waves } ≡ build (costs s) (given s .field) (listOf (given s))
+  left settled = built-cells (costs s) (given s) (long s) (s .pre) 100 (omega arith) places held (full s) settled (omega arith)
 
 -- the first wave is the list as well
-wave : (c : tie.After-corner-wave) → let s = start (c .before .before .before) in c .corner-wave .result ≡ padded (listOf (s .args .given))
-wave c =
-    let m = c .before .before .before in
-    let s = start m in
-    let same = listed (now (s .args .costs)) (s .args .given) (long s) (s .pre) 100 (omega arith) _ (m .clear-beyond .ensures) in
-    c .corner-wave .ensures ∙ ap padded same
+wave : (c : tie.After-corner-wave) → c .corner-wave .result ≡ padded (listOf (given (start (cleared c))))
+wave c = let m = cleared c in c .corner-wave .ensures ∙ ap padded (same (start m) (m .clear-beyond .ensures))
 
-propagate-integrated-wavefront-requires : tie.Need-propagate-integrated-wavefront-requires
-propagate-integrated-wavefront-requires c κs =
+waves-requires : tie.Need-propagate-integrated-wavefront-requires
+waves-requires c κs =
     let w = c .before .before in
-    let s = start (w .before .before .before) in
-    let cells = corners-indexes (now (s .args .costs)) (s .args .given) (long s) (s .pre) 100 (omega arith) _ (wave w) (s .args .given .count) (omega arith) in
-    (cells, (full s, s .pre .costs-hundred))
+    let s = start (cleared w) in
+    (indexes s (wave w), (full s, s .pre .costs-hundred))
 
-corner-positions-requires : tie.Need-corner-positions-requires
-corner-positions-requires c κs =
+positions-requires : tie.Need-corner-positions-requires
+positions-requires c κs =
     let p = c .before .before .before .before in
-    let w = p .before .before .before in
-    let m = w .before .before .before in
+    let m = cleared (first p) in
     let s = start m in
-    let costs = now (s .args .costs) in
-    let f = s .args .given in
     let e = m .clear-beyond .ensures in
-    let same = listed costs f (long s) (s .pre) 100 (omega arith) _ e in
-    let left = built-cells costs f (long s) (s .pre) 100 (omega arith) _ (wave w) (full s) (p .propagate-integrated-wavefront .ensures) (omega arith) in (
-      s .pre .costs-hundred,
-      (
-        full s,
-        (
-          corners-indexes costs f (long s) (s .pre) 100 (omega arith) _ e _ (omega arith),
-          ap (λ (b : Built). b .cells) left ∙ ap (λ (l : List ℕ). build costs (f .field) l .cells) (sym same),
-        ),
-      ),
-    )
+    let done = left s (wave (first p)) (p .propagate-integrated-wavefront .ensures) in
+    let cells = ap (λ (b : Built). b .cells) done ∙ ap (λ (l : List ℕ). build (costs s) (given s .field) l .cells) (sym (same s e)) in
+    (s .pre .costs-hundred, (full s, (indexes s e, cells)))
 
 returns : tie.Need-returns
 returns c =
-    let p = c .before .before .before .before .before in
-    let w = p .before .before .before in
-    let m = w .before .before .before in
+    let found = c .before .before in
+    let p = ran found in
+    let m = cleared (first p) in
     let s = start m in
-    let costs = now (s .args .costs) in
-    let f = s .args .given in
     let e = m .clear-beyond .ensures in
-    let same = listed costs f (long s) (s .pre) 100 (omega arith) _ e in
-    let left = built-cells costs f (long s) (s .pre) 100 (omega arith) _ (wave w) (full s) (p .propagate-integrated-wavefront .ensures) (omega arith) in
-    built-is costs f (long s) (s .pre) _ e left
-    (c .corner-positions .ensures ∙ ap (positions costs (f .field)) same)
+    built-is (costs s) (given s) (long s) (s .pre) _ e (left s (wave (first p)) (p .propagate-integrated-wavefront .ensures))
+    (c .put .ensures ∙ found .corner-positions .ensures ∙ ap (positions (costs s) (given s .field)) (same s e))
 
 pub built-spec : {M : Type 1} → statement M
-built-spec =
-    tie.close
-    (tie.spec (λ c κs. search needs) corner-wave-requires propagate-integrated-wavefront-requires corner-positions-requires returns)
+built-spec = tie.close (tie.spec
+    (λ c κs. search needs)
+    (λ c κs. let m = c .before .before in indexes (start m) (m .clear-beyond .ensures))
+    waves-requires positions-requires
+    (λ c κs. search needs)
+    returns)
