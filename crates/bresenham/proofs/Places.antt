@@ -8,36 +8,25 @@ use native.Mathlib.Numerals.{add-one}
 use native.Mathlib.Omega.{arith}
 use lib.ListN.{length, set, replicate, replicate-append-replicate, length-replicate, length-reverse}
 use lib.Seq.{set-at}
-use Rattle.fields.specs.declared.FieldCell.{FieldCell}
-use Rattle.fields.specs.Cell.{cell}
-use Rattle.nearest_line.specs.declared.Line.{Line}
+use Rattle.utilities.specs.Padded.{padded}
 use Rattle.nearest_line.specs.Table.{table}
-use Rattle.nearest_line.specs.Line.{padded, answered}
-use Rattle.bresenham.specs.Inner.{listed, placeOf}
+use Rattle.bresenham.specs.Inner.{listed, placeOf, blank}
 use Rattle.nearest_line.proofs.Lists.{length-table, table-suc, table-set}
 
-abbrev pub blank : ℕ → List FieldCell
-blank n = replicate n (cell 0 0)
+abbrev zeros : ℕ → List ℕ
+zeros n = replicate n 0
 
-abbrev pub written : Bool → ℕ → ℕ → (ℕ → FieldCell) → List FieldCell
-written true m k f = blank (m + 1 - k) ++ (reverse (table k f) ++ blank (9 - m))
-written false m k f = padded (table k f)
+abbrev pub written : Bool → ℕ → ℕ → (ℕ → ℕ) → List ℕ
+written true m k f = zeros (m + 1 - k) ++ (reverse (table k f) ++ zeros (9 - m))
+written false m k f = padded 10 0 (table k f)
 
-length-listed : (back : Bool) (l : List FieldCell) → length (listed back l) ≡ length l
-length-listed true l = length-reverse l
-length-listed false l = refl
-
--- an answer that is not yet counted
-abbrev pub uncounted : List FieldCell → Line
-uncounted l = record { number = 0; cells = l; count = 0 }
-
-module _ (m : ℕ) (f : ℕ → FieldCell) (room : m < 10) where
-  pub none-written : (back : Bool) → written back m 0 f ≡ blank 10
+module _ (m : ℕ) (f : ℕ → ℕ) (room : m < 10) where
+  pub none-written : (back : Bool) → written back m 0 f ≡ blank
   unfolding table
-  none-written true = let e : m + 1 - 0 + (9 - m) ≡ 10 = omega arith in replicate-append-replicate (m + 1 - 0) (9 - m) (cell 0 0) ∙ ap blank e
+  none-written true = let e : m + 1 - 0 + (9 - m) ≡ 10 = omega arith in replicate-append-replicate (m + 1 - 0) (9 - m) 0 ∙ ap zeros e
   none-written false = refl
 
-  pub all-written : (back : Bool) → written back m (m + 1) f ≡ padded (listed back (table (m + 1) f))
+  pub all-written : (back : Bool) → written back m (m + 1) f ≡ padded 10 0 (listed back (table (m + 1) f))
   all-written true =
       let l = table (m + 1) f in
       let e : m + 1 - (m + 1) ≡ 0 = omega arith in
@@ -51,20 +40,14 @@ module _ (m : ℕ) (f : ℕ → FieldCell) (room : m < 10) where
   before-last k h =
       let e : m + 1 - k ≡ m - k + 1 = omega arith in
       let g : m + 1 - (k + 1) ≡ m - k = omega arith in
-      rw (e, g, add-one k, table-suc k f, reverse-append (table k f) (f k ∷ []), ← replicate-append-replicate (m - k) 1 (cell 0 0), append-assoc)
-      (set-at (blank (m - k)) (cell 0 0) (reverse (table k f) ++ blank (9 - m)) (f k) (m - k) (length-replicate (m - k) (cell 0 0)))
+      rw (e, g, add-one k, table-suc k f, reverse-append (table k f) (f k ∷ []), ← replicate-append-replicate {A = ℕ} (m - k) 1 0, append-assoc)
+      (set-at (zeros (m - k)) 0 (reverse (table k f) ++ zeros (9 - m)) (f k) (m - k) (length-replicate (m - k) 0))
 
   pub one-written : (back : Bool) (k : ℕ) → k ≤ m → set (written back m k f) (placeOf back m k) (f k) ≡ written back m (k + 1) f
   one-written true k h = before-last k h
-  one-written false k h = rw (add-one k) (table-set 10 k f (cell 0 0) (omega arith))
+  one-written false k h = rw (add-one k) (table-set 10 k f 0 (omega arith))
 
-  -- the same of the answer that holds them: one more place, and at the end the count
-  module _ (back : Bool) (k : ℕ) (line : Line) (held : line ≡ uncounted (written back m k f)) where
-    pub one-more : (place : ℕ) (c : FieldCell) → k ≤ m → place ≡ placeOf back m k → c ≡ f k
-        → _≡_ {A = Line} (record { number = line .number; cells = set (line .cells) place c; count = line .count }) (uncounted (written back m (k + 1) f))
-    one-more place c h p q = rw (held, p, q) (ap uncounted (one-written back k h))
-
-    pub counted : k ≡ m + 1 → _≡_ {A = Line} (record { number = line .number; cells = line .cells; count = m + 1 }) (answered (listed back (table (m + 1) f)))
-    counted e =
-        let n : length (listed back (table (m + 1) f)) ≡ m + 1 = length-listed back (table (m + 1) f) ∙ length-table (m + 1) f in
-        rw (held, e, all-written back, n)
+  -- the same of an array that holds them
+  pub one-more : (back : Bool) (k : ℕ) (drawn : List ℕ) → drawn ≡ written back m k f → (place x : ℕ) → k ≤ m → place ≡ placeOf back m k → x ≡ f k
+      → set drawn place x ≡ written back m (k + 1) f
+  one-more back k drawn held place x h p q = rw (held, p, q) (one-written back k h)

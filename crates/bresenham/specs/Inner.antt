@@ -1,12 +1,16 @@
 -- What the functions beneath the line calls answer.
 -- Assumes nothing.
+use mathlib.Core.Path.{_≡_}
 use mathlib.Core.Bool.{Bool, true, false}
-use mathlib.Core.List.{List, reverse}
+use mathlib.Core.List.{List, reverse, map}
 use Prim.Native.Nat.{ℕ, _-_}
+use lib.ListN.{length, replicate}
+use Rattle.utilities.specs.Padded.{padded}
 use Rattle.fields.specs.declared.FieldCell.{FieldCell}
+use Rattle.fields.specs.Cell.{indexOf}
 
 -- a walk's cells as they are, or from the last
-abbrev pub listed : Bool → List FieldCell → List FieldCell
+abbrev pub listed : {A : Type 0} → Bool → List A → List A
 listed true l = reverse l
 listed false l = l
 
@@ -14,3 +18,12 @@ listed false l = l
 abbrev pub placeOf : Bool → ℕ → ℕ → ℕ
 placeOf true m k = m - k
 placeOf false m k = k
+
+-- ten lent places, before a line is drawn
+abbrev pub blank : List ℕ
+blank = replicate 10 0
+
+-- and after: the indexes of these cells, of which there are so many; the places beyond hold 0
+pub record DrawnIn (l : List FieldCell) (drawn : List ℕ) (count : ℕ) : Type 0 where
+  pub indexes : drawn ≡ padded 10 0 (map indexOf l)
+  pub many : count ≡ length l

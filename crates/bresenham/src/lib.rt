@@ -3,10 +3,12 @@ use fields::FieldCell;
 use nearest_line::Line;
 ghost use mathlib.Core.Path.{_≡_};
 ghost use mathlib.Core.Bool.{_&&_};
+ghost use mathlib.Core.List.{map};
 ghost use Prim.Native.Nat.{_≤_, _<_};
-ghost use Rattle.fields.specs.Cell.{cell, inside};
-ghost use Rattle.nearest_line.specs.Line.{apart, toward, placed, walkCells, answered, refused, called, lineCall, shallowCall, steepCall};
-ghost use Rattle.bresenham.specs.Inner.{placeOf, listed};
+ghost use lib.ListN.{length, take};
+ghost use Rattle.fields.specs.Cell.{cell, inside, Inside, indexOf, cellAt};
+ghost use Rattle.nearest_line.specs.Line.{apart, toward, placed, walkCells, line, answered, refused, called, lineCall, shallowCall, steepCall};
+ghost use Rattle.bresenham.specs.Inner.{placeOf, listed, blank, DrawnIn};
 ghost use Rattle.nearest_line.specs.Nearest.{columnOf, rowOf, HoldsNearestLine, HoldsNearestWalk};
 
 // An answer without cells.
@@ -32,7 +34,7 @@ fn both_inside(source: FieldCell, target: FieldCell) -> bool
 // The coordinate that is `offset` from `a` on the way to `b`.
 fn moved(a: usize, b: usize, offset: usize) -> usize
     requires { ⌜ (a < 10) × (b < 10) × (offset ≤ apart a b) ⌝ }
-    ensures { λ r. ⌜ r ≡ toward a b offset ⌝ }
+    ensures { λ r. ⌜ (r ≡ toward a b offset) × (r < 10) ⌝ }
 {
     if a <= b { a + offset } else { a - offset }
 }
@@ -53,6 +55,17 @@ fn placed_cell(steep: bool, major: usize, minor: usize) -> FieldCell
     }
 }
 
+// The index of that cell.
+fn placed_index(steep: bool, major: usize, minor: usize) -> usize
+    requires { ⌜ (major < 10) × (minor < 10) ⌝ }
+    ensures { λ r. ⌜ r ≡ indexOf (placed steep major minor) ⌝ }
+{
+    if steep {
+        return major * 10 + minor;
+    }
+    minor * 10 + major
+}
+
 // Where step k of a walk of `span` steps stands in the list: counted from the last place where it is listed back.
 fn place_of(back: bool, span: usize, k: usize) -> usize
     requires { ⌜ k ≤ span ⌝ }
@@ -64,7 +77,8 @@ fn place_of(back: bool, span: usize, k: usize) -> usize
     k
 }
 
-// The cells of a walk, which gains one in its major coordinate at each step; listed from the last where `back` says so.
+// Draws a walk, which gains one in its major coordinate at each step: the indexes of its cells, in lent places, since a `Line` would be
+// copied for each caller. They are listed from the last where `back` says so. Answers how many they are.
 // `difference` is that of the Rust plus twice the span, which is never below 0.
 fn walk(
     steep: bool,
@@ -73,20 +87,20 @@ fn walk(
     minor_0: usize,
     major_1: usize,
     minor_1: usize,
-) -> Line
-    requires { ⌜ (major_0 ≤ major_1) × (major_1 < 10) × (minor_0 < 10) × (minor_1 < 10) ⌝ }
-    ensures { λ r. ⌜ r ≡ answered (listed back (walkCells steep major_0 minor_0 major_1 minor_1)) ⌝ }
+    drawn: &mut [usize; 10],
+) -> usize
+    requires { ⌜ ((major_0 ≤ major_1) × (major_1 < 10) × (minor_0 < 10) × (minor_1 < 10)) × (now drawn ≡ blank) ⌝ }
+    ensures { λ r. ⌜ DrawnIn (listed back (walkCells steep major_0 minor_0 major_1 minor_1)) (now (drawn .exit)) r ⌝ }
 {
     let span = major_1 - major_0;
     let rise = nearest_line::distance(minor_0, minor_1);
-    let mut line = empty(0);
     let mut difference = 2 * rise + span;
     let mut offset = 0usize;
     let mut k = 0usize;
     while k <= span {
         let minor = moved(minor_0, minor_1, offset);
         let place = place_of(back, span, k);
-        line.cells[place] = placed_cell(steep, major_0 + k, minor);
+        drawn[place] = placed_index(steep, major_0 + k, minor);
         if difference > 2 * span {
             offset += 1;
             difference = difference + 2 * rise - 2 * span;
@@ -95,7 +109,21 @@ fn walk(
         }
         k += 1;
     }
-    line.count = span + 1;
+    span + 1
+}
+
+// The answer of a line that was drawn: the cells at its indexes.
+fn answered_line(drawn: &[usize; 10], count: usize) -> Line
+    requires { ⌜ (length (now drawn) ≡ 10) × (count ≤ 10) ⌝ }
+    ensures { λ r. ⌜ r ≡ answered (map cellAt (take count (now (drawn .entry)))) ⌝ }
+{
+    let mut line = empty(0);
+    let mut i = 0usize;
+    while i < count {
+        line.cells[i] = FieldCell::from_index(drawn[i]);
+        i += 1;
+    }
+    line.count = count;
     line
 }
 
@@ -111,7 +139,9 @@ fn walk_alone(steep: bool, major_0: usize, minor_0: usize, major_1: usize, minor
     if major_1 < major_0 {
         return empty(0);
     }
-    walk(steep, false, major_0, minor_0, major_1, minor_1)
+    let mut drawn: [usize; 10] = [0; 10];
+    let count = walk(steep, false, major_0, minor_0, major_1, minor_1, &mut drawn);
+    answered_line(&drawn, count)
 }
 
 // Steps through the columns, at most one row aside at each; no cells where the target's column is lower.
@@ -132,6 +162,31 @@ pub fn walk_bresenham_steep(col_0: usize, row_0: usize, col_1: usize, row_1: usi
     walk_alone(true, row_0, col_0, row_1, col_1)
 }
 
+// Draws the line from `source` to `target`: the indexes of its cells, both of these included, in lent places. Answers how many they are.
+pub fn draw_cells_between_points(
+    source: FieldCell,
+    target: FieldCell,
+    drawn: &mut [usize; 10],
+) -> usize
+    requires { ⌜ ((Inside source) × (Inside target)) × (now drawn ≡ blank) ⌝ }
+    ensures { λ r. ⌜ DrawnIn (line source target) (now (drawn .exit)) r ⌝ }
+{
+    let col_0 = source.column;
+    let row_0 = source.row;
+    let col_1 = target.column;
+    let row_1 = target.row;
+    if nearest_line::distance(row_0, row_1) < nearest_line::distance(col_0, col_1) {
+        if col_0 <= col_1 {
+            return walk(false, false, col_0, row_0, col_1, row_1, drawn);
+        }
+        return walk(false, true, col_1, row_1, col_0, row_0, drawn);
+    }
+    if row_0 <= row_1 {
+        return walk(true, false, row_0, col_0, row_1, col_1, drawn);
+    }
+    walk(true, true, row_1, col_1, row_0, col_0, drawn)
+}
+
 // The cells on the line from `source` to `target`, both of them included; 13 where a column or row lies outside 0 to 9.
 pub fn get_cells_between_points(source: FieldCell, target: FieldCell) -> Line
     ensures answer { λ r. ⌜ r ≡ lineCall source target ⌝ }
@@ -140,20 +195,7 @@ pub fn get_cells_between_points(source: FieldCell, target: FieldCell) -> Line
     if !both_inside(source, target) {
         return empty(13);
     }
-    let source_col = source.column;
-    let source_row = source.row;
-    let target_col = target.column;
-    let target_row = target.row;
-    if nearest_line::distance(source_row, target_row)
-        < nearest_line::distance(source_col, target_col)
-    {
-        if source_col <= target_col {
-            return walk(false, false, source_col, source_row, target_col, target_row);
-        }
-        return walk(false, true, target_col, target_row, source_col, source_row);
-    }
-    if source_row <= target_row {
-        return walk(true, false, source_row, source_col, target_row, target_col);
-    }
-    walk(true, true, target_row, target_col, source_row, source_col)
+    let mut drawn: [usize; 10] = [0; 10];
+    let count = draw_cells_between_points(source, target, &mut drawn);
+    answered_line(&drawn, count)
 }

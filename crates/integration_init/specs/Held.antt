@@ -3,9 +3,7 @@
 use mathlib.Core.Path.{_≡_}
 use mathlib.Core.List.{List, []}
 use Prim.Native.Nat.{ℕ, _<_, _≤_}
-use lib.ListN.{length, getD, take}
-use Rattle.fields.specs.declared.FieldCell.{FieldCell}
-use Rattle.fields.specs.Cell.{Inside, cell}
+use lib.ListN.{length, take}
 use Rattle.integration_field.specs.Listed.{padded}
 use Rattle.started_field.specs.Sight.{Sight}
 use Rattle.started_field.specs.Room.{Room}
@@ -58,9 +56,3 @@ pub record InWave (wave goal from : ℕ) : Type 0 where
   pub wave-in : wave ≤ 100
   pub goal-in : goal < 100
   pub from-in : from < 100
-
--- the cells of a line, in an array of 10 places
-pub record Drawn (cells : List FieldCell) (count : ℕ) : Type 0 where
-  pub full : length cells ≡ 10
-  pub count-in : count ≤ 10
-  pub cells-in : (i : ℕ) → i < count → Inside (getD cells i (cell 0 0))

@@ -8,7 +8,6 @@ use integration_bits::INT_BITS_LOS;
 use integration_bits::INT_BITS_PORTAL;
 use integration_bits::INT_BITS_WAVE_BLOCKED;
 use integration_field::IntegrationField;
-use nearest_line::Line;
 use route::RouteStep;
 use route::Target;
 use route::WindowCells;
@@ -16,11 +15,11 @@ use started_field::InitAnswer;
 use utilities::CompassDir;
 ghost use mathlib.Core.Path.{_≡_};
 ghost use mathlib.Core.Bool.{_||_};
-ghost use mathlib.Core.List.{List, [], map};
+ghost use mathlib.Core.List.{List, []};
 ghost use Prim.Native.Nat.{ℕ, suc, _+_, _<_, _≤_};
 ghost use lib.ListN.{length, take};
 ghost use Rattle.utilities.specs.Compass.{orthogonal};
-ghost use Rattle.fields.specs.Cell.{cellAt, indexOf, stepped};
+ghost use Rattle.fields.specs.Cell.{cellAt, stepped};
 ghost use Rattle.integration_field.specs.Listed.{Indexes};
 ghost use Rattle.route.specs.Target.{targetOf};
 ghost use Rattle.integration_field.specs.Word.{isLos, isGoal, isBlocked, isImpassable};
@@ -31,7 +30,7 @@ ghost use Rattle.started_field.specs.CornerLine.{cornerLine};
 ghost use Rattle.started_field.specs.Sight.{wallOr, walls, marked, stopped, lineMarked, extended, unlessWall, sideTried, wallMet};
 ghost use Rattle.started_field.specs.Sight.{neighbourLooked, looked, lookedAround, waveLooked, sightAfter};
 ghost use Rattle.least_walks.specs.Promise.{OnceBuilt};
-ghost use Rattle.integration_init.specs.Held.{sightOf, Holds, Ready, Applied, AppliedAll, HoldsAll, ReadyAll, InWave, Drawn};
+ghost use Rattle.integration_init.specs.Held.{sightOf, Holds, Ready, Applied, AppliedAll, HoldsAll, ReadyAll, InWave};
 
 // How many corners are listed, and how many cells the wave has queued.
 struct Counts {
@@ -104,22 +103,20 @@ fn mark_line(
     corners: &mut [usize; 100],
     count: usize,
     corner: usize,
-    line: Line,
+    drawn: &[usize; 10],
+    length: usize,
     wavefront_cost: u32,
 ) -> usize
-    requires { ⌜ (Ready (now cells) (now corners) count) × ((Drawn (line .cells) (line .count)) × ((corner < 100) × («wavefront_cost» ≤ 100))) ⌝ }
-    ensures { λ r. ⌜ Applied (lineMarked «wavefront_cost» 0 corner (map indexOf (take (line .count) (line .cells))))
+    requires { ⌜ (Ready (now cells) (now corners) count) × ((Indexes 10 (now drawn) length) × ((corner < 100) × («wavefront_cost» ≤ 100))) ⌝ }
+    ensures { λ r. ⌜ Applied (lineMarked «wavefront_cost» 0 corner (take length (now (drawn .entry))))
         (now (cells .entry)) (now (corners .entry)) count (now (cells .exit)) (now (corners .exit)) r ⌝ }
 {
-    let drawn = line.cells;
-    let length = line.count;
     let mut listed = count;
     let mut previous = corner;
     let mut value = wavefront_cost + 1;
     let mut i = 0;
     while i < length {
-        let cell = drawn[i];
-        let n = cell.as_1d_index();
+        let n = drawn[i];
         if is_stopped(cells, previous, n) {
             return listed;
         }
@@ -146,8 +143,17 @@ fn extend_los_corner(
 {
     let from = FieldCell::from_index(corner);
     let end = FieldCell::from_index(line_end_table::read_end(corner, goal));
-    let line = bresenham::get_cells_between_points(from, end);
-    mark_line(cells, corners, count, corner, line, wavefront_cost)
+    let mut drawn: [usize; 10] = [0; 10];
+    let length = bresenham::draw_cells_between_points(from, end, &mut drawn);
+    mark_line(
+        cells,
+        corners,
+        count,
+        corner,
+        &drawn,
+        length,
+        wavefront_cost,
+    )
 }
 
 // Tries one side of a wall that cell `from` met: its side cell is a corner, where neither that nor the side cell of `from` is a wall.

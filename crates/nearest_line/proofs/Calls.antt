@@ -71,21 +71,21 @@ unfolding table
 none-back steep a₀ b₀ a₁ b₁ h = let e : a₁ + 1 - a₀ ≡ 0 = omega arith in rw e
 
 -- the shallow lines, forth and back
-module _ (s t : FieldCell) (e : (inside s && inside t) ≡ true) (n : apart (s .row) (t .row) < apart (s .column) (t .column)) where
-  pub shallow-forth : s .column ≤ t .column → lineCall s t ≡ answered (shallow s t)
-  unfolding lineCall line
-  shallow-forth h = rw (e, lt-ltb (apart (s .row) (t .row)) (apart (s .column) (t .column)) n, le-leb (s .column) (t .column) h)
+module _ (s t : FieldCell) (n : apart (s .row) (t .row) < apart (s .column) (t .column)) where
+  pub shallow-forth : s .column ≤ t .column → line s t ≡ shallow s t
+  unfolding line
+  shallow-forth h = rw (lt-ltb (apart (s .row) (t .row)) (apart (s .column) (t .column)) n, le-leb (s .column) (t .column) h)
 
-  pub shallow-back : t .column < s .column → lineCall s t ≡ answered (reverse (shallow t s))
-  unfolding lineCall line
-  shallow-back h = rw (e, lt-ltb (apart (s .row) (t .row)) (apart (s .column) (t .column)) n, lt-leb (s .column) (t .column) h)
+  pub shallow-back : t .column < s .column → line s t ≡ reverse (shallow t s)
+  unfolding line
+  shallow-back h = rw (lt-ltb (apart (s .row) (t .row)) (apart (s .column) (t .column)) n, lt-leb (s .column) (t .column) h)
 
 -- the steep lines, forth and back
-module _ (s t : FieldCell) (e : (inside s && inside t) ≡ true) (n : apart (s .column) (t .column) ≤ apart (s .row) (t .row)) where
-  pub steep-forth : s .row ≤ t .row → lineCall s t ≡ answered (steep s t)
-  unfolding lineCall line
-  steep-forth h = rw (e, le-ltb (apart (s .row) (t .row)) (apart (s .column) (t .column)) n, le-leb (s .row) (t .row) h)
+module _ (s t : FieldCell) (n : apart (s .column) (t .column) ≤ apart (s .row) (t .row)) where
+  pub steep-forth : s .row ≤ t .row → line s t ≡ steep s t
+  unfolding line
+  steep-forth h = rw (le-ltb (apart (s .row) (t .row)) (apart (s .column) (t .column)) n, le-leb (s .row) (t .row) h)
 
-  pub steep-back : t .row < s .row → lineCall s t ≡ answered (reverse (steep t s))
-  unfolding lineCall line
-  steep-back h = rw (e, le-ltb (apart (s .row) (t .row)) (apart (s .column) (t .column)) n, lt-leb (s .row) (t .row) h)
+  pub steep-back : t .row < s .row → line s t ≡ reverse (steep t s)
+  unfolding line
+  steep-back h = rw (le-ltb (apart (s .row) (t .row)) (apart (s .column) (t .column)) n, lt-leb (s .row) (t .row) h)

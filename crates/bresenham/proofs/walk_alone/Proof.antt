@@ -1,14 +1,19 @@
--- `bresenham::walk_alone`, by the tests that it makes.
+-- `bresenham::walk_alone`, by the tests that it makes. A walk between cells of the sector stays in it, so that the cells of the drawn indexes
+-- are the walk's.
 -- Assumes nothing.
-use mathlib.Core.Path.{_≡_, sym, ap, _∙_}
+use mathlib.Core.Path.{_≡_, refl, sym, ap, _∙_}
 use mathlib.Core.Bool.{true, _&&_}
 use mathlib.Core.List.{List}
+use Prim.Native.Nat.{_<_, _≤_}
+use native.Mathlib.Omega.{arith}
 use borrow.Author.Needs.{needs}
 use borrow.Author.Tests.{not-true, not-false}
+use lib.ListN.{length}
 use Rattle.fields.specs.declared.FieldCell.{FieldCell}
 use Rattle.fields.specs.Cell.{inside}
 use Rattle.nearest_line.specs.Line.{placed, walkCells, answered}
 use Rattle.nearest_line.proofs.Calls.{both-in, outside, accepted, placed-in, none-back}
+use Rattle.bresenham.proofs.Drawn.{drawn-full, drawn-answer, walk-few, walk-inside}
 use Rattle.bresenham.proofs.walk_alone.Statement.{statement}
 use Rattle.bresenham.proofs.walk_alone.Tie as tie
 
@@ -35,25 +40,10 @@ tested m = rw (← m .before .before .placed-cell .ensures, ← m .before .place
 within : (c : tie.Else1) → (inside (source (c .before)) && inside (target (c .before))) ≡ true
 within c = sym (tested (c .before)) ∙ not-false _ (c .if1 .left)
 
-placed-cell-requires : tie.Need-placed-cell-requires
-placed-cell-requires c κs = search needs
-
-placed-cell-requires-2 : tie.Need-placed-cell-requires-2
-placed-cell-requires-2 c κs = search needs
-
-both-inside-requires : tie.Need-both-inside-requires
-both-inside-requires c κs = search needs
-
-empty-requires : tie.Need-empty-requires
-empty-requires c κs = search needs
-
 returns : tie.Need-returns
 returns c =
     let m = c .before .before in
     c .empty .ensures ∙ sym (outside (source m) (target m) (cells m) (sym (tested m) ∙ not-true _ (c .before .if1 .taken)))
-
-empty-requires-2 : tie.Need-empty-requires-2
-empty-requires-2 c κs = search needs
 
 returns-2 : tie.Need-returns-2
 returns-2 c =
@@ -63,8 +53,9 @@ returns-2 c =
     let none = none-back (a .steep) (a .major-0) (a .minor-0) (a .major-1) (a .minor-1) (c .before .if2 .taken) in
     c .empty2 .ensures ∙ ap answered (sym none) ∙ sym (accepted (source m) (target m) (cells m) (within i))
 
-walk-requires : tie.Need-walk-requires
-walk-requires c κs =
+-- the coordinates of a walk that goes on
+within-ten : (c : tie.Else2) → let a = begun (c .before .before) .args in (a .major-0 ≤ a .major-1) × (a .major-1 < 10) × (a .minor-0 < 10) × (a .minor-1 < 10)
+within-ten c =
     let m = c .before .before in
     let a = begun m .args in
     let i = both-in (source m) (target m) (within (c .before)) in
@@ -72,22 +63,49 @@ walk-requires c κs =
     let q = placed-in (a .steep) (a .major-1) (a .minor-1) (i .1) in
     (c .if2 .left, q .0, p .1, q .1)
 
+walk-requires : tie.Need-walk-requires
+walk-requires c κs = (within-ten (c .before), refl)
+
+-- where the walk is drawn
+abbrev Drew : Type 0
+Drew = tie.After-walk
+
+abbrev goes : Drew → tie.Else2
+goes d = d .before .before
+
+few : (d : Drew) → length (cells (goes d .before .before)) ≤ 10
+few d =
+    let a = begun (goes d .before .before) .args in
+    let h = within-ten (goes d) in
+    walk-few (a .major-0) (a .minor-0) (a .major-1) (a .minor-1) (h .0) (h .1) (h .2) (h .3) (a .steep)
+
+answered-line-requires : tie.Need-answered-line-requires
+answered-line-requires c κs =
+    let d = c .before in
+    let drawn = d .walk .ensures in
+    (drawn-full drawn (few d), omega (arith, drawn .many, few d))
+
 returns-3 : tie.Need-returns-3
 returns-3 c =
-    let i = c .before .before in
+    let d = c .before .before in
+    let i = goes d .before in
     let m = i .before in
-    c .walk .ensures ∙ sym (accepted (source m) (target m) (cells m) (within i))
+    let a = begun m .args in
+    let h = within-ten (goes d) in
+    let inside-all = walk-inside (a .major-0) (a .minor-0) (a .major-1) (a .minor-1) (h .0) (h .1) (h .2) (h .3) (a .steep) in
+    c .answered-line .ensures ∙ drawn-answer (d .walk .ensures) inside-all ∙ sym (accepted (source m) (target m) (cells m) (within i))
 
 pub walk-alone-spec : {M : Type 1} → statement M
 walk-alone-spec =
     tie.close
     (tie.spec
-    placed-cell-requires
-    placed-cell-requires-2
-    both-inside-requires
-    empty-requires
+    (λ c κs. search needs)
+    (λ c κs. search needs)
+    (λ c κs. search needs)
+    (λ c κs. search needs)
     returns
-    empty-requires-2
+    (λ c κs. search needs)
     returns-2
     walk-requires
+    answered-line-requires
     returns-3)

@@ -1,18 +1,21 @@
 -- `integration_init::extend_los_corner` meets its contract: the end that the table holds is the definition's and lies in the sector, and so
 -- the line is the definition's.
 -- Assumes nothing.
-use mathlib.Core.Path.{_≡_, sym, ap, ap₂, subst, _∙_}
+use mathlib.Core.Path.{_≡_, refl, sym, ap, ap₂, subst, _∙_}
+use mathlib.Core.List.{map}
 use borrow.Author.Needs.{needs}
 use lib.ListN.{take}
 use Rattle.fields.specs.declared.FieldCell.{FieldCell}
-use Rattle.fields.specs.Cell.{Inside, cellAt}
+use Rattle.fields.specs.Cell.{Inside, cellAt, indexOf}
 use Rattle.fields.proofs.Steps.{cell-inside, cell-of-index}
 use Rattle.line_end.specs.LineEnd.{lineEnd}
 use Rattle.line_end.proofs.Laws.{end-inside}
 use Rattle.nearest_line.specs.Line.{line}
+use Rattle.bresenham.proofs.Drawn.{drawn-list}
+use Rattle.integration_field.specs.Listed.{Indexes}
 use Rattle.started_field.specs.Sight.{extended}
 use Rattle.started_field.specs.CornerLine.{cornerLine}
-use Rattle.integration_init.proofs.Lines.{line-list, line-drawn}
+use Rattle.integration_init.proofs.Lines.{line-drawn}
 use Rattle.integration_init.proofs.extend_los_corner.Statement.{statement}
 use Rattle.integration_init.proofs.extend_los_corner.Tie as tie
 
@@ -48,28 +51,41 @@ end-within c = subst Inside (sym (end-is c)) (defined-inside c)
 read-end-requires : tie.Need-read-end-requires
 read-end-requires c κs = let w = c .before .pre .1 in (w .from-in, w .goal-in)
 
+draw-requires : tie.Need-draw-cells-between-points-requires
+draw-requires c κs = let e = c .before in ((from-inside e, end-within e), refl)
+
+-- where the line is drawn, and before it corner and end are known
+abbrev Drew : Type 0
+Drew = tie.After-draw-cells-between-points
+
+abbrev ended : Drew → Ended
+ended d = d .before .before
+
+drawn : (d : Drew) → let l = d .draw-cells-between-points in Indexes 10 (l .last .1 .1 .0) (l .result)
+drawn d =
+    let e = ended d in
+    let l = d .draw-cells-between-points in
+    line-drawn (from e) (end e) (from-inside e) (end-within e) (l .last .1 .1 .0) (l .result) (l .ensures)
+
 mark-line-requires : tie.Need-mark-line-requires
 mark-line-requires c κs =
-    let b = c .before .before in
-    let e = b .before in
-    let s = start e in
-    let l = b .get-cells-between-points in
-    (s .pre .0, (line-drawn (from e) (end e) (from-inside e) (end-within e) (l .result) (l .ensures .0), (s .pre .1 .from-in, s .pre .1 .wave-in)))
+    let d = c .before .before .before in
+    let s = start (ended d) in
+    (s .pre .0, (drawn d, (s .pre .1 .from-in, s .pre .1 .wave-in)))
 
 returns : tie.Need-returns
 unfolding extended cornerLine
 returns c =
-    let b = c .before .before .before in
-    let e = b .before in
-    let l = b .get-cells-between-points in
-    let drawn : take (l .result .count) (l .result .cells) ≡ line (cellAt (start e .args .corner)) (defined e) =
-    line-list (from e) (end e) (from-inside e) (end-within e) (l .result) (l .ensures .0)
-    ∙ ap₂ line (e .before .before .from-index .ensures) (end-is e) in
-    rw (← drawn) (c .mark-line .ensures)
+    let d = c .before .before .before .before in
+    let e = ended d in
+    let l = d .draw-cells-between-points in
+    let cells : take (l .result) (l .last .1 .1 .0) ≡ map indexOf (line (cellAt (start e .args .corner)) (defined e)) =
+    drawn-list (l .ensures) ∙ ap (map indexOf) (ap₂ line (e .before .before .from-index .ensures) (end-is e)) in
+    rw (← cells) (c .mark-line .ensures)
 
 pub extend-los-corner-spec : {M : Type 1} → statement M
 extend-los-corner-spec = tie.close (tie.spec
     (λ c κs. search needs)
     read-end-requires
-    (λ c κs. search needs) (λ c κs. search needs)
-    mark-line-requires returns)
+    (λ c κs. search needs)
+    draw-requires mark-line-requires returns)
