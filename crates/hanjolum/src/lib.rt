@@ -61,9 +61,11 @@ pub extern "C" fn hanjolum_sector(
     sheet: &mut [u8],
 ) -> BuildAnswer
     ensures answer { λ r. ⌜ r ≡ sectorAnswer (now (costs .entry)) (now (step .entry)) «has_previous» (now (previous .entry)) (now (sheet .entry)) ⌝ }
-    ensures sheet { λ _. ⌜ now (sheet .exit) ≡ sectorSheet (now (costs .entry)) (now (step .entry)) «has_previous» (now (previous .entry)) (now (sheet .entry)) ⌝ }
+    ensures sheet { λ _. ⌜ now (sheet .exit)
+        ≡ sectorSheet (now (costs .entry)) (now (step .entry)) «has_previous» (now (previous .entry)) (now (sheet .entry)) ⌝ }
     ensures planned { λ r. ⌜ (r .number ≡ 0 → Planned (now (costs .entry)) (targetOf (now (step .entry))) (r .field .field) (r .waves) (now (sheet .exit))) ⌝ }
-    ensures positions { λ r. ⌜ (r .number ≡ 0 → StartedPositions (now (costs .entry)) (targetOf (now (step .entry))) (r .field .field) (r .field .positions)) ⌝ }
+    ensures positions { λ r. ⌜ (r .number ≡ 0
+        → StartedPositions (now (costs .entry)) (targetOf (now (step .entry))) (r .field .field) (r .field .positions)) ⌝ }
 {
     sector::plan_sector(costs, step, has_previous, previous, sheet)
 }
@@ -73,7 +75,9 @@ pub extern "C" fn hanjolum_sector(
 pub extern "C" fn hanjolum_bounds(low: &[u8], high: &[u8], step: &[u8]) -> Bounds
     ensures answer { λ r. ⌜ r ≡ boundsAnswer (now (low .entry)) (now (high .entry)) (now (step .entry)) ⌝ }
     ensures bounded { λ r. ⌜ (r .number ≡ 0 → CostBounds (now (low .entry)) (now (high .entry)) (targetOf (now (step .entry))) (r .least) (r .greatest)) ⌝ }
-    ensures sure { λ r. ⌜ (r .number ≡ 0 → SureMarks (now (low .entry)) (now (high .entry)) (targetOf (now (step .entry))) (floorBytes (now (step .entry))) (r .least) (r .greatest) (r .sure)) ⌝ }
+    ensures sure { λ r. ⌜ (r .number ≡ 0
+        → SureMarks (now (low .entry)) (now (high .entry)) (targetOf (now (step .entry)))
+        (floorBytes (now (step .entry))) (r .least) (r .greatest) (r .sure)) ⌝ }
 {
     bounds::bounds(low, high, step)
 }

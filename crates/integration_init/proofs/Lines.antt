@@ -37,7 +37,8 @@ module _ (wave corner : ℕ) (drawn : List ℕ) (count : ℕ) (cells₀ corners�
     pub entered : previous < 100
     pub next : value ≡ wave + 1 + i
     pub ready : Ready cells corners listed
-    pub left : (queue : List ℕ) → whole wave corner drawn count (sightOf cells₀ corners₀ listed₀ queue) ≡ rest wave drawn count i previous (sightOf cells corners listed queue)
+    pub left : (queue : List ℕ)
+        → whole wave corner drawn count (sightOf cells₀ corners₀ listed₀ queue) ≡ rest wave drawn count i previous (sightOf cells corners listed queue)
     pub room : (queue : List ℕ) → Room (sightOf cells₀ corners₀ listed₀ queue) → Room (sightOf cells corners listed queue)
 
   pub walk-starts : corner < 100 → Ready cells₀ corners₀ listed₀ → Walking cells₀ corners₀ listed₀ corner (wave + 1) 0
@@ -77,14 +78,16 @@ module _ {wave corner : ℕ} {drawn : List ℕ} {count : ℕ} {cells₀ corners�
         ap (λ (l : List ℕ). lineMarked wave i previous l s) begins
         ∙ rw t (ap₂ (λ (k v : ℕ). lineMarked wave k n (slice (i + 1) count drawn) (marked v n s)) (sym (add-one i)) (sym (w .next)))
 
-    pub walk-goes : n < 100 → stopped cells previous n ≡ false → {cells' corners' : List ℕ} {listed' : ℕ} → Applied (marked value n) cells corners listed cells' corners' listed'
+    pub walk-goes : n < 100 → stopped cells previous n ≡ false → {cells' corners' : List ℕ} {listed' : ℕ}
+        → Applied (marked value n) cells corners listed cells' corners' listed'
         → Walking wave corner drawn count cells₀ corners₀ listed₀ cells' corners' listed' n (value + 1) (i + 1)
     walk-goes h t a = record {
       at = omega arith;
       entered = h;
       next = omega (arith, w .next);
       ready = applied-ready (w .ready) (marked value n) a;
-      left = λ queue. w .left queue ∙ goes (sightOf cells corners listed queue) t ∙ ap (rest wave drawn count (i + 1) n) (sym (applied-sight (w .ready) (marked value n) a queue));
+      left = λ queue. w .left queue ∙ goes (sightOf cells corners listed queue) t
+          ∙ ap (rest wave drawn count (i + 1) n) (sym (applied-sight (w .ready) (marked value n) a queue));
       room = λ queue k. subst Room (sym (applied-sight (w .ready) (marked value n) a queue)) (a queue .room (w .room queue k));
     }
 

@@ -24,7 +24,8 @@ use Rattle.started_field.proofs.Waves.{sight-room}
 use Rattle.integration_init.specs.Held.{sightOf, Ready}
 
 module _ (costs cells : List ℕ) (hundred : length costs ≡ 100) (full : length cells ≡ 100) where
-  pub wall-step : (i x : ℕ) → i < 100 → x ≡ wallOr (getD costs i 0) → take i cells ≡ take i (walls costs) → take (i + 1) (set cells i x) ≡ take (i + 1) (walls costs)
+  pub wall-step : (i x : ℕ) → i < 100 → x ≡ wallOr (getD costs i 0) → take i cells ≡ take i (walls costs)
+      → take (i + 1) (set cells i x) ≡ take (i + 1) (walls costs)
   unfolding walls
   wall-step i x h e t =
       rw add-one
@@ -42,7 +43,8 @@ module _ (held : WindowCells) (w : WindowHeld held) where
   abbrev count : ℕ
   count = held .count
 
-  pub portal-step : (i : ℕ) (cells : List ℕ) → i < count → withPortals (slice i count window) cells ≡ withPortals (slice (i + 1) count window) (set cells (getD window i 0) 0x80000)
+  pub portal-step : (i : ℕ) (cells : List ℕ) → i < count
+      → withPortals (slice i count window) cells ≡ withPortals (slice (i + 1) count window) (set cells (getD window i 0) 0x80000)
   unfolding withPortals
   portal-step i cells h =
       ap (λ (l : List ℕ). withPortals l cells) (slice-cons i count window 0 h (omega (arith, w .full, w .count-in)))

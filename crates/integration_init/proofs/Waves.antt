@@ -27,7 +27,8 @@ unfolding sightAfter
 wave-next line cells goal k wave s e f = ap₂ (λ (w : ℕ) (t : Sight). waveLooked line w (t .queue) (begun t)) e f
 
 -- the queue is no part of what is held
-pub held-as : {s : Sight} {cells corners : List ℕ} {count : ℕ} (queue : List ℕ) → Ready cells corners count → sightOf cells corners count queue ≡ s → Holds s cells corners count
+pub held-as : {s : Sight} {cells corners : List ℕ} {count : ℕ} (queue : List ℕ) → Ready cells corners count
+    → sightOf cells corners count queue ≡ s → Holds s cells corners count
 held-as {s} {cells} {corners} {count} queue r e =
     subst (λ (t : Sight). Holds t cells corners count) e (record { cells-held = refl; corners-held = r .held .corners-held; count-held = r .held .count-held })
 
@@ -51,11 +52,13 @@ held-wavefront {cells} {corners} {count} {queue} {queued} h = record {
 -- neighbours in order, from the k-th on
 module _ (line : ℕ → List ℕ) (wave from : ℕ) where
   pub around-step : (k : ℕ) (s : Sight) → k < 4
-      → lookedAround line wave from (drop k orthogonal) s ≡ lookedAround line wave from (drop (k + 1) orthogonal) (looked line wave from (sideOf k) (stepped (cellAt from) (sideOf k)) s)
+      → lookedAround line wave from (drop k orthogonal) s
+      ≡ lookedAround line wave from (drop (k + 1) orthogonal) (looked line wave from (sideOf k) (stepped (cellAt from) (sideOf k)) s)
   unfolding lookedAround
   around-step k s h =
       ap (λ (l : List CompassDir). lookedAround line wave from l s) (drop-cons orthogonal k Zero h)
-      ∙ ap (λ (n : ℕ). lookedAround line wave from (drop n orthogonal) (looked line wave from (sideOf k) (stepped (cellAt from) (sideOf k)) s)) (sym (add-one k))
+      ∙ ap (λ (n : ℕ). lookedAround line wave from (drop n orthogonal) (looked line wave from (sideOf k) (stepped (cellAt from) (sideOf k)) s))
+      (sym (add-one k))
 
   pub around-end : (s : Sight) → lookedAround line wave from (drop 4 orthogonal) s ≡ s
   unfolding lookedAround

@@ -46,7 +46,8 @@ module _ (cornerLine : ℕ → List ℕ) (cells : List ℕ) (goal : ℕ) where
   unfolding sightAfter waveLooked
   one-more k e =
       let s = sightAfter cornerLine cells goal k in
-      ap (λ (q : List ℕ). waveLooked cornerLine (suc k) q (begun s)) e ∙ ap (λ (q : List ℕ). record { cells = s .cells; corners = s .corners; queue = q }) (sym e)
+      ap (λ (q : List ℕ). waveLooked cornerLine (suc k) q (begun s)) e
+      ∙ ap (λ (q : List ℕ). record { cells = s .cells; corners = s .corners; queue = q }) (sym e)
 
   pub ended : (k n : ℕ) → k ≤ n → sightAfter cornerLine cells goal k .queue ≡ []
       → sightAfter cornerLine cells goal n ≡ sightAfter cornerLine cells goal k
@@ -67,7 +68,8 @@ module _ (goal : ℕ) (goal-in : goal < 100) (costs : List ℕ) (hundred : lengt
   before : (i : ℕ) → i < 100 → Is i (getD (withGoal goal (walls costs)) i 0)
   unfolding withGoal
   before i h =
-      at-set (Is i) (walls costs) goal 0x20000 i (omega (arith, walls-length costs)) (λ q. chosen q refl) (unchosen costs (λ i. i ≡ goal) 0x20000 i (omega arith))
+      at-set (Is i) (walls costs) goal 0x20000 i (omega (arith, walls-length costs)) (λ q. chosen q refl)
+      (unchosen costs (λ i. i ≡ goal) 0x20000 i (omega arith))
 
   abbrev start : Sight
   start = record { cells = withGoal goal (walls costs); corners = []; queue = [] }
@@ -95,7 +97,8 @@ module _ (goal : ℕ) (goal-in : goal < 100) (costs : List ℕ) (hundred : lengt
     same = λ n. refl;
     at-goal = start-goal;
     at-wall = λ i h t. let w = only-wall costs _ _ refl i _ (before i h) t in wall-word costs _ _ i _ (before i h) (w .0) (w .1);
-    at-other = λ i h t g. unseen (other-word costs _ _ i _ (before i h) (λ c. true≢false (sym (ap isImpassable (wall-word costs _ _ i _ (before i h) c g)) ∙ t)) g);
+    at-other = λ i h t g. unseen (other-word costs _ _ i _ (before i h)
+        (λ c. true≢false (sym (ap isImpassable (wall-word costs _ _ i _ (before i h) c g)) ∙ t)) g);
     all-listed = λ i h t. absurd (true≢false (sym t ∙ fails costs _ _ isBlocked refl refl refl i _ (before i h)));
   }
 
@@ -127,7 +130,14 @@ module _ (goal : ℕ) (goal-in : goal < 100) (costs : List ℕ) (hundred : lengt
       stays : (c : ℕ) → c < 100 → Blocked c → isBlocked (getD (s .cells) c 0) ≡ true
 
     start-first : First goal goal-in wallsOf cornerLine lines Never Never start
-    start-first = record { sound = start-sound; met-least = one; met-queued = λ h. absurd (omega arith); all-next = λ i h. absurd (omega arith); stays = λ c h k. absurd k; stays-met = λ c h k. absurd k }
+    start-first = record {
+      sound = start-sound;
+      met-least = one;
+      met-queued = λ h. absurd (omega arith);
+      all-next = λ i h. absurd (omega arith);
+      stays = λ c h k. absurd k;
+      stays-met = λ c h k. absurd k;
+    }
 
     first-left : Left 1 (sight 1)
     unfolding sightAfter waveLooked
@@ -142,7 +152,14 @@ module _ (goal : ℕ) (goal-in : goal < 100) (costs : List ℕ) (hundred : lengt
 
     away : (from : ℕ) (d : CompassDir) (x : FieldCell) (side : CompassDir) (a b : FieldCell) → Apart from → isSide d ≡ true
         → Found wallsOf from d x side a b → indexOf b ≡ goal → ⊥
-    away from d x side a b f o g e = f (record { way = d; wall-cell = x; side = side; free-cell = a; is-side = o; found = goal-found goal goal-in wallsOf from d x side a b g e })
+    away from d x side a b f o g e = f (record {
+      way = d;
+      wall-cell = x;
+      side = side;
+      free-cell = a;
+      is-side = o;
+      found = goal-found goal goal-in wallsOf from d x side a b g e;
+    })
 
     next : (from : ℕ) (d : CompassDir) (n : FieldCell) → Apart from → isSide d ≡ true → stepped (cellAt from) d ≡ Cell n
         → wallsOf (indexOf n) ≡ false → (Blocked (indexOf n) → ⊥) → Apart (indexOf n)
@@ -153,14 +170,26 @@ module _ (goal : ℕ) (goal-in : goal < 100) (costs : List ℕ) (hundred : lengt
     left-wave k s l = go (s .queue) refl
       where
         go : (q : List ℕ) → s .queue ≡ q → Left (suc k) (waveLooked cornerLine (suc k) q (begun s))
-        go [] e = record { sound = sound-begins goal wallsOf s (l .sound); met-queued = λ h. absurd (omega arith); all-apart = λ i h. absurd (omega arith); stays = l .stays }
+        go [] e = record {
+          sound = sound-begins goal wallsOf s (l .sound);
+          met-queued = λ h. absurd (omega arith);
+          all-apart = λ i h. absurd (omega arith);
+          stays = l .stays;
+        }
         go (n ∷ ns) e =
             let some : 0 < length (s .queue) = omega (arith, ap length e) in
             let least : k + 2 ≤ met goal wallsOf s = l .met-queued some in
             let few : suc k ≤ 100 = omega (arith, count-length isMet (s .cells), l .sound .room .full) in
             let p = kept-wave (wave-keeps goal wallsOf cornerLine lines (suc k) (k + 2) (omega arith) few (omega arith) Apart Apart Blocked Never away next)
             (n ∷ ns) (begun s) (subst (Each Apart) e (l .all-apart))
-            (record { sound = sound-begins goal wallsOf s (l .sound); met-least = least; met-queued = λ h. absurd (omega arith); all-next = λ i h. absurd (omega arith); stays = l .stays; stays-met = λ c h q. absurd q }) in
+            (record {
+              sound = sound-begins goal wallsOf s (l .sound);
+              met-least = least;
+              met-queued = λ h. absurd (omega arith);
+              all-next = λ i h. absurd (omega arith);
+              stays = l .stays;
+              stays-met = λ c h q. absurd q;
+            }) in
             record { sound = p .sound; met-queued = λ h. omega (arith, p .met-queued h); all-apart = p .all-next; stays = p .stays }
 
     left : (k : ℕ) → Left (suc k) (sight (suc k))
@@ -188,7 +217,8 @@ module _ (goal : ℕ) (goal-in : goal < 100) (costs : List ℕ) (hundred : lengt
 
     sight-ends : (k : ℕ) → 99 ≤ k → sight k .queue ≡ []
     sight-ends zero h = absurd (omega arith)
-    sight-ends (suc k) h = empty (sight (suc k) .queue) (λ some. omega (arith, left k .met-queued some, count-length isMet (sight (suc k) .cells), left k .sound .room .full))
+    sight-ends (suc k) h = empty (sight (suc k) .queue)
+        (λ some. omega (arith, left k .met-queued some, count-length isMet (sight (suc k) .cells), left k .sound .room .full))
 
     pub sizes : Sizes cornerLine (walls costs) goal
     sizes = record {

@@ -16,7 +16,8 @@ use Rattle.integration_init.proofs.init.Tie as tie
 
 returns : tie.Need-returns
 returns c = let a = c .before .before .before .before .args in
-    promised (now (a .costs)) (now (a .step)) _ (c .refused .ensures ∙ costs-refused (now (a .costs)) (now (a .step)) (λ e. omega (arith, c .before .if1 .taken)))
+    promised (now (a .costs)) (now (a .step)) _
+    (c .refused .ensures ∙ costs-refused (now (a .costs)) (now (a .step)) (λ e. omega (arith, c .before .if1 .taken)))
 
 returns-2 : tie.Need-returns-2
 returns-2 c =
