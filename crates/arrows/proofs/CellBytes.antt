@@ -55,7 +55,8 @@ module _ (costs window : List ℕ) (full : length costs ≡ 100) (window-in : Wi
 
 -- ---- the byte of each kind of cell
 
-module _ {costs window cells corners built : List ℕ} (s : Sector costs window cells corners built) (portal : PortalWindow) (has : Bool) (previous : List ℕ) where
+module _ {costs window cells corners built : List ℕ} (s : Sector costs window cells corners built)
+    (portal : PortalWindow) (has : Bool) (previous : List ℕ) where
   abbrev bytes : List ℕ
   bytes = flowBuild built (newBytes portal window built has previous)
 

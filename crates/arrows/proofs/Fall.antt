@@ -119,7 +119,11 @@ module _ {costs window cells corners built : List ℕ} (s : Sector costs window 
   walk-into : (x : ℕ) → x < 100 → value x < 65535 → Arrived x
   walk-into x h r =
       by-kind x h
-      (λ a e. (zero, start {x = x} {s = value x} (rw (s .started .list) (among-mem x window a)) (omega (arith, ap low e, ap low (s .started .portal-cell x a))), omega arith))
+      (λ a e. (
+        zero,
+        start {x = x} {s = value x} (rw (s .started .list) (among-mem x window a)) (omega (arith, ap low e, ap low (s .started .portal-cell x a))),
+        omega arith,
+      ))
       (λ c a e. absurd (omega (arith, ap low e)))
       (λ p l. plain p l (s .least .attained x))
     where

@@ -97,7 +97,9 @@ module _ (costs window cells corners built : List ℕ) (s : Sector costs window 
       (λ p l. absurd (true≢false (sym t ∙ small-untaken (getD built n 0) l)))
 
   next-of : (x : ℕ) → Plain s x → getD built x 0 < 2 ^ 16 → value s x < 65535 → Next x
-  next-of x p l r = go (lookAround built x) (plain-byte s portal has previous x p l) (found built x (p .inside) reached (value s x) (f .cell) (d .0) (d .1) (d .2) (f .lower))
+  next-of x p l r =
+      go (lookAround built x) (plain-byte s portal has previous x p l)
+      (found built x (p .inside) reached (value s x) (f .cell) (d .0) (d .1) (d .2) (f .lower))
     where
       f : Lower s x
       f = falls s cost-from x p r
@@ -147,7 +149,8 @@ module _ (costs window cells corners built : List ℕ) (s : Sector costs window 
   unfolding pointed
   plain-unreached x p l u = rw (plain-byte s portal has previous x p l) (go (lookAround built x) (nothing built x (p .inside) unreached))
     where
-      unreached : (d : CompassDir) (n : ℕ) → Sees built x d n → (low (getD built n 0) ≡ 65535) × ((isGoal (getD built n 0) || isPortal (getD built n 0)) ≡ false)
+      unreached : (d : CompassDir) (n : ℕ) → Sees built x d n
+          → (low (getD built n 0) ≡ 65535) × ((isGoal (getD built n 0) || isPortal (getD built n 0)) ≡ false)
       unreached d n e =
           let w : value s n < 65535 → ⊥ = λ r. u (reached-back s x d n e (small-flag (getD built x 0) 25 (omega arith)) r) in
           let v : low (getD built n 0) ≡ 65535 = omega arith in (
@@ -169,9 +172,15 @@ module _ (costs window cells corners built : List ℕ) (s : Sector costs window 
 
   cell-marked : (x : ℕ) → x < 100 → Wall costs target x ⊎ (Reached built x → ⊥) → isImpassable (getD bytes x 0) ≡ true
   cell-marked x h (inl w) =
-      by-kind s x h (λ a e. absurd (w .not-window (among-mem x window a))) (λ c a e. ap isImpassable (wall-byte s portal has previous x h a e)) (λ p l. absurd (p .no-wall (w .impassable)))
+      by-kind s x h
+      (λ a e. absurd (w .not-window (among-mem x window a)))
+      (λ c a e. ap isImpassable (wall-byte s portal has previous x h a e))
+      (λ p l. absurd (p .no-wall (w .impassable)))
   cell-marked x h (inr u) =
-      by-kind s x h (λ a e. absurd (u (omega (arith, ap low e)))) (λ c a e. ap isImpassable (wall-byte s portal has previous x h a e)) (λ p l. plain-unreached x p l (λ v. u (omega arith)))
+      by-kind s x h
+      (λ a e. absurd (u (omega (arith, ap low e))))
+      (λ c a e. ap isImpassable (wall-byte s portal has previous x h a e))
+      (λ p l. plain-unreached x p l (λ v. u (omega arith)))
 
   sector-arrows : ArrowsLead costs target built bytes
   sector-arrows = record {

@@ -266,7 +266,8 @@ module _ (cells : List ℕ) (i : ℕ) (h : i < 100) where
     noted m d s [] k l = absurd (List·Memᴰ·not-nil k)
     noted m d s (e ∷ ds) k l = go (List·Memᴰ·cases-cons k) (λ k′. noted m d s ds k′ (lookAt cells i l e))
       where
-        go : (d ≡ e) ⊎ List·Memᴰ d ds → (List·Memᴰ d ds → AtMost (low (at m)) (lookAlong cells i ds (lookAt cells i l e))) → AtMost (low (at m)) (lookAlong cells i ds (lookAt cells i l e))
+        go : (d ≡ e) ⊎ List·Memᴰ d ds → (List·Memᴰ d ds → AtMost (low (at m)) (lookAlong cells i ds (lookAt cells i l e)))
+            → AtMost (low (at m)) (lookAlong cells i ds (lookAt cells i l e))
         go (inl q) ih = stays (low (at m)) ds (lookAt cells i l e) (noted-at m l e (rw q at s))
         go (inr k′) ih = ih k′
 
@@ -278,7 +279,9 @@ module _ (cells : List ℕ) (i : ℕ) (h : i < 100) where
 
     pub found : (b m : ℕ) (d : CompassDir) → List·Memᴰ d all → Sees cells i d m → low (at m) < b → Found b (lookAround cells i)
     unfolding lookAround
-    found b m d k s v = go (lookAlong cells i all (Looking Zero 65535)) (sound all (Looking Zero 65535) (inl (refl, refl))) (noted m d s all k (Looking Zero 65535))
+    found b m d k s v =
+        go (lookAlong cells i all (Looking Zero 65535)) (sound all (Looking Zero 65535) (inl (refl, refl)))
+        (noted m d s all k (Looking Zero 65535))
       where
         go : (l : Look) → Sound l → AtMost (low (at m)) l → Found b l
         go (Looking best value) (inl z) a = absurd (omega (arith, z .1, reached d m s))

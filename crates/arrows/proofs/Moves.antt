@@ -86,7 +86,9 @@ pub reads-so : (byte x y : ℕ) → y < 100 → Away (byte % 16) x y → stepped
 unfolding dirOf
 reads-so byte x y h w =
     let a = byte % 16 in
-    let e = bits-read a (omega arith) (rw (lt-ltb 0 a (w .somewhere), le-leb (northward a + southward a) 1 (w .not-north-south), le-leb (eastward a + westward a) 1 (w .not-east-west))) in
+    let e =
+    bits-read a (omega arith)
+    (rw (lt-ltb 0 a (w .somewhere), le-leb (northward a + southward a) 1 (w .not-north-south), le-leb (eastward a + westward a) 1 (w .not-east-west))) in
     steps-to (cellAt x) (dirWith all a) (cellAt y) (arrives (dirWith all a) x y h (subst (λ (b : ℕ). Away b x y) (sym e) w))
 
 pub away-once : (a x y z : ℕ) → Away a x y → Away a x z → y ≡ z

@@ -104,7 +104,8 @@ fn run(low: &[u8], high: &[u8], target: Target) -> Bounds
 pub fn bounds(low: &[u8], high: &[u8], step: &[u8]) -> Bounds
     ensures answer { λ r. ⌜ r ≡ boundsAnswer (now (low .entry)) (now (high .entry)) (now (step .entry)) ⌝ }
     ensures bounded { λ r. ⌜ (r .number ≡ 0 → CostBounds (now (low .entry)) (now (high .entry)) (targetOf (now (step .entry))) (r .least) (r .greatest)) ⌝ }
-    ensures sure { λ r. ⌜ (r .number ≡ 0 → SureMarks (now (low .entry)) (now (high .entry)) (targetOf (now (step .entry))) (floorBytes (now (step .entry))) (r .least) (r .greatest) (r .sure)) ⌝ }
+    ensures sure { λ r. ⌜ (r .number ≡ 0 → SureMarks (now (low .entry)) (now (high .entry)) (targetOf (now (step .entry)))
+        (floorBytes (now (step .entry))) (r .least) (r .greatest) (r .sure)) ⌝ }
 {
     let number = bounds_number(low, high, step);
     if number != 0 {

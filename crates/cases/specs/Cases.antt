@@ -20,7 +20,21 @@ use Rattle.integration_field.specs.Wave.{relaxed, offeredAround, offeredBy, cha
 use Rattle.integration_field.specs.Rest.{total}
 use Rattle.integration_field.specs.Build.{isEmpty, settle, build}
 use Rattle.integration_field.specs.Position.{firstPosition, arrivesFrom, positionAt}
-use Rattle.started_field.specs.Sight.{walls, withPortals, withGoal, marked, lineMarked, seen, extended, sideTried, wallMet, neighbourLooked, lookedAround, waveLooked, sightAfter}
+use Rattle.started_field.specs.Sight.{
+  walls,
+  withPortals,
+  withGoal,
+  marked,
+  lineMarked,
+  seen,
+  extended,
+  sideTried,
+  wallMet,
+  neighbourLooked,
+  lookedAround,
+  waveLooked,
+  sightAfter,
+}
 use Rattle.started_field.specs.CornerLine.{cornerLine}
 use Rattle.started_field.specs.Started.{sightFrom, startedFrom, startedAt, started, initNumber}
 use Rattle.flow_bits.specs.Byte.{isGoal, isPortalGoal, hasLineOfSight, isWall}
@@ -132,5 +146,9 @@ cases =
     ∷ []
 
 pub as-expected : map (λ (c : Case). c .given) cases ≡ map (λ (c : Case). c .expected) cases
-unfolding onEdge stepped table toward nearest shallow steep line firstEnding slantedEnd endBy lineEnd edge cellsBetween targetOf passesWall relaxed offeredAround offeredBy changedFrom next total isEmpty settle build firstPosition arrivesFrom walls withPortals withGoal marked lineMarked seen extended sideTried wallMet neighbourLooked lookedAround waveLooked sightAfter cornerLine sightFrom startedFrom startedAt started initNumber stepNumberOn sectorNumber startOf facingBits facingChoice windowBits newByte newBytes look.seen lookAround pointed builtByte flowBuild sectorBytes
+unfolding onEdge stepped table toward nearest shallow steep line firstEnding slantedEnd endBy lineEnd edge cellsBetween targetOf
+    passesWall relaxed offeredAround offeredBy changedFrom next total isEmpty settle build firstPosition arrivesFrom
+    walls withPortals withGoal marked lineMarked seen extended sideTried wallMet neighbourLooked lookedAround waveLooked sightAfter
+    cornerLine sightFrom startedFrom startedAt started initNumber stepNumberOn sectorNumber
+    startOf facingBits facingChoice windowBits newByte newBytes look.seen lookAround pointed builtByte flowBuild sectorBytes
 as-expected = refl

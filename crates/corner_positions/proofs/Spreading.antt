@@ -226,7 +226,8 @@ module _ (costs before corners built entered : List ℕ) (f : BuiltOn costs befo
           index = b .index;
         }
 
-    pub around : (c : FieldCell) (ds : List CompassDir) (s : Placing) → QueueRoom s → Mines c ds → Spreads s → Around c ds s (placedAround entered value i c ds s)
+    pub around : (c : FieldCell) (ds : List CompassDir) (s : Placing) → QueueRoom s → Mines c ds → Spreads s
+        → Around c ds s (placedAround entered value i c ds s)
     unfolding placedAround
     around c [] s r m q = record { around-spread = q; around-grown = grown-none s; around-least = λ z b v. absurd (List·Memᴰ·not-nil (b .listed)) }
     around c (d ∷ ds) s r m q =

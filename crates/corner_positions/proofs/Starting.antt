@@ -19,7 +19,21 @@ use Rattle.fields.specs.Neighbours.{BesideAt}
 use Rattle.waves.specs.Walks.{start}
 use Rattle.integration_field.specs.Word.{low}
 use Rattle.integration_field.specs.Listed.{Indexes, noPositions}
-use Rattle.corner_positions.specs.Inner.{isPlaced, enteredFrom, Placing, placing, QueueRoom, Grown, placedAt, BuiltOn, Mine, Spread, Sources, Gone, Decided}
+use Rattle.corner_positions.specs.Inner.{
+  isPlaced,
+  enteredFrom,
+  Placing,
+  placing,
+  QueueRoom,
+  Grown,
+  placedAt,
+  BuiltOn,
+  Mine,
+  Spread,
+  Sources,
+  Gone,
+  Decided,
+}
 use Rattle.corner_positions.proofs.Room.{Tried, taken, held, apart, tried, grown-at}
 use Rattle.corner_positions.proofs.Spreading.{least, lowered, entered-at, spread-at, tried-least}
 
@@ -82,7 +96,8 @@ module _ (costs before corners built entered : List ℕ) (f : BuiltOn costs befo
               omega (arith, one, g .places-kept (getD corners j 0) (λ a. absurd (omega arith)))
 
   -- after the last corner
-  pub decided : (s : Placing) → QueueRoom s → Gone costs before corners built entered (length corners) s → Decided costs before corners built entered (s .places)
+  pub decided : (s : Placing) → QueueRoom s → Gone costs before corners built entered (length corners) s
+      → Decided costs before corners built entered (s .places)
   decided s r d = record {
     decided-full = r .full;
     decided-mine = d .spread .mine;

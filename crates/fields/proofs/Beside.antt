@@ -65,8 +65,11 @@ beside-step a b r = pick (r .one-apart)
 
     pick : ((a .column ≡ b .column) × ByOne (a .row) (b .row)) ⊎ ((a .row ≡ b .row) × ByOne (a .column) (b .column))
         → (d : CompassDir) × List·Memᴰ d orthogonal × (stepped a d ≡ Cell b)
-    pick (inl (p, inl q)) =
-        (South, List·Memᴰ·tail (List·Memᴰ·tail (List·Memᴰ·head refl)), steps-to a South b (record { pointing = refl; column-at = omega arith; row-at = omega arith; within = oo }))
+    pick (inl (p, inl q)) = (
+      South,
+      List·Memᴰ·tail (List·Memᴰ·tail (List·Memᴰ·head refl)),
+      steps-to a South b (record { pointing = refl; column-at = omega arith; row-at = omega arith; within = oo }),
+    )
     pick (inl (p, inr q)) =
         (North, List·Memᴰ·head refl, steps-to a North b (record { pointing = refl; column-at = omega arith; row-at = omega arith; within = oo }))
     pick (inr (p, inl q)) =

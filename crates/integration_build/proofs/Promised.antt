@@ -13,7 +13,8 @@ use Rattle.integration_field.proofs.Answers.{answer-promises}
 use Rattle.least_walks.specs.Promise.{BuildsStarted}
 use Rattle.least_walks.proofs.Promise.{builds-started}
 
-pub promised : (costs : List ℕ) (f : IntegrationField) → length (f .field) ≡ 100 → (n : ℕ) → buildNumber costs f ≡ n → (r : BuildAnswer) → r ≡ answerOf n costs f
+pub promised : (costs : List ℕ) (f : IntegrationField) → length (f .field) ≡ 100 → (n : ℕ) → buildNumber costs f ≡ n
+    → (r : BuildAnswer) → r ≡ answerOf n costs f
     → (r ≡ buildAnswer costs f)
     × ((r .number ≡ 0 → LeastWalks costs (f .field) (listOf f) (r .field .field))
     × ((r .number ≡ 0 → Counted costs (f .field) (listOf f) (r .field .field) (r .waves))

@@ -14,7 +14,8 @@ use Rattle.integration_field.specs.Diagonal.{wallAt, passesWall}
 module _ (cells : List ℕ) (a b : FieldCell) (ia : Inside a) (ib : Inside b) where
   pub passes-at :
       passesWall cells (indexOf a) (indexOf b)
-      ≡ ((not (eqb (a .row) (b .row)) && not (eqb (a .column) (b .column))) && (wallAt cells (a .row * 10 + b .column) || wallAt cells (b .row * 10 + a .column)))
+      ≡ ((not (eqb (a .row) (b .row)) && not (eqb (a .column) (b .column)))
+      && (wallAt cells (a .row * 10 + b .column) || wallAt cells (b .row * 10 + a .column)))
   unfolding passesWall
   passes-at =
       let p : indexOf a / 10 ≡ a .row = omega (arith, ia .column-in) in

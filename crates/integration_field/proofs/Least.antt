@@ -26,7 +26,19 @@ use Rattle.integration_field.specs.Build.{isEmpty, build}
 use Rattle.integration_field.specs.Walks.{grid, MayEnter, Permitted}
 use Rattle.integration_field.specs.Promise.{Walked, LeastWalks, valueAt, OpenAt, Changes, Counted}
 use Rattle.integration_field.proofs.Neighbours.{neighbour-beside, beside-neighbour}
-use Rattle.integration_field.proofs.Offers.{Held, kept, written, held-le, held-open, Made, Offer, offers-made, offers-taken, differs-changed, changed-differs}
+use Rattle.integration_field.proofs.Offers.{
+  Held,
+  kept,
+  written,
+  held-le,
+  held-open,
+  Made,
+  Offer,
+  offers-made,
+  offers-taken,
+  differs-changed,
+  changed-differs,
+}
 use Rattle.integration_field.proofs.Settled.{Settled, settled, next-wave}
 
 -- ---- lists
@@ -259,7 +271,10 @@ module _ (costs cells corners : List ℕ) where
     none-after k h = no-members (changed (suc k)) (λ x m. let c : k < n = numbered k .1 (x, changed-fell (suc k) x m) in omega arith)
 
     rests-from : (m k : ℕ) (w : Wave) → w ≡ waveAt costs cells corners k → n ≤ m + k → Rests costs m w
-    rests-from zero k w e h = ap (λ (u : Wave). next costs u .changed) e ∙ ap (λ (u : Wave). u .changed) (next-wave costs cells corners k) ∙ none-after k (omega arith)
+    rests-from zero k w e h =
+        ap (λ (u : Wave). next costs u .changed) e
+        ∙ ap (λ (u : Wave). u .changed) (next-wave costs cells corners k)
+        ∙ none-after k (omega arith)
     rests-from (suc m) k w e h = rests-from m (suc k) (next costs w) (ap (next costs) e ∙ next-wave costs cells corners k) (omega arith)
 
     pub rests-within : (m : ℕ) → 99 ≤ m → Rests costs m (record { cells = cells; changed = corners })

@@ -114,7 +114,8 @@ module _ (costs : List ℕ) (v : ℕ) where
     abbrev Around : List CompassDir → ℕ → ℕ → Type 0
     Around ds z s = Neighbour c ds z × (s ≡ v + getD costs z 0)
 
-    step-made : (d : CompassDir) (ds : List CompassDir) (t : Stepped) (cells : List ℕ) → stepped c d ≡ t → Made (Around (d ∷ ds)) cells (offered costs v t cells)
+    step-made : (d : CompassDir) (ds : List CompassDir) (t : Stepped) (cells : List ℕ) → stepped c d ≡ t
+        → Made (Around (d ∷ ds)) cells (offered costs v t cells)
     step-made d ds (Cell n) cells e = made-map
         (λ z s o. (record { way = d; listed = List·Memᴰ·head refl; cell = n; step = e; index = o .0 }, o .1))
         (taken-made (indexOf n) cells (taken (indexOf n) cells))
@@ -195,7 +196,8 @@ cons-cases {ℓ} : {X : Type ℓ} (b : Bool) (x : ℕ) (l : List ℕ) (y : ℕ) 
 cons-cases true x l y m f g = ⊎-elim (f refl) g (List·Memᴰ·cases-cons m)
 cons-cases false x l y m f g = g m
 
-pub differs-changed : (i : ℕ) (olds news : List ℕ) (x : ℕ) → (getD news x 0 ≡ getD olds x 0 → ⊥) → length news ≡ length olds → List·Memᴰ (i + x) (changedFrom i olds news)
+pub differs-changed : (i : ℕ) (olds news : List ℕ) (x : ℕ) → (getD news x 0 ≡ getD olds x 0 → ⊥) → length news ≡ length olds
+    → List·Memᴰ (i + x) (changedFrom i olds news)
 unfolding changedFrom
 differs-changed i [] [] x h e = absurd (h refl)
 differs-changed i [] (b ∷ news) x h e = absurd (omega arith)

@@ -82,7 +82,8 @@ module _ (costs : List ℕ) where
             })
 
     -- the answer is that of any number of waves that is enough
-    pub settle-build : (n : ℕ) (h : Rests costs n (record { cells = cells; changed = corners })) → settle costs n (record { cells = cells; changed = corners }) h ≡ build costs cells corners
+    pub settle-build : (n : ℕ) (h : Rests costs n (record { cells = cells; changed = corners }))
+        → settle costs n (record { cells = cells; changed = corners }) h ≡ build costs cells corners
     unfolding build
     settle-build n h = settle-any n (total cells) (record { cells = cells; changed = corners }) h (rest costs (total cells) _ (le-refl (total cells)))
 

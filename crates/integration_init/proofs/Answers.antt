@@ -30,5 +30,6 @@ module _ (costs step : List ℕ) where
     accepts e = rw (eq-eqb (length costs) 100 hundred, e)
 
   pub promised : (r : InitAnswer) → r ≡ initAnswer costs step
-      → (r ≡ initAnswer costs step) × ((r .number ≡ 0 → StartedField costs (targetOf step) (r .field)) × (r .number ≡ 0 → OnceBuilt costs (targetOf step) (r .field)))
+      → (r ≡ initAnswer costs step)
+      × ((r .number ≡ 0 → StartedField costs (targetOf step) (r .field)) × (r .number ≡ 0 → OnceBuilt costs (targetOf step) (r .field)))
   promised r e = (e, (answer-told costs step r e, once-built costs step r e))

@@ -17,7 +17,8 @@ use Rattle.started_field.specs.Room.{Room}
 use Rattle.integration_init.specs.Held.{sightOf, Holds, HoldsAll, Ready, ReadyAll, Leaves, Applied}
 
 module _ {s : Sight} {cells corners : List ℕ} {count : ℕ} where
-  held-sight : Holds s cells corners count → (queue : List ℕ) → sightOf cells corners count queue ≡ record { cells = s .cells; corners = s .corners; queue = queue }
+  held-sight : Holds s cells corners count → (queue : List ℕ)
+      → sightOf cells corners count queue ≡ record { cells = s .cells; corners = s .corners; queue = queue }
   held-sight h queue =
       let e : take count corners ≡ s .corners = ap₂ (λ (n : ℕ) (l : List ℕ). take n l) (h .count-held) (h .corners-held) ∙ padded-list (s .corners) in
       ap₂ (λ (x y : List ℕ). record { cells = x; corners = y; queue = queue }) (h .cells-held) e
@@ -32,8 +33,11 @@ module _ {s : Sight} {cells corners : List ℕ} {count : ℕ} where
 
 module _ {cells corners : List ℕ} {count : ℕ} (ready : Ready cells corners count) where
   pub applied-still : Applied (λ s. s) cells corners count cells corners count
-  applied-still queue =
-      record { room = λ r. r; queued = refl; held = record { cells-held = refl; corners-held = ready .held .corners-held; count-held = ready .held .count-held } }
+  applied-still queue = record {
+    room = λ r. r;
+    queued = refl;
+    held = record { cells-held = refl; corners-held = ready .held .corners-held; count-held = ready .held .count-held };
+  }
 
   module _ (step : Sight → Sight) {cells' corners' : List ℕ} {count' : ℕ} (a : Applied step cells corners count cells' corners' count') where
     pub applied-sight : (queue : List ℕ) → sightOf cells' corners' count' queue ≡ step (sightOf cells corners count queue)

@@ -38,7 +38,13 @@ module _ {cells corners : List ℕ} {count : ℕ} {queue : List ℕ} {queued : �
       → HoldsAll (step now) cells' corners' count' queue queued
   wall-held step a =
       let l = a (take queued queue) in
-      record { room = l .room (ready .room); held = l .held; full = ready .full; queue-held = sym (l .queued); queued-held = ready .queued-held ∙ ap length (sym (l .queued)) }
+      record {
+        room = l .room (ready .room);
+        held = l .held;
+        full = ready .full;
+        queue-held = sym (l .queued);
+        queued-held = ready .queued-held ∙ ap length (sym (l .queued));
+      }
 
   module _ (n : ℕ) (inside : n < 100) (l : isLos (getD cells n 0) ≡ false) (b : isBlocked (getD cells n 0) ≡ false) where
     pub seen-room : queued < 100

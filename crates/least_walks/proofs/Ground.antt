@@ -89,4 +89,5 @@ module _ (costs : List ℕ) (full : length costs ≡ 100) (cells corners : List 
         go : (x : ℕ) → Enterable costs cells corners WindowWall NoGoal x → Dec (List·Memᴰ x window) → List·Memᴰ x corners ⊎ (low (getD cells x 0) ≡ 65535)
         go x o (yes m) = inl (rw (g .list) m)
         go x o (no n) =
-            inr (rw (g .other-cell x (o .inside) (λ e. o .no-wall (record { impassable = e; not-goal = o .no-goal; not-window = λ m. absurd (n m) })) (no-window x n)))
+            inr (rw (g .other-cell x (o .inside)
+            (λ e. o .no-wall (record { impassable = e; not-goal = o .no-goal; not-window = λ m. absurd (n m) })) (no-window x n)))

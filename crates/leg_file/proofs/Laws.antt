@@ -50,7 +50,9 @@ numbers file = either (isLegFile file) .1
 pub good : (file : List ℕ) → fileNumber file ≡ 0 → Good file
 unfolding fileNumber isLegFile
 good file h =
-    let whole = both (isMarked file && eqb (versionOf file) 1 && isCount (countOf file)) (eqb (length file) (6 + 8 * countOf file)) (either (isLegFile file) .0 h) in
+    let whole =
+    both (isMarked file && eqb (versionOf file) 1 && isCount (countOf file)) (eqb (length file) (6 + 8 * countOf file))
+    (either (isLegFile file) .0 h) in
     let counted = both (isMarked file && eqb (versionOf file) 1) (isCount (countOf file)) (whole .0) in
     let count = both (leb 1 (countOf file)) (leb (countOf file) 16) (counted .1) in
     let version = both (isMarked file) (eqb (versionOf file) 1) (counted .0) in
@@ -64,7 +66,13 @@ good file h =
 
 pub right : (file : List ℕ) → Good file → fileNumber file ≡ 0
 unfolding fileNumber isLegFile
-right file p = rw (p .mark, eq-eqb (versionOf file) 1 (p .version), le-leb 1 (countOf file) (p .some), le-leb (countOf file) 16 (p .few), eq-eqb (length file) (6 + 8 * countOf file) (p .long))
+right file p = rw (
+  p .mark,
+  eq-eqb (versionOf file) 1 (p .version),
+  le-leb 1 (countOf file) (p .some),
+  le-leb (countOf file) 16 (p .few),
+  eq-eqb (length file) (6 + 8 * countOf file) (p .long),
+)
 
 pub wrong : (file : List ℕ) → (Good file → ⊥) → fileNumber file ≡ 14
 wrong file bad = ⊎-elim (λ h. absurd (bad (good file h))) (λ h. h) (numbers file)
@@ -203,7 +211,8 @@ writes steps file after e s =
 -- ---- the bytes stored: the six of the head, and the steps copied behind them
 
 pub copied : (steps file : List ℕ) → length file ≡ 6 + length steps
-    → take 6 file ++ ((take (length steps) steps ++ drop (length steps) (take (length file - 6) (drop 6 file))) ++ drop (length file - 6) (drop 6 file)) ≡ take 6 file ++ steps
+    → take 6 file ++ ((take (length steps) steps ++ drop (length steps) (take (length file - 6) (drop 6 file))) ++ drop (length file - 6) (drop 6 file))
+    ≡ take 6 file ++ steps
 copied steps file long =
     let rest = drop 6 file in
     let k = length file - 6 in

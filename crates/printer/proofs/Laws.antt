@@ -50,7 +50,8 @@ printed-answer input a s e f =
     let step = drop 100 input in
     let n = sectorNumber costs step false [] (replicate 100 0) in
     let whole : take (length input - 100) step ≡ step = take-all (length input - 100) step (omega (arith, length-drop 100 input)) in
-    rw (e, f, whole, number-of n costs (started costs (targetOf step))) (rendered-by n (sectorBytes costs (targetOf step) (portalOf step) false []) (replicate 100 0) (eqb n 0) refl)
+    rw (e, f, whole, number-of n costs (started costs (targetOf step)))
+    (rendered-by n (sectorBytes costs (targetOf step) (portalOf step) false []) (replicate 100 0) (eqb n 0) refl)
 
 pub printed-window : (input : List ℕ) → 100 ≤ length input → stepNumberOn (take 100 input) (drop 100 input) ≡ 0 → markOf (drop 100 input) ≡ 1
     → printed input ≡ noText 17

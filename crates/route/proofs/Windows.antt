@@ -60,10 +60,22 @@ module _ (f l : ℕ) (fi : f < 100) (li : l < 100) (o : f ≤ l) where
   unfolding onEdge pair same
   window-run side p =
       by-edge (λ s. onEdge s l ≡ true → cellsBetween s f l ≡ run ((l - f) / stride s + 1) f (stride s)) side f p
-      (λ u q. let v = eqb-true (l / 10) 0 q in from-places North 0 1 f l ((l - f) / 1 + 1) (edge-run North) refl (omega arith) (omega arith) (omega arith) (omega arith) (omega arith) (omega arith))
-      (λ u q. let v = eqb-true (l % 10) 9 q in from-places East 9 10 (f / 10) (l / 10) ((l - f) / 10 + 1) (edge-run East) refl (omega arith) (omega arith) (omega arith) (omega arith) (omega arith) (omega arith))
-      (λ u q. let v = eqb-true (l / 10) 9 q in from-places South 90 1 (f - 90) (l - 90) ((l - f) / 1 + 1) (edge-run South) refl (omega arith) (omega arith) (omega arith) (omega arith) (omega arith) (omega arith))
-      (λ u q. let v = eqb-true (l % 10) 0 q in from-places West 0 10 (f / 10) (l / 10) ((l - f) / 10 + 1) (edge-run West) refl (omega arith) (omega arith) (omega arith) (omega arith) (omega arith) (omega arith))
+      (λ u q.
+      let v = eqb-true (l / 10) 0 q in
+      from-places North 0 1 f l ((l - f) / 1 + 1) (edge-run North) refl
+      (omega arith) (omega arith) (omega arith) (omega arith) (omega arith) (omega arith))
+      (λ u q.
+      let v = eqb-true (l % 10) 9 q in
+      from-places East 9 10 (f / 10) (l / 10) ((l - f) / 10 + 1) (edge-run East) refl
+      (omega arith) (omega arith) (omega arith) (omega arith) (omega arith) (omega arith))
+      (λ u q.
+      let v = eqb-true (l / 10) 9 q in
+      from-places South 90 1 (f - 90) (l - 90) ((l - f) / 1 + 1) (edge-run South) refl
+      (omega arith) (omega arith) (omega arith) (omega arith) (omega arith) (omega arith))
+      (λ u q.
+      let v = eqb-true (l % 10) 0 q in
+      from-places West 0 10 (f / 10) (l / 10) ((l - f) / 10 + 1) (edge-run West) refl
+      (omega arith) (omega arith) (omega arith) (omega arith) (omega arith) (omega arith))
 
 -- a place k of a run along an edge
 record Along (side : CompassDir) (f l k : ℕ) : Type 0 where

@@ -23,7 +23,22 @@ use Rattle.fields.specs.Steps.{Arrives}
 use Rattle.fields.proofs.Steps.{stepped-cell, steps-to, step-back, index-below, index-of-cell, cell-inside, cell-of-index}
 use Rattle.integration_field.specs.Word.{isLos, isGoal, isBlocked, isImpassable}
 use Rattle.integration_field.specs.Diagonal.{wallAt, passesWall}
-use Rattle.started_field.specs.Sight.{Sight, cornerWord, sightWord, listed, marked, stopped, lineMarked, seen, extended, sideTried, wallMet, neighbourLooked, looked, lookedAround}
+use Rattle.started_field.specs.Sight.{
+  Sight,
+  cornerWord,
+  sightWord,
+  listed,
+  marked,
+  stopped,
+  lineMarked,
+  seen,
+  extended,
+  sideTried,
+  wallMet,
+  neighbourLooked,
+  looked,
+  lookedAround,
+}
 use Rattle.started_field.specs.Lines.{Lines}
 use Rattle.utilities.specs.Count.{count}
 use Rattle.utilities.proofs.Count.{Each, Passes, once-room, each-more, each-one, once-more, at-set}
@@ -100,7 +115,8 @@ module _ (goal : ℕ) (goal-in : goal < 100) (walls : ℕ → Bool) where
   -- the corner beside a wall, by cells
   pub corner-step : (from : ℕ) (d : CompassDir) (x : FieldCell) (side : CompassDir) (a b : FieldCell) → Found walls from d x side a b
       → stepped x side ≡ Cell b
-  corner-step from d x side a b f = ap (λ (y : FieldCell). stepped y side) (sym (cell-of-index x (stepped-cell (cellAt from) d x (f .ahead) .within))) ∙ f .cornered
+  corner-step from d x side a b f =
+      ap (λ (y : FieldCell). stepped y side) (sym (cell-of-index x (stepped-cell (cellAt from) d x (f .ahead) .within))) ∙ f .cornered
 
   pub goal-found : (from : ℕ) (d : CompassDir) (x : FieldCell) (side : CompassDir) (a b : FieldCell) → Found walls from d x side a b
       → indexOf b ≡ goal → Found walls from d x side a (cellAt goal)
@@ -116,7 +132,9 @@ module _ (goal : ℕ) (goal-in : goal < 100) (walls : ℕ → Bool) where
   hides-even c h q =
       let f = h .found in
       let p = odd (h .way) (cellAt c) (h .wall-cell) (h .is-side) (f .ahead) in
-      let r = odd (h .side) (h .wall-cell) (cellAt goal) (side-sideways (h .way) (h .side) (h .is-side) (f .sideways)) (corner-step c (h .way) (h .wall-cell) (h .side) (h .free-cell) (cellAt goal) f) in
+      let r =
+      odd (h .side) (h .wall-cell) (cellAt goal) (side-sideways (h .way) (h .side) (h .is-side) (f .sideways))
+      (corner-step c (h .way) (h .wall-cell) (h .side) (h .free-cell) (cellAt goal) f) in
       omega arith
 
   pub hides-apart : (c : ℕ) → Hides c → c ≡ goal → ⊥
@@ -131,12 +149,14 @@ module _ (goal : ℕ) (goal-in : goal < 100) (walls : ℕ → Bool) where
 
     away : (from : ℕ) (d : CompassDir) (x : FieldCell) (side : CompassDir) (a b : FieldCell) → IsGoal from → isSide d ≡ true
         → Found walls from d x side a b → indexOf b ≡ goal → ⊥
-    away from d x side a b g o f e = hides-apart from (record { way = d; wall-cell = x; side = side; free-cell = a; is-side = o; found = goal-found from d x side a b f e }) g
+    away from d x side a b g o f e =
+        hides-apart from (record { way = d; wall-cell = x; side = side; free-cell = a; is-side = o; found = goal-found from d x side a b f e }) g
 
     next : (Kept : ℕ → Type 0) (from : ℕ) (d : CompassDir) (n : FieldCell) → IsGoal from → isSide d ≡ true → stepped (cellAt from) d ≡ Cell n
         → walls (indexOf n) ≡ false → (Kept (indexOf n) → ⊥) → Odd (indexOf n)
     next Kept from d n g o e w k =
-        let p : (goal % 10 + goal / 10 + n .column + n .row) % 2 ≡ 1 = subst (λ (m : ℕ). (m % 10 + m / 10 + n .column + n .row) % 2 ≡ 1) g (odd d (cellAt from) n o e) in
+        let p : (goal % 10 + goal / 10 + n .column + n .row) % 2 ≡ 1 =
+        subst (λ (m : ℕ). (m % 10 + m / 10 + n .column + n .row) % 2 ≡ 1) g (odd d (cellAt from) n o e) in
         let i = stepped-cell (cellAt from) d n e .within in
         rw (index-column n i, index-row n i) (other-order (goal % 10) (goal / 10) (n .column) (n .row) p)
 
@@ -175,11 +195,16 @@ module _ (goal : ℕ) (goal-in : goal < 100) (walls : ℕ → Bool) where
     around Kept Met d o =
         let later = look-keeps Kept Met in
         let before = look-keeps Never Never in
-        by-side (λ e. ((t : Sight) → First Never Never t → First Kept Met (look e t)) → (s : Sight) → First Never Never s → First Kept Met (look West (look South (look East (look North s)))))
-        (λ hit s p. later West (look South (look East (look North s))) refl (later South (look East (look North s)) refl (later East (look North s) refl (hit s p))))
-        (λ hit s p. later West (look South (look East (look North s))) refl (later South (look East (look North s)) refl (hit (look North s) (before North s refl p))))
-        (λ hit s p. later West (look South (look East (look North s))) refl (hit (look East (look North s)) (before East (look North s) refl (before North s refl p))))
-        (λ hit s p. hit (look South (look East (look North s))) (before South (look East (look North s)) refl (before East (look North s) refl (before North s refl p))))
+        by-side (λ e. ((t : Sight) → First Never Never t → First Kept Met (look e t)) → (s : Sight) → First Never Never s
+        → First Kept Met (look West (look South (look East (look North s)))))
+        (λ hit s p. later West (look South (look East (look North s))) refl
+        (later South (look East (look North s)) refl (later East (look North s) refl (hit s p))))
+        (λ hit s p. later West (look South (look East (look North s))) refl
+        (later South (look East (look North s)) refl (hit (look North s) (before North s refl p))))
+        (λ hit s p. later West (look South (look East (look North s))) refl
+        (hit (look East (look North s)) (before East (look North s) refl (before North s refl p))))
+        (λ hit s p. hit (look South (look East (look North s)))
+        (before South (look East (look North s)) refl (before East (look North s) refl (before North s refl p))))
         d o
 
     -- each neighbour of the goal is met
@@ -210,7 +235,8 @@ module _ (goal : ℕ) (goal-in : goal < 100) (walls : ℕ → Bool) where
           go false eb false eg false ew false el =
               meets-by (seen 1 (indexOf n) t)
               (first-keeps Never Never .sees goal d n t p refl o step (record { los-is = el; goal-is = eg; blocked-is = eb; impassable-is = ew }))
-              (at-set (λ y. isMet y ≡ true) (t .cells) (indexOf n) (sightWord 1) (indexOf n) (omega (arith, this-in, p .sound .room .full)) (λ q. refl) (λ q. absurd (q refl)))
+              (at-set (λ y. isMet y ≡ true) (t .cells) (indexOf n) (sightWord 1) (indexOf n)
+              (omega (arith, this-in, p .sound .room .full)) (λ q. refl) (λ q. absurd (q refl)))
 
       pub neighbour-met : (s : Sight) → First Never Never s → isMet (getD (lookedAround cornerLine 1 goal orthogonal s .cells) (indexOf n) 0) ≡ true
       neighbour-met s p = around Never This d o meets s p .stays-met (indexOf n) this-in refl
@@ -307,7 +333,8 @@ module _ (goal : ℕ) (goal-in : goal < 100) (walls : ℕ → Bool) where
           let try : CompassDir → Sight → Sight = λ side u. sideTried cornerLine 1 goal (indexOf (h .wall-cell)) side u in
           ⊎-elim
           (λ (e : opposite (h .way) ≡ lowerSide way).
-          kept-side (first-keeps Only Never) goal way (h .wall-cell) refl o sees-wall (h .found .wall) (opposite (lowerSide way)) (try (lowerSide way) t) (inr refl)
+          kept-side (first-keeps Only Never) goal way (h .wall-cell) refl o sees-wall (h .found .wall)
+          (opposite (lowerSide way)) (try (lowerSide way) t) (inr refl)
           (subst (λ (side : CompassDir). First Only Never (try side t)) e (side-blocks t p)))
           (λ (e : opposite (h .way) ≡ opposite (lowerSide way)).
           subst (λ (side : CompassDir). First Only Never (try side (try (lowerSide way) t))) e

@@ -61,7 +61,8 @@ or-false : (a b : Bool) → (a || b) ≡ false → (a ≡ false) × (b ≡ false
 or-false true b e = absurd (true≢false e)
 or-false false b e = (refl, e)
 
-module _ {cornerLine : ℕ → List ℕ} {wave : ℕ} {walls : ℕ → Bool} {From Free : ℕ → Type 0} {P : Sight → Type 0} (k : Keeps cornerLine wave walls From Free P) where
+module _ {cornerLine : ℕ → List ℕ} {wave : ℕ} {walls : ℕ → Bool} {From Free : ℕ → Type 0} {P : Sight → Type 0}
+    (k : Keeps cornerLine wave walls From Free P) where
   pub kept-marked : (value n : ℕ) (s : Sight) → P s → Free n → value ≤ wave + 10 → wallAt (s .cells) n ≡ false → P (marked value n s)
   unfolding marked
   kept-marked value n s p f h w = go (isBlocked (getD (s .cells) n 0)) refl
@@ -89,7 +90,8 @@ module _ {cornerLine : ℕ → List ℕ} {wave : ℕ} {walls : ℕ → Bool} {Fr
   kept-extended corner s p f h = kept-line (cornerLine corner) 0 corner s p f (omega arith)
 
   -- the wave cell looks at a wall, in one of the four directions
-  module _ (from : ℕ) (d : CompassDir) (x : FieldCell) (inWave : From from) (side-way : isSide d ≡ true) (ahead : stepped (cellAt from) d ≡ Cell x) (wall : walls (indexOf x) ≡ true) where
+  module _ (from : ℕ) (d : CompassDir) (x : FieldCell) (inWave : From from) (side-way : isSide d ≡ true)
+      (ahead : stepped (cellAt from) d ≡ Cell x) (wall : walls (indexOf x) ≡ true) where
     pub kept-side : (side : CompassDir) (s : Sight) → Sideways d side → P s → P (sideTried cornerLine wave from (indexOf x) side s)
     unfolding sideTried
     kept-side side s w p = go (stepped (cellAt from) side) (stepped (cellAt (indexOf x)) side) refl refl
@@ -122,7 +124,9 @@ module _ {cornerLine : ℕ → List ℕ} {wave : ℕ} {walls : ℕ → Bool} {Fr
 
     pub kept-wall : (s : Sight) → P s → P (wallMet cornerLine wave from (indexOf x) d s)
     unfolding wallMet
-    kept-wall s p = kept-side (opposite (lowerSide d)) (sideTried cornerLine wave from (indexOf x) (lowerSide d) s) (inr refl) (kept-side (lowerSide d) s (inl refl) p)
+    kept-wall s p =
+        kept-side (opposite (lowerSide d)) (sideTried cornerLine wave from (indexOf x) (lowerSide d) s) (inr refl)
+        (kept-side (lowerSide d) s (inl refl) p)
 
   module _ (from : ℕ) (inWave : From from) where
     pub kept-neighbour : (d : CompassDir) (n : FieldCell) (s : Sight) → isSide d ≡ true → stepped (cellAt from) d ≡ Cell n → P s

@@ -78,7 +78,9 @@ side-sideways = by-sideways (λ d side. isSide side ≡ true) refl refl refl ref
 
 -- the way back is sideways to the side's way back
 pub sideways-back : (d side : CompassDir) → isSide d ≡ true → Sideways d side → Sideways (opposite side) (opposite d)
-sideways-back = by-sideways (λ d side. Sideways (opposite side) (opposite d)) (inr refl) (inr refl) (inl refl) (inl refl) (inl refl) (inl refl) (inr refl) (inr refl)
+sideways-back =
+    by-sideways (λ d side. Sideways (opposite side) (opposite d))
+    (inr refl) (inr refl) (inl refl) (inl refl) (inl refl) (inl refl) (inr refl) (inr refl)
 
 pub sideways-away : (c x : FieldCell) (d side : CompassDir) → isSide d ≡ true → Sideways d side → stepped c d ≡ Cell x → stepped x side ≡ Cell c → ⊥
 sideways-away c x d side o w e f = by-sideways (λ d side. Arrives c d x → Arrives x side c → ⊥)

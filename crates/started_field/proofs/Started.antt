@@ -80,7 +80,8 @@ module _ (costs : List ℕ) (hundred : length costs ≡ 100) where
       (λ g n e m. over g n (same-goal e) m)
     where
       over : (g n : ℕ) → goal ≡ g → 100 ≤ n
-          → let s = sightAfter (cornerLine g) (walls costs) g n in withCorners (sightFrom costs goal .cells) (sightFrom costs goal .corners) ≡ withCorners (s .cells) (s .corners)
+          → let s = sightAfter (cornerLine g) (walls costs) g n in
+          withCorners (sightFrom costs goal .cells) (sightFrom costs goal .corners) ≡ withCorners (s .cells) (s .corners)
       over g n e m = rw (← e) (ap (λ (s : Sight). withCorners (s .cells) (s .corners)) (sym (any-number goal h n m)))
   started-field (to-window window) w =
       made (to-window window) _ window (omega (arith, w .few)) (window-started costs hundred window (w .inside) (w .once)) (λ g n e m. absurd (no-goal e))
@@ -107,7 +108,8 @@ pub answered : (costs step : List ℕ) (P : IntegrationField → Type 0) → (in
 unfolding initAnswer
 answered costs step P p r e n = go (eqb (initNumber costs step) 0) refl e
   where
-    go : (b : Bool) → eqb (initNumber costs step) 0 ≡ b → r ≡ cond b (initAccepted (started costs (targetOf step))) (initRefused (initNumber costs step)) → P (r .field)
+    go : (b : Bool) → eqb (initNumber costs step) 0 ≡ b
+        → r ≡ cond b (initAccepted (started costs (targetOf step))) (initRefused (initNumber costs step)) → P (r .field)
     go true q f = rw f (p (eqb-true (initNumber costs step) 0 q))
     go false q f = absurd (eqb-false (initNumber costs step) 0 q (sym (ap (λ (a : InitAnswer). a .number) f) ∙ n))
 

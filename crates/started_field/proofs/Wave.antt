@@ -115,9 +115,12 @@ module _ (goal : ℕ) (walls : ℕ → Bool) where
     pub stays : (c : ℕ) → c < 100 → Kept c → isBlocked (getD (s .cells) c 0) ≡ true
     pub stays-met : (c : ℕ) → c < 100 → Met c → isMet (getD (s .cells) c 0) ≡ true
 
-  module _ (cornerLine : ℕ → List ℕ) (lines : Lines goal cornerLine) (wave least : ℕ) (first : 1 ≤ wave) (hundred : wave ≤ 100) (under : wave ≤ least) (From Next Kept Met : ℕ → Type 0)
-      (away : (from : ℕ) (d : CompassDir) (x : FieldCell) (side : CompassDir) (a b : FieldCell) → From from → isSide d ≡ true → Found walls from d x side a b → indexOf b ≡ goal → ⊥)
-      (next : (from : ℕ) (d : CompassDir) (n : FieldCell) → From from → isSide d ≡ true → stepped (cellAt from) d ≡ Cell n → walls (indexOf n) ≡ false → (Kept (indexOf n) → ⊥) → Next (indexOf n)) where
+  module _ (cornerLine : ℕ → List ℕ) (lines : Lines goal cornerLine) (wave least : ℕ)
+      (first : 1 ≤ wave) (hundred : wave ≤ 100) (under : wave ≤ least) (From Next Kept Met : ℕ → Type 0)
+      (away : (from : ℕ) (d : CompassDir) (x : FieldCell) (side : CompassDir) (a b : FieldCell) → From from → isSide d ≡ true
+      → Found walls from d x side a b → indexOf b ≡ goal → ⊥)
+      (next : (from : ℕ) (d : CompassDir) (n : FieldCell) → From from → isSide d ≡ true → stepped (cellAt from) d ≡ Cell n
+      → walls (indexOf n) ≡ false → (Kept (indexOf n) → ⊥) → Next (indexOf n)) where
     marks : (value n : ℕ) (s : Sight) → Wave least Next Kept Met s → Free n → value ≤ wave + 10 → wallAt (s .cells) n ≡ false
         → isBlocked (getD (s .cells) n 0) ≡ false → Wave least Next Kept Met (listed value n s)
     marks value n s p f v w b =
@@ -158,7 +161,8 @@ module _ (goal : ℕ) (walls : ℕ → Bool) where
           met-least = omega (arith, p .met-least);
           met-queued = λ q. omega (arith, p .met-least);
           all-next = each-more (s .queue) (indexOf n) Next (p .all-next)
-              (next from d n inWave o e (sym (p .sound .same (indexOf n)) ∙ f .impassable-is) (λ q. true≢false (sym (p .stays (indexOf n) h q) ∙ f .blocked-is)));
+              (next from d n inWave o e (sym (p .sound .same (indexOf n)) ∙ f .impassable-is)
+              (λ q. true≢false (sym (p .stays (indexOf n) h q) ∙ f .blocked-is)));
           stays = λ c k q. at-set (λ y. isBlocked y ≡ true) (s .cells) (indexOf n) x c fit
               (λ i. absurd (true≢false (sym (p .stays c k q) ∙ ap (λ (m : ℕ). isBlocked (getD (s .cells) m 0)) i ∙ f .blocked-is)))
               (λ i. p .stays c k q);

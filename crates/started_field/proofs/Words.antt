@@ -23,7 +23,12 @@ pub record Flags (x : ℕ) (los goal blocked impassable : Bool) : Type 0 where
 
 flags : (x : ℕ) (los goal blocked impassable : Bool) → x / 2 ^ 16 % 2 ≡ bit los → x / 2 ^ 17 % 2 ≡ bit goal → x / 2 ^ 18 % 2 ≡ bit blocked
     → x / 2 ^ 25 % 2 ≡ bit impassable → Flags x los goal blocked impassable
-flags x l g b i el eg eb ei = record { los-is = flag-is 16 x l el; goal-is = flag-is 17 x g eg; blocked-is = flag-is 18 x b eb; impassable-is = flag-is 25 x i ei }
+flags x l g b i el eg eb ei = record {
+  los-is = flag-is 16 x l el;
+  goal-is = flag-is 17 x g eg;
+  blocked-is = flag-is 18 x b eb;
+  impassable-is = flag-is 25 x i ei;
+}
 
 pub corner-flags : (v : ℕ) → v < 0x10000 → Flags (cornerWord v) false false true false
 corner-flags v h = flags (cornerWord v) false false true false (omega arith) (omega arith) (omega arith) (omega arith)

@@ -153,7 +153,9 @@ fn is_below_others(
 // Whether one of the neighbours is reached, and its greatest cost strictly below the least cost of all others.
 fn has_least(least: &[u32; 100], greatest: &[u32; 100], neighbours: PermittedCells) -> bool
     requires { ⌜ Indexes 8 (neighbours .cells) (neighbours .count) ⌝ }
-    ensures { λ r. ⌜ r ≡ someOf (λ n. ltb (getD (now (greatest .entry)) n 0) 65535 && isBelowOthers (now (least .entry)) (now (greatest .entry)) (heldPermitted neighbours) n) (heldPermitted neighbours) ⌝ }
+    ensures { λ r. ⌜ r ≡ someOf
+        (λ n. ltb (getD (now (greatest .entry)) n 0) 65535 && isBelowOthers (now (least .entry)) (now (greatest .entry)) (heldPermitted neighbours) n)
+        (heldPermitted neighbours) ⌝ }
 {
     let places = neighbours.cells;
     let count = neighbours.count;
@@ -173,7 +175,9 @@ fn has_least(least: &[u32; 100], greatest: &[u32; 100], neighbours: PermittedCel
 // Whether a cell is sure. The window cells are those flagged as portals.
 fn is_sure(cells: &[u32; 100], least: &[u32; 100], greatest: &[u32; 100], index: usize) -> bool
     requires { ⌜ index < 100 ⌝ }
-    ensures { λ r. ⌜ ((window : List ℕ) → ((n : ℕ) → n < 100 → isPortal (getD (now (cells .entry)) n 0) ≡ isIn n window) → r ≡ isSure (now (cells .entry)) window (now (least .entry)) (now (greatest .entry)) index) ⌝ }
+    ensures { λ r. ⌜ ((window : List ℕ)
+        → ((n : ℕ) → n < 100 → isPortal (getD (now (cells .entry)) n 0) ≡ isIn n window)
+        → r ≡ isSure (now (cells .entry)) window (now (least .entry)) (now (greatest .entry)) index) ⌝ }
 {
     let cost = cells[index];
     if integration_bits::is_impassable(cost) {
@@ -191,7 +195,9 @@ fn is_sure(cells: &[u32; 100], least: &[u32; 100], greatest: &[u32; 100], index:
 
 // Which cells are sure.
 pub fn sure_cells(cells: &[u32; 100], least: &[u32; 100], greatest: &[u32; 100]) -> [bool; 100]
-    ensures { λ r. ⌜ ((window : List ℕ) → ((n : ℕ) → n < 100 → isPortal (getD (now (cells .entry)) n 0) ≡ isIn n window) → r ≡ map (isSure (now (cells .entry)) window (now (least .entry)) (now (greatest .entry))) (below 100)) ⌝ }
+    ensures { λ r. ⌜ ((window : List ℕ)
+        → ((n : ℕ) → n < 100 → isPortal (getD (now (cells .entry)) n 0) ≡ isIn n window)
+        → r ≡ map (isSure (now (cells .entry)) window (now (least .entry)) (now (greatest .entry))) (below 100)) ⌝ }
 {
     let mut sure = [false; 100];
     let mut i = 0;

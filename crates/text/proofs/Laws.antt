@@ -20,7 +20,8 @@ sets-append l (b ∷ s) t at =
 pub cells-length : (cells : List ℕ) (row column : ℕ) → length (cellsText cells row column) ≡ 2 * column
 unfolding cellsText cellText
 cells-length cells row zero = refl
-cells-length cells row (suc column) = omega (arith, length-append (cellsText cells row column) (cellText (getD cells (10 * row + column) 0)), cells-length cells row column)
+cells-length cells row (suc column) =
+    omega (arith, length-append (cellsText cells row column) (cellText (getD cells (10 * row + column) 0)), cells-length cells row column)
 
 pub row-length : (cells : List ℕ) (row : ℕ) → length (rowText cells row) ≡ 21
 unfolding rowText
@@ -35,11 +36,15 @@ rows-length cells (suc row) = omega (arith, length-append (rowsText cells row) (
 pub one-cell-more : (l cells : List ℕ) (at row column : ℕ) →
     sets (sets l at (cellsText cells row column)) (at + 2 * column) (cellText (getD cells (10 * row + column) 0)) ≡ sets l at (cellsText cells row (column + 1))
 unfolding cellsText
-one-cell-more l cells at row column = rw (add-one column, ← (cells-length cells row column)) (sets-append l (cellsText cells row column) (cellText (getD cells (10 * row + column) 0)) at)
+one-cell-more l cells at row column =
+    rw (add-one column, ← (cells-length cells row column))
+    (sets-append l (cellsText cells row column) (cellText (getD cells (10 * row + column) 0)) at)
 
 pub one-row-more : (l cells : List ℕ) (row : ℕ) → sets (sets l 0 (rowsText cells row)) (21 * row) (rowText cells row) ≡ sets l 0 (rowsText cells (row + 1))
 unfolding rowsText
-one-row-more l cells row = rw (add-one row, ← (rows-length cells row), ← (zero-add (length (rowsText cells row)))) (sets-append l (rowsText cells row) (rowText cells row) 0)
+one-row-more l cells row =
+    rw (add-one row, ← (rows-length cells row), ← (zero-add (length (rowsText cells row))))
+    (sets-append l (rowsText cells row) (rowText cells row) 0)
 
 -- a row's line feed
 pub row-ended : (l cells : List ℕ) (at row : ℕ) → set (sets l at (cellsText cells row 10)) (at + 20) 10 ≡ sets l at (rowText cells row)

@@ -59,8 +59,10 @@ module _ (f : ℕ → Bool) where
   once-room z [] cells e o = omega arith
   once-room z (x ∷ xs) cells e o =
       let rest : Each (Passes (set cells x 0)) xs = λ i h.
-      let n : getD xs i 0 < length cells = e (suc i) (omega arith) .0 in
-      (omega (arith, length-set cells x 0), ap f (getD-set-other cells x (getD xs i 0) 0 0 (λ q. o 0 (suc i) (omega arith) (omega arith) (sym q))) ∙ e (suc i) (omega arith) .1) in
+      let n : getD xs i 0 < length cells = e (suc i) (omega arith) .0 in (
+        omega (arith, length-set cells x 0),
+        ap f (getD-set-other cells x (getD xs i 0) 0 0 (λ q. o 0 (suc i) (omega arith) (omega arith) (sym q))) ∙ e (suc i) (omega arith) .1,
+      ) in
       let less : length xs ≤ count f (set cells x 0) = once-room z xs (set cells x 0) rest (λ i j h k. o (suc i) (suc j) (omega arith) (omega arith)) in
       let was : bit (f (getD cells x 0)) ≡ 1 = ap bit (e 0 (omega arith) .1) in
       let now : bit (f 0) ≡ 0 = ap bit z in

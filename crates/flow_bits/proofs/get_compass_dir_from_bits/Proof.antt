@@ -33,7 +33,13 @@ returns-8 : tie.Need-returns-8
 returns-8 c = ap (dirWith all) (sym (c .match .keys8)) ∙ dir-mask (c .before .args .byte)
 
 returns-9 : tie.Need-returns-9
-returns-9 c = sym (dir-none (bitAnd (c .before .args .byte) 15) (c .match .rest .0 .0 .0 .0 .0 .0 .0 .1) (c .match .rest .0 .0 .0 .0 .0 .0 .1) (c .match .rest .0 .0 .0 .0 .0 .1) (c .match .rest .0 .0 .0 .0 .1) (c .match .rest .0 .0 .0 .1) (c .match .rest .0 .0 .1) (c .match .rest .0 .1) (c .match .rest .1)) ∙ dir-mask (c .before .args .byte)
+returns-9 c =
+    let byte = c .before .args .byte in
+    let none = c .match .rest in
+    sym (dir-none (bitAnd byte 15)
+    (none .0 .0 .0 .0 .0 .0 .0 .1) (none .0 .0 .0 .0 .0 .0 .1) (none .0 .0 .0 .0 .0 .1) (none .0 .0 .0 .0 .1)
+    (none .0 .0 .0 .1) (none .0 .0 .1) (none .0 .1) (none .1))
+    ∙ dir-mask byte
 
 pub get-compass-dir-from-bits-spec : {M : Type 1} → statement M
 get-compass-dir-from-bits-spec =

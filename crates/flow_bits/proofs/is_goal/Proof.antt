@@ -14,10 +14,14 @@ is-pathable-requires : tie.Need-is-pathable-requires
 is-pathable-requires c κs = search needs
 
 returns : tie.Need-returns
-returns c = and-taken (bitAnd (c .before .before .args .byte) (2 ^ 6)) (2 ^ 6) (flag 6 (c .before .before .args .byte)) (isPathable (c .before .before .args .byte)) (mask-flag (c .before .before .args .byte) 6) _ (c .before .if1 .taken) (c .is-pathable .ensures)
+returns c =
+    let byte = c .before .before .args .byte in
+    and-taken (bitAnd byte (2 ^ 6)) (2 ^ 6) (flag 6 byte) (isPathable byte) (mask-flag byte 6) _ (c .before .if1 .taken) (c .is-pathable .ensures)
 
 returns-2 : tie.Need-returns-2
-returns-2 c = and-left (bitAnd (c .before .args .byte) (2 ^ 6)) (2 ^ 6) (flag 6 (c .before .args .byte)) (isPathable (c .before .args .byte)) (mask-flag (c .before .args .byte) 6) (c .if1 .left)
+returns-2 c =
+    let byte = c .before .args .byte in
+    and-left (bitAnd byte (2 ^ 6)) (2 ^ 6) (flag 6 byte) (isPathable byte) (mask-flag byte 6) (c .if1 .left)
 
 pub is-goal-spec : {M : Type 1} → statement M
 is-goal-spec = tie.close (tie.spec is-pathable-requires returns returns-2)

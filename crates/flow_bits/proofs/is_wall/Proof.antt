@@ -13,10 +13,14 @@ is-pathable-requires : tie.Need-is-pathable-requires
 is-pathable-requires c κs = search needs
 
 returns : tie.Need-returns
-returns c = and-taken (bitAnd (c .before .before .args .byte) 0xE0) 0xE0 (isImpassable (c .before .before .args .byte)) (not (isPathable (c .before .before .args .byte))) (all-mask (c .before .before .args .byte)) _ (c .before .if1 .taken) (ap not (c .is-pathable .ensures))
+returns c =
+    let byte = c .before .before .args .byte in
+    and-taken (bitAnd byte 0xE0) 0xE0 (isImpassable byte) (not (isPathable byte)) (all-mask byte) _ (c .before .if1 .taken) (ap not (c .is-pathable .ensures))
 
 returns-2 : tie.Need-returns-2
-returns-2 c = and-left (bitAnd (c .before .args .byte) 0xE0) 0xE0 (isImpassable (c .before .args .byte)) (not (isPathable (c .before .args .byte))) (all-mask (c .before .args .byte)) (c .if1 .left)
+returns-2 c =
+    let byte = c .before .args .byte in
+    and-left (bitAnd byte 0xE0) 0xE0 (isImpassable byte) (not (isPathable byte)) (all-mask byte) (c .if1 .left)
 
 pub is-wall-spec : {M : Type 1} → statement M
 is-wall-spec = tie.close (tie.spec is-pathable-requires returns returns-2)

@@ -3,68 +3,56 @@
 use mathlib.Core.Path.{sym, ap, ap₂, _∙_}
 use Prim.Native.Nat.{ℕ, _+_}
 use native.Mathlib.Omega.{arith}
+use borrow.Author.Needs.{needs}
 use Rattle.utilities.specs.Compass.{opposite}
 use Rattle.flow_bits.specs.Byte.{bitsOf}
-use Rattle.flow_byte.specs.New.{facingBits}
 use Rattle.flow_bits.proofs.Bits.{bits-small}
-use borrow.Author.Needs.{needs}
+use Rattle.flow_byte.specs.New.{facingBits}
 use Rattle.flow_new.proofs.facing_bits.Statement.{statement}
 use Rattle.flow_new.proofs.facing_bits.Tie as tie
 
-convert-compass-dir-to-bits-dir-requires : tie.Need-convert-compass-dir-to-bits-dir-requires
-convert-compass-dir-to-bits-dir-requires c κs = search needs
+-- the places, from where the second test is made: where the first was not met, where the lower side is taken, where the boundary's bits are
+abbrev not-straight : tie.After-not-above2 → tie.Else1
+not-straight c = c .before
 
-lower-side-requires : tie.Need-lower-side-requires
-lower-side-requires c κs = search needs
+abbrev side : tie.After-not-above2 → tie.After-lower-side
+side c = not-straight c .before .before
 
-not-above-requires : tie.Need-not-above-requires
-not-above-requires c κs = search needs
+abbrev straight : tie.After-not-above2 → tie.After-convert-compass-dir-to-bits-dir
+straight c = side c .before
 
 returns : tie.Need-returns
 unfolding facingBits
 returns c = rw (sym (c .before .not-above .ensures) ∙ c .if1 .taken) (c .before .before .before .convert-compass-dir-to-bits-dir .ensures)
 
-not-above-requires-2 : tie.Need-not-above-requires-2
-not-above-requires-2 c κs = search needs
-
-convert-compass-dir-to-bits-dir-requires-2 : tie.Need-convert-compass-dir-to-bits-dir-requires-2
-convert-compass-dir-to-bits-dir-requires-2 c κs = search needs
-
 add-result : tie.Need-add-result
 add-result c =
-    let side = c .before .before .before .before .before in
-    let straight = side .before in
+    let m = c .before .before in
     omega (
       arith,
-      straight .convert-compass-dir-to-bits-dir .ensures,
+      straight m .convert-compass-dir-to-bits-dir .ensures,
       c .convert-compass-dir-to-bits-dir2 .ensures,
-      bits-small (straight .before .args .boundary),
-      bits-small (side .lower-side .result),
+      bits-small (straight m .before .args .boundary),
+      bits-small (side m .lower-side .result),
     )
 
 returns-2 : tie.Need-returns-2
 unfolding facingBits
 returns-2 c =
-    let not-straight = c .before .before .before in
-    let side = not-straight .before .before in
-    let bits = c .convert-compass-dir-to-bits-dir2 .ensures ∙ ap bitsOf (side .lower-side .ensures) in
-    rw (sym (not-straight .before .not-above .ensures) ∙ not-straight .if1 .left, sym (c .before .before .not-above2 .ensures) ∙ c .before .if2 .taken)
-    (ap₂ (λ (a b : ℕ). a + b) (side .before .convert-compass-dir-to-bits-dir .ensures) bits)
-
-inverse-requires : tie.Need-inverse-requires
-inverse-requires c κs = search needs
-
-convert-compass-dir-to-bits-dir-requires-3 : tie.Need-convert-compass-dir-to-bits-dir-requires-3
-convert-compass-dir-to-bits-dir-requires-3 c κs = search needs
+    let m = c .before .before in
+    let n = not-straight m in
+    let bits = c .convert-compass-dir-to-bits-dir2 .ensures ∙ ap bitsOf (side m .lower-side .ensures) in
+    rw (sym (n .before .not-above .ensures) ∙ n .if1 .left, sym (m .not-above2 .ensures) ∙ c .before .if2 .taken)
+    (ap₂ (λ (a b : ℕ). a + b) (straight m .convert-compass-dir-to-bits-dir .ensures) bits)
 
 add-result-2 : tie.Need-add-result-2
 add-result-2 c =
-    let straight = c .before .before .before .before .before .before .before in
+    let m = c .before .before .before in
     omega (
       arith,
-      straight .convert-compass-dir-to-bits-dir .ensures,
+      straight m .convert-compass-dir-to-bits-dir .ensures,
       c .convert-compass-dir-to-bits-dir3 .ensures,
-      bits-small (straight .before .args .boundary),
+      bits-small (straight m .before .args .boundary),
       bits-small (c .before .inverse .result),
     )
 
@@ -72,26 +60,18 @@ returns-3 : tie.Need-returns-3
 unfolding facingBits
 returns-3 c =
     let not-lower = c .before .before in
-    let not-straight = not-lower .before .before in
-    let side = not-straight .before .before in
-    let other = c .before .inverse .ensures ∙ ap opposite (side .lower-side .ensures) in
+    let m = not-lower .before in
+    let n = not-straight m in
+    let other = c .before .inverse .ensures ∙ ap opposite (side m .lower-side .ensures) in
     let bits = c .convert-compass-dir-to-bits-dir3 .ensures ∙ ap bitsOf other in
-    rw (sym (not-straight .before .not-above .ensures) ∙ not-straight .if1 .left, sym (not-lower .before .not-above2 .ensures) ∙ not-lower .if2 .left)
-    (ap₂ (λ (a b : ℕ). a + b) (side .before .convert-compass-dir-to-bits-dir .ensures) bits)
+    rw (sym (n .before .not-above .ensures) ∙ n .if1 .left, sym (m .not-above2 .ensures) ∙ not-lower .if2 .left)
+    (ap₂ (λ (a b : ℕ). a + b) (straight m .convert-compass-dir-to-bits-dir .ensures) bits)
 
 pub facing-bits-spec : {M : Type 1} → statement M
-facing-bits-spec =
-    tie.close
-    (tie.spec
-    convert-compass-dir-to-bits-dir-requires
-    lower-side-requires
-    not-above-requires
+facing-bits-spec = tie.close (tie.spec
+    (λ c κs. search needs) (λ c κs. search needs) (λ c κs. search needs)
     returns
-    not-above-requires-2
-    convert-compass-dir-to-bits-dir-requires-2
-    add-result
-    returns-2
-    inverse-requires
-    convert-compass-dir-to-bits-dir-requires-3
-    add-result-2
-    returns-3)
+    (λ c κs. search needs) (λ c κs. search needs)
+    add-result returns-2
+    (λ c κs. search needs) (λ c κs. search needs)
+    add-result-2 returns-3)

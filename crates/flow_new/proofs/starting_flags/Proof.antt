@@ -1,53 +1,68 @@
--- `flow_new::starting_flags` meets its contract: the flags in their order.
+-- `flow_new::starting_flags` meets its contract: the flags in their order. One that was passed over is not set.
 -- Assumes nothing.
-use mathlib.Core.Path.{sym, _∙_}
-use Rattle.flow_byte.specs.New.{startOf}
+use mathlib.Core.Path.{_≡_, sym, _∙_}
+use mathlib.Core.Bool.{false}
 use borrow.Author.Needs.{needs}
+use Rattle.integration_field.specs.Word.{isGoal, isPortal, isLos}
+use Rattle.flow_byte.specs.New.{startOf}
 use Rattle.flow_new.proofs.starting_flags.Statement.{statement}
 use Rattle.flow_new.proofs.starting_flags.Tie as tie
 
-is-goal-requires : tie.Need-is-goal-requires
-is-goal-requires c κs = search needs
+-- the places where a flag was passed over, each from the next, and the call
+abbrev start : tie.Else1 → tie.Start
+start c = c .before .before
+
+abbrev no-goal-yet : tie.Else2 → tie.Else1
+no-goal-yet c = c .before .before
+
+abbrev no-portal-yet : tie.Else3 → tie.Else2
+no-portal-yet c = c .before .before
+
+-- what each says of the value
+no-goal : (c : tie.Else1) → isGoal (start c .args .value) ≡ false
+no-goal c = sym (c .before .is-goal .ensures) ∙ c .if1 .left
+
+no-portal : (c : tie.Else2) → isPortal (start (no-goal-yet c) .args .value) ≡ false
+no-portal c = sym (c .before .is-portal .ensures) ∙ c .if2 .left
+
+no-los : (c : tie.Else3) → isLos (start (no-goal-yet (no-portal-yet c)) .args .value) ≡ false
+no-los c = sym (c .before .is-los .ensures) ∙ c .if3 .left
 
 returns : tie.Need-returns
 unfolding startOf
 returns c = rw (sym (c .before .is-goal .ensures) ∙ c .if1 .taken)
 
-is-portal-requires : tie.Need-is-portal-requires
-is-portal-requires c κs = search needs
-
 returns-2 : tie.Need-returns-2
 unfolding startOf
-returns-2 c = rw (sym (c .before .before .before .is-goal .ensures) ∙ c .before .before .if1 .left, sym (c .before .is-portal .ensures) ∙ c .if2 .taken)
-
-is-los-requires : tie.Need-is-los-requires
-is-los-requires c κs = search needs
+returns-2 c = rw (no-goal (c .before .before), sym (c .before .is-portal .ensures) ∙ c .if2 .taken)
 
 returns-3 : tie.Need-returns-3
 unfolding startOf
-returns-3 c = rw (sym (c .before .before .before .before .before .is-goal .ensures) ∙ c .before .before .before .before .if1 .left, sym (c .before .before .before .is-portal .ensures) ∙ c .before .before .if2 .left, sym (c .before .is-los .ensures) ∙ c .if3 .taken)
-
-is-impassable-requires : tie.Need-is-impassable-requires
-is-impassable-requires c κs = search needs
+returns-3 c =
+    let p = c .before .before in
+    rw (no-goal (no-goal-yet p), no-portal p, sym (c .before .is-los .ensures) ∙ c .if3 .taken)
 
 returns-4 : tie.Need-returns-4
 unfolding startOf
-returns-4 c = rw (sym (c .before .before .before .before .before .before .before .is-goal .ensures) ∙ c .before .before .before .before .before .before .if1 .left, sym (c .before .before .before .before .before .is-portal .ensures) ∙ c .before .before .before .before .if2 .left, sym (c .before .before .before .is-los .ensures) ∙ c .before .before .if3 .left, sym (c .before .is-impassable .ensures) ∙ c .if4 .taken)
+returns-4 c =
+    let l = c .before .before in
+    let p = no-portal-yet l in
+    rw (no-goal (no-goal-yet p), no-portal p, no-los l, sym (c .before .is-impassable .ensures) ∙ c .if4 .taken)
 
 returns-5 : tie.Need-returns-5
 unfolding startOf
-returns-5 c = rw (sym (c .before .before .before .before .before .before .before .is-goal .ensures) ∙ c .before .before .before .before .before .before .if1 .left, sym (c .before .before .before .before .before .is-portal .ensures) ∙ c .before .before .before .before .if2 .left, sym (c .before .before .before .is-los .ensures) ∙ c .before .before .if3 .left, sym (c .before .is-impassable .ensures) ∙ c .if4 .left)
+returns-5 c =
+    let l = c .before .before in
+    let p = no-portal-yet l in
+    rw (no-goal (no-goal-yet p), no-portal p, no-los l, sym (c .before .is-impassable .ensures) ∙ c .if4 .left)
 
 pub starting-flags-spec : {M : Type 1} → statement M
-starting-flags-spec =
-    tie.close
-    (tie.spec
-    is-goal-requires
+starting-flags-spec = tie.close (tie.spec
+    (λ c κs. search needs)
     returns
-    is-portal-requires
+    (λ c κs. search needs)
     returns-2
-    is-los-requires
+    (λ c κs. search needs)
     returns-3
-    is-impassable-requires
-    returns-4
-    returns-5)
+    (λ c κs. search needs)
+    returns-4 returns-5)

@@ -13,7 +13,10 @@ use Rattle.integration_init.proofs.mark.Statement.{statement}
 use Rattle.integration_init.proofs.mark.Tie as tie
 
 returns : tie.Need-returns
-returns c = let s = c .before .before .before in let a = s .args in kept-mark (s .pre .0) (a .n) (a .value) (s .pre .1 .0) (s .pre .1 .1) (sym (c .before .is-blocked .ensures) ∙ c .if1 .taken)
+returns c =
+    let s = c .before .before .before in
+    let a = s .args in
+    kept-mark (s .pre .0) (a .n) (a .value) (s .pre .1 .0) (s .pre .1 .1) (sym (c .before .is-blocked .ensures) ∙ c .if1 .taken)
 
 free : (c : tie.Else1) → isBlocked (getD (now (c .before .before .before .args .cells)) (c .before .before .before .args .n) 0) ≡ false
 free c = sym (c .before .is-blocked .ensures) ∙ c .if1 .left

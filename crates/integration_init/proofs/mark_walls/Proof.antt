@@ -27,7 +27,8 @@ loop-again : tie.Need-loop-again Inv-loop μ-loop
 loop-again c = let s = c .before .before .before .before .before in let l = c .before .before .before .loop in (
   search needs,
   length-set (l .cells) (l .i) (c .wall-or .result) ∙ l .inv .1,
-  wall-step (now (s .args .costs)) (l .cells) (s .pre .0) (l .inv .1) (l .i) (c .wall-or .result) (c .before .before .loop-test .taken) (c .wall-or .ensures) (l .inv .2),
+  wall-step (now (s .args .costs)) (l .cells) (s .pre .0) (l .inv .1) (l .i) (c .wall-or .result)
+      (c .before .before .loop-test .taken) (c .wall-or .ensures) (l .inv .2),
 )
 
 returns : tie.Need-returns Inv-loop μ-loop

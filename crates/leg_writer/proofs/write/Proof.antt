@@ -53,7 +53,8 @@ returns-2 c =
     let a = judged .before .before .before .args in
     let zero = sym (judged .write-number .ensures (now (a .file)) refl) ∙ headed .before .before .if1 .left in
     let f = fits (now (a .steps)) (now (a .file)) zero in
-    writes (now (a .steps)) (now (a .file)) _ zero (ended .put-steps .ensures ∙ rw (headed .put-head .ensures) (stored (now (a .steps)) (now (a .file)) _ (omega arith) refl))
+    writes (now (a .steps)) (now (a .file)) _ zero
+    (ended .put-steps .ensures ∙ rw (headed .put-head .ensures) (stored (now (a .steps)) (now (a .file)) _ (omega arith) refl))
 
 pub write-spec : {M : Type 1} → statement M
 write-spec =

@@ -1,3 +1,5 @@
+-- `records::field_of` meets its contract: its place counts up to 100, and the field keeps its 100 cells.
+-- Assumes nothing.
 use native.Mathlib.Omega.{arith}
 use Prim.Native.Nat.{_≤_, _-_}
 use mathlib.Core.Path.{_≡_, refl}

@@ -1,3 +1,5 @@
+-- `records::same_field` meets its contract. The loop's invariant: the cells before place i are the same.
+-- Assumes nothing.
 use native.Mathlib.Omega.{arith}
 use Prim.Native.Nat.{_≤_, _-_}
 use mathlib.Core.Path.{_≡_, sym, _∙_}

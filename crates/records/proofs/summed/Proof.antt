@@ -1,3 +1,5 @@
+-- `records::summed` is safe and ends: the sum stays below the modulus.
+-- Assumes nothing.
 use native.Mathlib.Omega.{arith}
 use Prim.Native.Nat.{_≤_, _<_, _-_}
 use lib.ListN.{length}

@@ -1,3 +1,5 @@
+-- `replay::compare` is safe and ends: it counts up to a million, and the buffer keeps its length.
+-- Assumes nothing.
 use Prim.Native.Nat.{_≤_, _-_}
 use mathlib.Core.Path.{_≡_}
 use lib.ListN.{length}

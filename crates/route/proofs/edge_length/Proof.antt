@@ -1,3 +1,5 @@
+-- `route::edge_length` meets its contract: a side's edge has ten cells, and a direction that is no side has none.
+-- Assumes nothing.
 use borrow.Author.Tests.{lt-ltb, le-ltb}
 use native.Mathlib.Omega.{arith}
 use Rattle.route.proofs.Cells.{edge-length}

@@ -1,3 +1,5 @@
+-- `route::is_between` meets its contract: two tests, one after the other.
+-- Assumes nothing.
 use Rattle.route.proofs.Rows.{tests}
 use Rattle.route.proofs.is_between.Statement.{statement}
 use Rattle.route.proofs.is_between.Tie as tie

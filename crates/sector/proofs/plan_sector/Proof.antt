@@ -45,7 +45,8 @@ as-target-requires c κs = search needs
 abbrev start : tie.After-as-target → tie.Start
 start c = c .before .before .before .before .before .before .before .before
 
-number : (c : tie.After-as-target) → let a = start c .args in sectorNumber (now (a .costs)) (now (a .step)) (a .has-previous) (now (a .previous)) (now (a .sheet)) ≡ 0
+number : (c : tie.After-as-target) → let a = start c .args in
+    sectorNumber (now (a .costs)) (now (a .step)) (a .has-previous) (now (a .previous)) (now (a .sheet)) ≡ 0
 number c = sym (c .before .before .before .sector-number .ensures (now (start c .args .sheet)) refl) ∙ c .before .before .if1 .left
 
 ok : (c : tie.After-as-target) → let a = start c .args in Accepted (now (a .costs)) (now (a .step)) (a .has-previous) (now (a .previous)) (now (a .sheet))
@@ -58,7 +59,8 @@ run-requires c κs =
     record {
       costs-hundred = ok t .costs-hundred;
       sheet-hundred = ok t .sheet-hundred;
-      target-held = made-held (now (a .step)) (t .before .new .result) (t .as-target .result) (t .before .new .ensures) (t .as-target .ensures) (ok t .step-good);
+      target-held = made-held (now (a .step)) (t .before .new .result) (t .as-target .result)
+          (t .before .new .ensures) (t .as-target .ensures) (ok t .step-good);
       previous-fits = fits (a .has-previous) (now (a .previous)) (ok t .previous-fits);
     }
 

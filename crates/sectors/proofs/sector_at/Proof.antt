@@ -1,3 +1,5 @@
+-- `sectors::sector_at` meets its contract: a column and a row from 1 to 8 make a sector, others none.
+-- Assumes nothing.
 use borrow.Author.Tests.{le-leb, lt-leb}
 use native.Mathlib.Omega.{arith}
 use Rattle.sectors.specs.Floor.{placed}
@@ -15,7 +17,9 @@ returns-2 c = rw (le-leb 1 (c .before .before .args .column) (omega arith), lt-l
 
 returns-3 : tie.Need-returns-3
 unfolding placed
-returns-3 c = rw (le-leb 1 (c .before .before .before .args .column) (omega arith), le-leb (c .before .before .before .args .column) 8 (omega arith), lt-leb 1 (c .before .before .before .args .row) (omega arith))
+returns-3 c =
+    let a = c .before .before .before .args in
+    rw (le-leb 1 (a .column) (omega arith), le-leb (a .column) 8 (omega arith), lt-leb 1 (a .row) (omega arith))
 
 returns-4 : tie.Need-returns-4
 unfolding placed

@@ -1,13 +1,43 @@
-use mathlib.Core.Path.{ap}
-use Rattle.utilities.specs.declared.CompassDir.{CompassDir}
-use Rattle.route.specs.Window.{onEdge}
+-- `step_numbers::window_number` meets its contract: the table's lines one after the other. What is asked of the side that was made is
+-- asked of the side that the boundary's byte says.
+-- Assumes nothing.
+use mathlib.Core.Path.{_≡_, sym, ap, _∙_}
+use mathlib.Core.Bool.{true}
+use borrow.Author.Needs.{needs}
 use borrow.Author.Tests.{not-true, not-false}
-use mathlib.Core.Path.{sym, _∙_}
+use Rattle.utilities.specs.declared.CompassDir.{CompassDir}
+use Rattle.utilities.specs.Compass.{sideOf}
+use Rattle.route.specs.Window.{onEdge}
 use Rattle.route.specs.Step.{eachStep}
 use Rattle.route.proofs.Rows.{tests}
-use borrow.Author.Needs.{needs}
 use Rattle.step_numbers.proofs.window_number.Statement.{statement}
 use Rattle.step_numbers.proofs.window_number.Tie as tie
+
+-- the places: from where the first cell was asked for, the side and the call; from where the last was, the first
+abbrev side : tie.After-on-edge → tie.After-from-boundary
+side c = c .before
+
+abbrev start : tie.After-on-edge → tie.Start
+start c = side c .before .before .before .before
+
+abbrev first : tie.After-on-edge2 → tie.After-on-edge
+first c = c .before .before
+
+-- what was answered of the first cell, and of the last
+first-edge : (c : tie.After-on-edge) → let a = start c .args in onEdge (sideOf (a .boundary)) (a .first) ≡ c .on-edge .result
+first-edge c = sym (c .on-edge .ensures ∙ ap (λ (d : CompassDir). onEdge d (start c .args .first)) (side c .from-boundary .ensures))
+
+last-edge : (c : tie.After-on-edge2) → let a = start (first c) .args in onEdge (sideOf (a .boundary)) (a .last) ≡ c .on-edge2 .result
+last-edge c =
+    let s = start (first c) in
+    sym (c .on-edge2 .ensures ∙ ap (λ (d : CompassDir). onEdge d (s .args .last)) (side (first c) .from-boundary .ensures))
+
+-- where it was not refused, each is on the edge
+first-on : (c : tie.Else4) → let a = start (c .before) .args in onEdge (sideOf (a .boundary)) (a .first) ≡ true
+first-on c = first-edge (c .before) ∙ not-false _ (c .if4 .left)
+
+last-on : (c : tie.Else5) → let a = start (first (c .before)) .args in onEdge (sideOf (a .boundary)) (a .last) ≡ true
+last-on c = last-edge (c .before) ∙ not-false _ (c .if5 .left)
 
 returns : tie.Need-returns
 unfolding eachStep
@@ -21,51 +51,26 @@ returns-3 : tie.Need-returns-3
 unfolding eachStep
 returns-3 c = search tests
 
-from-boundary-requires : tie.Need-from-boundary-requires
-from-boundary-requires c κs = search needs
-
-on-edge-requires : tie.Need-on-edge-requires
-on-edge-requires c κs = search needs
-
 returns-4 : tie.Need-returns-4
 unfolding eachStep
-returns-4 c = let e = ap (λ (d : CompassDir). onEdge d (c .before .before .before .before .before .before .args .first)) (c .before .before .from-boundary .ensures) in search (tests, sym (c .before .on-edge .ensures ∙ e) ∙ not-true _ (c .if4 .taken))
-
-on-edge-requires-2 : tie.Need-on-edge-requires-2
-on-edge-requires-2 c κs = search needs
+returns-4 c = search (tests, first-edge (c .before) ∙ not-true _ (c .if4 .taken))
 
 returns-5 : tie.Need-returns-5
 unfolding eachStep
-returns-5 c =
-    let e = ap (λ (d : CompassDir). onEdge d (c .before .before .before .before .before .before .before .before .args .first)) (c .before .before .before .before .from-boundary .ensures) in
-    let f = ap (λ (d : CompassDir). onEdge d (c .before .before .before .before .before .before .before .before .args .last)) (c .before .before .before .before .from-boundary .ensures) in
-    search (tests, sym (c .before .before .before .on-edge .ensures ∙ e) ∙ not-false _ (c .before .before .if4 .left), sym (c .before .on-edge2 .ensures ∙ f) ∙ not-true _ (c .if5 .taken))
+returns-5 c = search (tests, first-on (c .before .before), last-edge (c .before) ∙ not-true _ (c .if5 .taken))
 
 returns-6 : tie.Need-returns-6
 unfolding eachStep
-returns-6 c =
-    let e = ap (λ (d : CompassDir). onEdge d (c .before .before .before .before .before .before .before .before .before .args .first)) (c .before .before .before .before .before .from-boundary .ensures) in
-    let f = ap (λ (d : CompassDir). onEdge d (c .before .before .before .before .before .before .before .before .before .args .last)) (c .before .before .before .before .before .from-boundary .ensures) in
-    search (tests, sym (c .before .before .before .before .on-edge .ensures ∙ e) ∙ not-false _ (c .before .before .before .if4 .left), sym (c .before .before .on-edge2 .ensures ∙ f) ∙ not-false _ (c .before .if5 .left))
+returns-6 c = search (tests, first-on (c .before .before .before), last-on (c .before))
 
 returns-7 : tie.Need-returns-7
 unfolding eachStep
-returns-7 c =
-    let e = ap (λ (d : CompassDir). onEdge d (c .before .before .before .before .before .before .before .before .before .args .first)) (c .before .before .before .before .before .from-boundary .ensures) in
-    let f = ap (λ (d : CompassDir). onEdge d (c .before .before .before .before .before .before .before .before .before .args .last)) (c .before .before .before .before .before .from-boundary .ensures) in
-    search (tests, sym (c .before .before .before .before .on-edge .ensures ∙ e) ∙ not-false _ (c .before .before .before .if4 .left), sym (c .before .before .on-edge2 .ensures ∙ f) ∙ not-false _ (c .before .if5 .left))
+returns-7 c = search (tests, first-on (c .before .before .before), last-on (c .before))
 
 pub window-number-spec : {M : Type 1} → statement M
-window-number-spec =
-    tie.close
-    (tie.spec
-    returns
-    returns-2
-    returns-3
-    from-boundary-requires
-    on-edge-requires
+window-number-spec = tie.close (tie.spec
+    returns returns-2 returns-3
+    (λ c κs. search needs) (λ c κs. search needs)
     returns-4
-    on-edge-requires-2
-    returns-5
-    returns-6
-    returns-7)
+    (λ c κs. search needs)
+    returns-5 returns-6 returns-7)

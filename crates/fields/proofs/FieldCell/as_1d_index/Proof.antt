@@ -1,3 +1,5 @@
+-- `fields::FieldCell::as_1d_index` meets its contract: a cell inside has its index, one outside has 100.
+-- Assumes nothing.
 use native.Mathlib.Omega.{arith}
 use borrow.Author.Tests.{le-ltb, lt-ltb}
 use Rattle.fields.specs.Cell.{indexOr}

@@ -1,3 +1,5 @@
+-- `fields::FieldCell::new` meets its contract: a column and a row below 10 make a cell, others none.
+-- Assumes nothing.
 use native.Mathlib.Omega.{arith}
 use borrow.Author.Tests.{le-ltb, lt-ltb}
 use Rattle.fields.specs.Cell.{cellIn}

@@ -1,3 +1,5 @@
+-- `replay::legs::put_sectors` is safe and ends: its place counts up to 16, and the list keeps its length.
+-- Assumes nothing.
 use Prim.Native.Nat.{_≤_, _-_}
 use mathlib.Core.Path.{_≡_}
 use lib.ListN.{length}

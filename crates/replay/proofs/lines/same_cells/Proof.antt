@@ -1,3 +1,5 @@
+-- `replay::lines::same_cells` is safe and ends: its place counts up to 10.
+-- Assumes nothing.
 use native.Mathlib.Omega.{arith}
 use Prim.Native.Nat.{_≤_, _-_}
 use Rattle.replay.proofs.lines.same_cells.Statement.{statement}

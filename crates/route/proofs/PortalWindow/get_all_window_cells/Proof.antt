@@ -1,3 +1,6 @@
+-- `route::PortalWindow::get_all_window_cells` meets its contract. The loop's invariant: of the edge's cells before the place, those
+-- of the window are collected.
+-- Assumes nothing.
 use mathlib.Core.Path.{refl, sym, _∙_}
 use mathlib.Core.Logic.{⊎-elim}
 use Prim.Native.Nat.{_≤_, _<_, _-_}
@@ -15,41 +18,27 @@ Inv-loop boundary start end length cells₀ count₀ place₀ cells count place 
 abbrev μ-loop : tie.MeasureT-loop
 μ-loop boundary start end length cells₀ count₀ place₀ cells count place = length - place
 
-edge-length-requires : tie.Need-edge-length-requires Inv-loop μ-loop
-edge-length-requires c κs = search needs
+-- the places, from inside the loop: where the edge's length is taken, and the call; the length is at most 10
+abbrev measured : tie.In-loop Inv-loop μ-loop → tie.After-edge-length Inv-loop μ-loop
+measured c = c .before .before
 
-loop-holds : tie.Need-loop-holds Inv-loop μ-loop
-loop-holds c = (omega arith, record { cells-are = refl; count-is = refl; at-most = omega arith })
+abbrev start : tie.In-loop Inv-loop μ-loop → tie.Start Inv-loop μ-loop
+start c = measured c .before
 
-edge-cell-requires : tie.Need-edge-cell-requires Inv-loop μ-loop
-edge-cell-requires c κs = omega (arith, c .before .before .edge-length .ensures)
-
-is-between-requires : tie.Need-is-between-requires Inv-loop μ-loop
-is-between-requires c κs = search needs
-
-mul-cells : tie.Need-mul-cells Inv-loop μ-loop
-mul-cells c = omega (arith, c .before .before .before .before .before .edge-length .ensures, edge-at-most (c .before .before .before .before .before .before .args .self .boundary))
-
-array-write-cells : tie.Need-array-write-cells Inv-loop μ-loop
-array-write-cells c = omega (arith, c .before .before .before .before .before .edge-length .ensures, edge-at-most (c .before .before .before .before .before .before .args .self .boundary))
-
-add-count : tie.Need-add-count Inv-loop μ-loop
-add-count c = omega (arith, c .before .before .before .before .before .edge-length .ensures, edge-at-most (c .before .before .before .before .before .before .args .self .boundary))
-
-add-place : tie.Need-add-place Inv-loop μ-loop
-add-place c = omega arith
-
-loop-less : tie.Need-loop-less Inv-loop μ-loop
-loop-less c = omega arith
+short : (c : tie.In-loop Inv-loop μ-loop) → measured c .edge-length .result ≤ 10
+short c = omega (arith, measured c .edge-length .ensures, edge-at-most (start c .args .self .boundary))
 
 loop-again : tie.Need-loop-again Inv-loop μ-loop
 loop-again c =
-    let a = c .before .before .before .before .before .before .args .self in
-    let l = c .before .before .before .before .loop in
-    let fits = edge-at-most (a .boundary) in
-    let more : l .place < length (edge (a .boundary)) = rw (← c .before .before .before .before .before .edge-length .ensures) (c .before .before .before .loop-test .taken) in
-    let x = c .before .before .edge-cell in
-    let answer = sym (c .before .is-between .ensures) in (
+    let asked = c .before in
+    let found = asked .before in
+    let at = found .before in
+    let l = at .before .loop in
+    let b = start at .args .self .boundary in
+    let fits = edge-at-most b in
+    let more : l .place < length (edge b) = rw (← (measured at .edge-length .ensures)) (at .loop-test .taken) in
+    let x = found .edge-cell in
+    let answer = sym (asked .is-between .ensures) in (
       omega arith,
       ⊎-elim
           (λ w. rw (w .1, w .2) (taken (l .inv .1) fits more (x .result) (x .ensures) (answer ∙ w .0 .taken)))
@@ -62,19 +51,14 @@ unfolding cellsBetween
 returns c = collected-all (c .before .loop .inv .1) (omega (arith, c .before .before .edge-length .ensures))
 
 pub get-all-window-cells-spec : {M : Type 1} → statement M
-get-all-window-cells-spec =
-    tie.close
-    (tie.spec
-    Inv-loop
-    μ-loop
-    edge-length-requires
-    loop-holds
-    edge-cell-requires
-    is-between-requires
-    mul-cells
-    array-write-cells
-    add-count
-    add-place
-    loop-less
-    loop-again
-    returns)
+get-all-window-cells-spec = tie.close (tie.spec
+    Inv-loop μ-loop
+    (λ c κs. search needs)
+    (λ c. (omega arith, record { cells-are = refl; count-is = refl; at-most = omega arith }))
+    (λ c κs. omega (arith, measured c .edge-length .ensures))
+    (λ c κs. search needs)
+    (λ c. omega (arith, short (c .before .before .before)))
+    (λ c. omega (arith, short (c .before .before .before)))
+    (λ c. omega (arith, short (c .before .before .before)))
+    (λ c. omega arith) (λ c. omega arith)
+    loop-again returns)

@@ -1,57 +1,37 @@
+-- `route::RouteStep::new` meets its contract: each field is the byte of its place, read one after the other.
+-- Assumes nothing.
 use borrow.Author.Needs.{needs}
 use Rattle.route.proofs.RouteStep.new.Statement.{statement}
 use Rattle.route.proofs.RouteStep.new.Tie as tie
 
-byte-at-requires : tie.Need-byte-at-requires
-byte-at-requires c κs = search needs
-
-wide-requires : tie.Need-wide-requires
-wide-requires c κs = search needs
-
-byte-at-requires-2 : tie.Need-byte-at-requires-2
-byte-at-requires-2 c κs = search needs
-
-wide-requires-2 : tie.Need-wide-requires-2
-wide-requires-2 c κs = search needs
-
-byte-at-requires-3 : tie.Need-byte-at-requires-3
-byte-at-requires-3 c κs = search needs
-
-byte-at-requires-4 : tie.Need-byte-at-requires-4
-byte-at-requires-4 c κs = search needs
-
-wide-requires-3 : tie.Need-wide-requires-3
-wide-requires-3 c κs = search needs
-
-byte-at-requires-5 : tie.Need-byte-at-requires-5
-byte-at-requires-5 c κs = search needs
-
-wide-requires-4 : tie.Need-wide-requires-4
-wide-requires-4 c κs = search needs
-
-byte-at-requires-6 : tie.Need-byte-at-requires-6
-byte-at-requires-6 c κs = search needs
-
-from-boundary-requires : tie.Need-from-boundary-requires
-from-boundary-requires c κs = search needs
-
 returns : tie.Need-returns
 returns c =
-    rw (c .before .before .before .before .before .before .before .before .before .wide .ensures, c .before .before .before .before .before .before .before .before .before .before .byte-at .ensures, c .before .before .before .before .before .before .before .wide2 .ensures, c .before .before .before .before .before .before .before .before .byte-at2 .ensures, c .before .before .before .before .before .before .byte-at3 .ensures, c .before .before .before .before .wide3 .ensures, c .before .before .before .before .before .byte-at4 .ensures, c .before .before .wide4 .ensures, c .before .before .before .byte-at5 .ensures, c .from-boundary .ensures, c .before .byte-at6 .ensures)
+    let sixth = c .before in
+    let last = sixth .before in
+    let fifth = last .before in
+    let first = fifth .before in
+    let fourth = first .before in
+    let third = fourth .before in
+    let goal = third .before in
+    let second = goal .before in
+    let sector = second .before in
+    rw (
+      sector .wide .ensures,
+      sector .before .byte-at .ensures,
+      goal .wide2 .ensures,
+      second .byte-at2 .ensures,
+      third .byte-at3 .ensures,
+      first .wide3 .ensures,
+      fourth .byte-at4 .ensures,
+      last .wide4 .ensures,
+      fifth .byte-at5 .ensures,
+      c .from-boundary .ensures,
+      sixth .byte-at6 .ensures,
+    )
 
 pub new-spec : {M : Type 1} → statement M
-new-spec =
-    tie.close
-    (tie.spec
-    byte-at-requires
-    wide-requires
-    byte-at-requires-2
-    wide-requires-2
-    byte-at-requires-3
-    byte-at-requires-4
-    wide-requires-3
-    byte-at-requires-5
-    wide-requires-4
-    byte-at-requires-6
-    from-boundary-requires
+new-spec = tie.close (tie.spec
+    (λ c κs. search needs) (λ c κs. search needs) (λ c κs. search needs) (λ c κs. search needs)
+    (λ c κs. search needs) (λ c κs. search needs) (λ c κs. search needs) (λ c κs. search needs)
+    (λ c κs. search needs) (λ c κs. search needs) (λ c κs. search needs)
     returns)

@@ -1,3 +1,5 @@
+-- `utilities::CompassDir::differences` meets its contract: direction by direction.
+-- Assumes nothing.
 use borrow.Author.Needs.{needs}
 use Rattle.utilities.proofs.CompassDir.differences.Statement.{statement}
 use Rattle.utilities.proofs.CompassDir.differences.Tie as tie

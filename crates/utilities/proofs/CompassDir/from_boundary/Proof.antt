@@ -1,3 +1,5 @@
+-- `utilities::CompassDir::from_boundary` meets its contract: boundary by boundary; above 3 there is none.
+-- Assumes nothing.
 use mathlib.Core.Path.{sym}
 use native.Mathlib.Omega.{arith}
 use lib.ListN.{List·getD-eq-default}
