@@ -78,24 +78,24 @@
  * Below, for each call, its bytes of stack with 101 waves, beside what memcpy and memset need, read off the archive
  * (tools/stack/frames); and its nanoseconds, the median on practice floors (tools/time/header) on one core of an AMD EPYC that
  * did nothing else. Neither is proved, and times belong to the machine. Readers of a byte are alike.
- *     hanjolum_sector, a goal                             69216      3620
- *     hanjolum_sector, a window                           69216      2784
- *     hanjolum_arrivals                                     144      9438
- *     hanjolum_bounds                                     63312      7431
- *     hanjolum_window_costs, eight windows                63280     11202
- *     hanjolum_window_tour, eight windows, all orders     63104    572837
- *     hanjolum_leg, sixteen steps                         70928     32583
+ *     hanjolum_sector, a goal                             66624      2857
+ *     hanjolum_sector, a window                           66624      2444
+ *     hanjolum_arrivals                                     144      9407
+ *     hanjolum_bounds                                     63312      7059
+ *     hanjolum_window_costs, eight windows                63280      9825
+ *     hanjolum_window_tour, eight windows, all orders     63104    571225
+ *     hanjolum_leg, sixteen steps                         70928     29430
  *     hanjolum_leg_file_write, sixteen steps                  8         5
  *     hanjolum_leg_file_read, sixteen steps                   8         4
- *     hanjolum_practice_floor                               752       198
- *     hanjolum_init, a goal                               31712      1445
- *     hanjolum_build, a goal                              66320      1981
- *     hanjolum_flow_new, a goal                            1088       264
- *     hanjolum_flow_build, a goal                          1344       479
- *     hanjolum_line                                         848        48
- *     hanjolum_walk_bresenham_shallow                       592        37
- *     hanjolum_walk_bresenham_steep                         592        38
- *     hanjolum_line_end                                      56        11
+ *     hanjolum_practice_floor                               752       212
+ *     hanjolum_init, a goal                               27576      1032
+ *     hanjolum_build, a goal                              66368      1729
+ *     hanjolum_flow_new, a goal                            1088       251
+ *     hanjolum_flow_build, a goal                          1344       482
+ *     hanjolum_line                                         664        38
+ *     hanjolum_walk_bresenham_shallow                       848        50
+ *     hanjolum_walk_bresenham_steep                         848        51
+ *     hanjolum_line_end                                      56        10
  *     hanjolum_is_goal                                        8         4
  */
 #ifndef HANJOLUM_H
@@ -115,8 +115,8 @@ extern "C" {
 
 #define HANJOLUM_VERSION_MAJOR 1
 #define HANJOLUM_VERSION_MINOR 0
-#define HANJOLUM_VERSION_PATCH 0
-#define HANJOLUM_VERSION "1.0.0"
+#define HANJOLUM_VERSION_PATCH 1
+#define HANJOLUM_VERSION "1.0.1"
 
 enum {
     HANJOLUM_CELLS = 100,      /* cells of a sector: its cost bytes, and the bytes of its sheet */
