@@ -21,7 +21,7 @@ use Rattle.fields.specs.declared.Stepped.the-variants.{Cell}
 use Rattle.fields.specs.Cell.{indexOf, cellAt, stepped}
 use Rattle.fields.specs.Neighbours.{ByOne, BesideAt}
 use Rattle.fields.specs.Steps.{Arrives}
-use Rattle.fields.proofs.Steps.{stepped-cell, steps-to, cell-inside, cell-of-index}
+use Rattle.fields.proofs.Steps.{stepped-cell, steps-to, told, cell-inside, cell-of-index}
 use Rattle.fields.proofs.Beside.{step-beside, beside-step, beside-flip, beside-below}
 use Rattle.integration_field.specs.Diagonal.{wallAt, diagonal, passesWall}
 use Rattle.arrows.proofs.Fall.{Sector, value, NoWall, spreads}
@@ -40,10 +40,10 @@ near i h North c a = across i h North c (List·Memᴰ·head refl) a
 near i h East c a = across i h East c (List·Memᴰ·tail (List·Memᴰ·head refl)) a
 near i h South c a = across i h South c (List·Memᴰ·tail (List·Memᴰ·tail (List·Memᴰ·head refl))) a
 near i h West c a = across i h West c (List·Memᴰ·tail (List·Memᴰ·tail (List·Memᴰ·tail (List·Memᴰ·head refl)))) a
-near i h NorthEast c a = let w = a .within in corner h (omega arith) (inl (omega arith)) (inr (omega arith))
-near i h SouthEast c a = let w = a .within in corner h (omega arith) (inl (omega arith)) (inl (omega arith))
-near i h SouthWest c a = let w = a .within in corner h (omega arith) (inr (omega arith)) (inl (omega arith))
-near i h NorthWest c a = let w = a .within in corner h (omega arith) (inr (omega arith)) (inr (omega arith))
+near i h NorthEast c a = let w = a .within in let t = told (cellAt i) NorthEast c a in corner h (omega arith) (inl (omega arith)) (inr (omega arith))
+near i h SouthEast c a = let w = a .within in let t = told (cellAt i) SouthEast c a in corner h (omega arith) (inl (omega arith)) (inl (omega arith))
+near i h SouthWest c a = let w = a .within in let t = told (cellAt i) SouthWest c a in corner h (omega arith) (inr (omega arith)) (inl (omega arith))
+near i h NorthWest c a = let w = a .within in let t = told (cellAt i) NorthWest c a in corner h (omega arith) (inr (omega arith)) (inr (omega arith))
 near i h Zero c a = absurd (true≢false (sym (a .pointing)))
 
 pub near-in : {i n : ℕ} → Near i n → n < 100

@@ -18,7 +18,7 @@ use Rattle.utilities.proofs.Compass.{Small, small, changes}
 use Rattle.fields.specs.declared.Stepped.the-variants.{Cell}
 use Rattle.fields.specs.Cell.{cellAt, stepped}
 use Rattle.fields.specs.Steps.{Arrives}
-use Rattle.fields.proofs.Steps.{steps-to, cell-inside}
+use Rattle.fields.proofs.Steps.{Told, told, steps-by, cell-inside}
 use Rattle.route.proofs.Below.{holds-at, same-at}
 use Rattle.flow_bits.specs.Byte.{bitsOf, dirWith, dirOf}
 use Rattle.arrows.specs.Arrows.{northward, eastward, southward, westward, Away}
@@ -52,24 +52,22 @@ module _ (d : CompassDir) (x y : ℕ) where
   s = small d refl
 
   pub away : Arrives (cellAt x) d (cellAt y) → Away (bitsOf d) x y
-  away a = record {
-    rows = rw (b .north-is, b .south-is) (omega (arith, s .rows, a .row-at));
-    columns = rw (b .east-is, b .west-is) (omega (arith, s .columns, a .column-at));
+  away a = let t = told (cellAt x) d (cellAt y) a in record {
+    rows = rw (b .north-is, b .south-is) (t .rows);
+    columns = rw (b .east-is, b .west-is) (t .columns);
     somewhere = omega (arith, s .columns, s .rows, ltb-true 0 (changes δ) (sym (s .some) ∙ a .pointing));
     not-north-south = rw (b .north-is, b .south-is) (omega (arith, s .rows));
     not-east-west = rw (b .east-is, b .west-is) (omega (arith, s .columns));
   }
 
-  arrives : y < 100 → Away (bitsOf d) x y → Arrives (cellAt x) d (cellAt y)
+  arrives : y < 100 → Away (bitsOf d) x y → stepped (cellAt x) d ≡ Cell (cellAt y)
   arrives h w =
-      let rows : y / 10 + falls (δ .row) ≡ x / 10 + rises (δ .row) = rw (b .north-is, b .south-is) at (w .rows) in
-      let columns : y % 10 + falls (δ .column) ≡ x % 10 + rises (δ .column) = rw (b .east-is, b .west-is) at (w .columns) in
-      record {
-        pointing = s .some ∙ lt-ltb 0 (changes δ) (omega (arith, s .columns, s .rows, w .somewhere));
-        column-at = omega (arith, s .columns, columns);
-        row-at = omega (arith, s .rows, rows);
-        within = cell-inside y h;
-      }
+      let pointing = s .some ∙ lt-ltb 0 (changes δ) (omega (arith, s .columns, s .rows, w .somewhere)) in
+      let sums : Told (cellAt x) d (cellAt y) = record {
+        columns = rw (b .east-is, b .west-is) at (w .columns);
+        rows = rw (b .north-is, b .south-is) at (w .rows);
+      } in
+      steps-by (cellAt x) d (cellAt y) pointing sums (cell-inside y h)
 
 -- bits that point somewhere, to no two opposite sides, are those of the direction that they read as: computed once, for all sixteen
 abbrev pub isArrow : ℕ → Bool
@@ -89,7 +87,7 @@ reads-so byte x y h w =
     let e =
     bits-read a (omega arith)
     (rw (lt-ltb 0 a (w .somewhere), le-leb (northward a + southward a) 1 (w .not-north-south), le-leb (eastward a + westward a) 1 (w .not-east-west))) in
-    steps-to (cellAt x) (dirWith all a) (cellAt y) (arrives (dirWith all a) x y h (subst (λ (b : ℕ). Away b x y) (sym e) w))
+    arrives (dirWith all a) x y h (subst (λ (b : ℕ). Away b x y) (sym e) w)
 
 pub away-once : (a x y z : ℕ) → Away a x y → Away a x z → y ≡ z
 away-once a x y z v w = omega (arith, v .rows, v .columns, w .rows, w .columns)

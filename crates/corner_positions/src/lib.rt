@@ -80,7 +80,8 @@ fn place_at(
     queued + taken as usize
 }
 
-// The same where a step from a cell arrives.
+// The neighbour of a cell in one direction is placed so, where there is one. The step says whether there is; the neighbour's index is told by the
+// index that the step is made from.
 fn place_towards(
     entered: &mut [u32; 100],
     queue: &mut [u8; 101],
@@ -97,11 +98,11 @@ fn place_towards(
     let Stepped::Cell(neighbour) = from.get_in_compass_direction(dir) else {
         return queued;
     };
-    let index = neighbour.index_beside(cell, dir);
+    let index = fields::index_beside(cell, dir);
     place_at(entered, queue, queued, value, index)
 }
 
-// The same for the four neighbours of a cell.
+// The four neighbours of a cell are placed so, in the order N, E, S, W.
 fn place_around(
     entered: &mut [u32; 100],
     queue: &mut [u8; 101],

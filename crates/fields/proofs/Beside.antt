@@ -17,20 +17,20 @@ use Rattle.fields.specs.declared.Stepped.the-variants.{Cell}
 use Rattle.fields.specs.Cell.{Inside, stepped}
 use Rattle.fields.specs.Neighbours.{ByOne, Beside, BesideAt}
 use Rattle.fields.specs.Steps.{Arrives}
-use Rattle.fields.proofs.Steps.{stepped-cell, steps-to}
+use Rattle.fields.proofs.Steps.{stepped-cell, told, steps-by}
 
 module _ (a b : FieldCell) (i : Inside a) where
   north-beside : Arrives a North b → Beside a b
-  north-beside r = record { this-in = i; other-in = r .within; one-apart = inl (omega arith, inr (omega arith)) }
+  north-beside r = let t = told a North b r in record { this-in = i; other-in = r .within; one-apart = inl (omega arith, inr (omega arith)) }
 
   east-beside : Arrives a East b → Beside a b
-  east-beside r = record { this-in = i; other-in = r .within; one-apart = inr (omega arith, inl (omega arith)) }
+  east-beside r = let t = told a East b r in record { this-in = i; other-in = r .within; one-apart = inr (omega arith, inl (omega arith)) }
 
   south-beside : Arrives a South b → Beside a b
-  south-beside r = record { this-in = i; other-in = r .within; one-apart = inl (omega arith, inl (omega arith)) }
+  south-beside r = let t = told a South b r in record { this-in = i; other-in = r .within; one-apart = inl (omega arith, inl (omega arith)) }
 
   west-beside : Arrives a West b → Beside a b
-  west-beside r = record { this-in = i; other-in = r .within; one-apart = inr (omega arith, inr (omega arith)) }
+  west-beside r = let t = told a West b r in record { this-in = i; other-in = r .within; one-apart = inr (omega arith, inr (omega arith)) }
 
   pub step-beside : (d : CompassDir) → List·Memᴰ d orthogonal → stepped a d ≡ Cell b → Beside a b
   step-beside d m e = first (List·Memᴰ·cases-cons m)
@@ -68,16 +68,16 @@ beside-step a b r = pick (r .one-apart)
     pick (inl (p, inl q)) = (
       South,
       List·Memᴰ·tail (List·Memᴰ·tail (List·Memᴰ·head refl)),
-      steps-to a South b (record { pointing = refl; column-at = omega arith; row-at = omega arith; within = oo }),
+      steps-by a South b refl (omega arith) oo,
     )
     pick (inl (p, inr q)) =
-        (North, List·Memᴰ·head refl, steps-to a North b (record { pointing = refl; column-at = omega arith; row-at = omega arith; within = oo }))
+        (North, List·Memᴰ·head refl, steps-by a North b refl (omega arith) oo)
     pick (inr (p, inl q)) =
-        (East, List·Memᴰ·tail (List·Memᴰ·head refl), steps-to a East b (record { pointing = refl; column-at = omega arith; row-at = omega arith; within = oo }))
+        (East, List·Memᴰ·tail (List·Memᴰ·head refl), steps-by a East b refl (omega arith) oo)
     pick (inr (p, inr q)) = (
       West,
       List·Memᴰ·tail (List·Memᴰ·tail (List·Memᴰ·tail (List·Memᴰ·head refl))),
-      steps-to a West b (record { pointing = refl; column-at = omega arith; row-at = omega arith; within = oo }),
+      steps-by a West b refl (omega arith) oo,
     )
 
 pub beside-flip : (a b : FieldCell) → Beside a b → Beside b a

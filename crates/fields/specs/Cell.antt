@@ -1,10 +1,11 @@
 -- Cells of a sector and the steps between them (01, "A leg": cell index = row times 10 plus column; row 0 is north).
 -- Assumes nothing.
 use mathlib.Core.Bool.{Bool, true, false, cond, _&&_}
-use Prim.Native.Nat.{ℕ, _+_, _-_, _*_, _/_, _%_, _<_}
+use Prim.Native.Nat.{ℕ, _+_, _*_, _/_, _%_, _<_}
 use lib.Dec.{ltb}
+use lib.IntN.{pos, natAbs, _+ℤ_}
 use Rattle.utilities.specs.declared.CompassDir.{CompassDir}
-use Rattle.utilities.specs.Compass.{differences, points, sumWithin}
+use Rattle.utilities.specs.Compass.{differences, points, within}
 use Rattle.fields.specs.declared.FieldCell.{FieldCell}
 use Rattle.fields.specs.declared.Stepped.{Stepped}
 use Rattle.fields.specs.declared.Stepped.the-variants.{Cell, Outside}
@@ -40,9 +41,9 @@ unfoldable pub cellIn : ℕ → ℕ → Stepped
 cellIn c r = cellIf (inside (cell c r)) (cell c r)
 
 -- A step in a direction (02, "Job 5"): the cell at the two sums of the cell and the direction's differences, where both lie in 0 to 9, else
--- outside. A difference is kept plus one, so the sums are one more than the cell's column and row. `Zero` points nowhere.
+-- outside. `Zero` points nowhere.
 unfoldable pub stepped : FieldCell → CompassDir → Stepped
 stepped c d =
-    let δ = differences d in
-    cellIf (points d && (sumWithin 9 (c .column) (δ .column) && sumWithin 9 (c .row) (δ .row)))
-    (cell (c .column + δ .column - 1) (c .row + δ .row - 1))
+    let column = pos (c .column) +ℤ differences d .column in
+    let row = pos (c .row) +ℤ differences d .row in
+    cellIf (points d && (within 9 column && within 9 row)) (cell (natAbs column) (natAbs row))

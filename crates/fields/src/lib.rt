@@ -1,10 +1,12 @@
 // Cells of a sector, and steps from one to the next.
 use utilities::CompassDir;
 ghost use mathlib.Core.Path.{_≡_};
-ghost use Prim.Native.Nat.{min};
+ghost use Prim.Native.Nat.{_<_};
 ghost use Rattle.fields.specs.Cell.{inside, indexOf, cellAt, indexOr, cellIn, stepped};
-ghost use Rattle.fields.specs.Steps.{Arrives, BySums, Undone};
-ghost use Rattle.fields.specs.Inner.{farOut};
+ghost use Rattle.fields.specs.declared.FieldCell.{FieldCell};
+ghost use Rattle.fields.specs.declared.Stepped.the-variants.{Cell};
+ghost use Rattle.fields.specs.Steps.{BySums, Undone};
+ghost use Rattle.fields.specs.Inner.{Near, StaysInside};
 
 // ID of a cell within a field.
 #[repr(C)]
@@ -17,16 +19,6 @@ pub struct FieldCell {
 pub enum Stepped {
     Cell(FieldCell),
     Outside,
-}
-
-// From here on a column or row counts as this one. An index divided by ten lies below it, so that the compiler leaves the test out.
-const FAR_OUT: usize = 0x4000_0000_0000_0000;
-
-// A column or row that no sum of a difference wraps round: no step leads into the sector from 11 on, so none from far out.
-fn capped(x: usize) -> usize
-    ensures { λ r. ⌜ r ≡ min x farOut ⌝ }
-{
-    if x < FAR_OUT { x } else { FAR_OUT }
 }
 
 impl FieldCell {
@@ -81,8 +73,9 @@ impl FieldCell {
     }
 
     // The cell one step away, at the sums of the cell's column and row and the direction's differences, or Outside where one of them leaves
-    // the sector. Differences are kept plus one, so the sums of cells in the sector are 1 to 10.
+    // the sector.
     pub fn get_in_compass_direction(self, dir: CompassDir) -> Stepped
+        requires { ⌜ Near self ⌝ }
         ensures answer { λ r. ⌜ r ≡ stepped self dir ⌝ }
         ensures by_sums { λ r. ⌜ BySums self dir r ⌝ }
         ensures undone { λ r. ⌜ Undone self dir r ⌝ }
@@ -91,26 +84,26 @@ impl FieldCell {
             return Stepped::Outside;
         }
         let apart = dir.differences();
-        let column = capped(self.column) + apart.column;
-        let row = capped(self.row) + apart.row;
-        if 1 <= column && column <= 10 && 1 <= row && row <= 10 {
+        let column = self.column as i64 + apart.column;
+        let row = self.row as i64 + apart.row;
+        if 0 <= column && column <= 9 && 0 <= row && row <= 9 {
             return Stepped::Cell(FieldCell {
-                column: column - 1,
-                row: row - 1,
+                column: column as usize,
+                row: row as usize,
             });
         }
         Stepped::Outside
     }
+}
 
-    // The index of the cell that a step arrived at, by the index that it was made from: a row is ten apart, a column one. It takes no division,
-    // so that whatever waits for the index does not wait for one.
-    pub fn index_beside(self, index: usize, dir: CompassDir) -> usize
-        requires { ⌜ Arrives (cellAt index) dir self ⌝ }
-        ensures { λ r. ⌜ r ≡ indexOf self ⌝ }
-    {
-        let apart = dir.differences();
-        index + apart.row * 10 + apart.column - 11
-    }
+// The index of the cell one step away from the cell at an index, where the step stays in the sector: a row is ten apart, a column one. It takes no
+// division by ten, which the cell's own column and row would, so that whatever reads at the index does not wait for one.
+pub fn index_beside(index: usize, dir: CompassDir) -> usize
+    requires { ⌜ StaysInside index dir ⌝ }
+    ensures { λ r. ⌜ ((n : FieldCell) → stepped (cellAt index) dir ≡ Cell n → (r ≡ indexOf n) × (r < 100)) ⌝ }
+{
+    let apart = dir.differences();
+    (index as i64 + apart.row * 10 + apart.column) as usize
 }
 
 // A cell's index that is kept in a byte, as a number of an index's width.

@@ -70,7 +70,8 @@ fn relax(
     found + first as usize
 }
 
-// A value offered to the neighbour in one direction: the sum is compared before it is cut to 16 bits. Answers how many cells are listed.
+// A value offered to the neighbour in one direction: the sum is compared before it is cut to 16 bits. The step says whether there is a neighbour;
+// its index is told by the index that the step is made from. Answers how many cells are listed.
 fn offer_towards(
     cells: &mut [u32; 100],
     costs: &[u8],
@@ -90,7 +91,7 @@ fn offer_towards(
     let Stepped::Cell(neighbour) = from.get_in_compass_direction(dir) else {
         return found;
     };
-    let index = neighbour.index_beside(cell, dir);
+    let index = fields::index_beside(cell, dir);
     let cost = wide(costs[index]);
     let sum = value + cost;
     relax(cells, before, next, found, index, sum)

@@ -281,7 +281,7 @@ fn look(
     let Stepped::Cell(neighbour) = FieldCell::from_index(from).get_in_compass_direction(dir) else {
         return counts;
     };
-    let n = neighbour.index_beside(from, dir);
+    let n = fields::index_beside(from, dir);
     look_at(
         cells,
         corners,

@@ -13,7 +13,7 @@ use Rattle.utilities.proofs.Compass.{small, changes}
 use Rattle.fields.specs.declared.FieldCell.{FieldCell}
 use Rattle.fields.specs.declared.Stepped.the-variants.{Cell}
 use Rattle.fields.specs.Cell.{Inside, stepped}
-use Rattle.fields.proofs.Steps.{stepped-cell, steps-to}
+use Rattle.fields.proofs.Steps.{stepped-cell, told, steps-by}
 use Rattle.nearest_line.specs.Line.{apart}
 use Rattle.nearest_line.specs.Nearest.{Neighbours}
 
@@ -35,61 +35,53 @@ led c n i true e true d p q r s k =
     let x = ltb-true (n .column) (c .column) p in
     let y = ltb-true (n .row) (c .row) r in (
       NorthWest,
-      steps-to c NorthWest n
-          (record { pointing = refl; column-at = omega arith; row-at = omega arith; within = i }),
+      steps-by c NorthWest n refl (omega arith) i,
     )
 led c n i true e false true p q r s k =
     let x = ltb-true (n .column) (c .column) p in
     let y = ltb-true (c .row) (n .row) s in (
       SouthWest,
-      steps-to c SouthWest n
-          (record { pointing = refl; column-at = omega arith; row-at = omega arith; within = i }),
+      steps-by c SouthWest n refl (omega arith) i,
     )
 led c n i true e false false p q r s k =
     let x = ltb-true (n .column) (c .column) p in
     let y = ltb-false (n .row) (c .row) r in
     let y′ = ltb-false (c .row) (n .row) s in (
       West,
-      steps-to c West n
-          (record { pointing = refl; column-at = omega arith; row-at = omega arith; within = i }),
+      steps-by c West n refl (omega arith) i,
     )
 led c n i false true true d p q r s k =
     let x = ltb-true (c .column) (n .column) q in
     let y = ltb-true (n .row) (c .row) r in (
       NorthEast,
-      steps-to c NorthEast n
-          (record { pointing = refl; column-at = omega arith; row-at = omega arith; within = i }),
+      steps-by c NorthEast n refl (omega arith) i,
     )
 led c n i false true false true p q r s k =
     let x = ltb-true (c .column) (n .column) q in
     let y = ltb-true (c .row) (n .row) s in (
       SouthEast,
-      steps-to c SouthEast n
-          (record { pointing = refl; column-at = omega arith; row-at = omega arith; within = i }),
+      steps-by c SouthEast n refl (omega arith) i,
     )
 led c n i false true false false p q r s k =
     let x = ltb-true (c .column) (n .column) q in
     let y = ltb-false (n .row) (c .row) r in
     let y′ = ltb-false (c .row) (n .row) s in (
       East,
-      steps-to c East n
-          (record { pointing = refl; column-at = omega arith; row-at = omega arith; within = i }),
+      steps-by c East n refl (omega arith) i,
     )
 led c n i false false true d p q r s k =
     let x = ltb-false (n .column) (c .column) p in
     let x′ = ltb-false (c .column) (n .column) q in
     let y = ltb-true (n .row) (c .row) r in (
       North,
-      steps-to c North n
-          (record { pointing = refl; column-at = omega arith; row-at = omega arith; within = i }),
+      steps-by c North n refl (omega arith) i,
     )
 led c n i false false false true p q r s k =
     let x = ltb-false (n .column) (c .column) p in
     let x′ = ltb-false (c .column) (n .column) q in
     let y = ltb-true (c .row) (n .row) s in (
       South,
-      steps-to c South n
-          (record { pointing = refl; column-at = omega arith; row-at = omega arith; within = i }),
+      steps-by c South n refl (omega arith) i,
     )
 led c n i false false false false p q r s k =
     let x = ltb-false (n .column) (c .column) p in
@@ -106,8 +98,8 @@ neighbours-stepped c n i h =
 largest : (x y : ℕ) → x ≤ 1 → y ≤ 1 → 1 ≤ x + y → max x y ≡ 1
 largest x y p q r = omega arith
 
-by-one : (a b δ : ℕ) → b + 1 ≡ a + δ → δ ≤ 2 → apart a b ≡ rises δ + falls δ
-by-one a b δ p h = omega arith
+by-one : (a b r f : ℕ) → b + f ≡ a + r → r + f ≤ 1 → apart a b ≡ r + f
+by-one a b r f p h = omega arith
 
 -- and each of them is a neighbour: a direction moves by one at most in each coordinate, and by one in some
 pub stepped-neighbours : (c n : FieldCell) (d : CompassDir) → stepped c d ≡ Cell n → Neighbours c n
@@ -118,5 +110,9 @@ stepped-neighbours c n d e =
     let some = ltb-true 0 (changes δ) (sym (s .some) ∙ a .pointing) in
     let columns = rises (δ .column) + falls (δ .column) in
     let rows = rises (δ .row) + falls (δ .row) in
-    rw (by-one (c .column) (n .column) (δ .column) (a .column-at) (s .columns), by-one (c .row) (n .row) (δ .row) (a .row-at) (s .rows))
-    (largest columns rows (omega (arith, s .columns)) (omega (arith, s .rows)) (omega (arith, some)))
+    let t = told c d n a in
+    rw (
+      by-one (c .column) (n .column) (rises (δ .column)) (falls (δ .column)) (t .columns) (s .columns .one),
+      by-one (c .row) (n .row) (rises (δ .row)) (falls (δ .row)) (t .rows) (s .rows .one),
+    )
+    (largest columns rows (s .columns .one) (s .rows .one) some)

@@ -20,7 +20,7 @@ use lib.Seq.{take-suc, take-all}
 use borrow.Author.Tests.{eqb-true}
 use Rattle.utilities.specs.declared.CompassDir.{CompassDir}
 use Rattle.utilities.specs.declared.CompassDir.the-variants.{North, East, South, West, NorthEast, SouthEast, SouthWest, NorthWest, Zero}
-use Rattle.utilities.specs.Compass.{differences, rises, numberOf}
+use Rattle.utilities.specs.Compass.{differences, rises, still, numberOf}
 use Rattle.utilities.specs.Padded.{padded}
 use Rattle.utilities.proofs.Padded.{padded-push}
 use Rattle.utilities.specs.Lists.{consIf}
@@ -62,7 +62,7 @@ edge-at-most side = rw (edge-length side) (at-most (ltb (numberOf side) 4))
     at-most false = omega arith
 
 pub stride-within : (side : CompassDir) → (0 < stride side) × (stride side ≤ 10)
-stride-within side = within (eqb (differences side .column) 1)
+stride-within side = within (still (differences side .column))
   where
     within : (b : Bool) → (0 < cond b 1 10) × (cond b 1 10 ≤ 10)
     within true = (omega arith, omega arith)
@@ -73,7 +73,7 @@ along-below side k h = omega (arith, edge-at-most side, mul-le-mul-left k (strid
 
 -- the edge of a side is the row, or the column, that is the first or the last
 pub on-edge : (side : CompassDir) (i : ℕ) → onEdge side i ≡ cond (ltb 3 (numberOf side)) false
-    (cond (eqb (differences side .column) 1) (eqb (i / 10) (rises (differences side .row) * 9)) (eqb (i % 10) (rises (differences side .column) * 9)))
+    (cond (still (differences side .column)) (eqb (i / 10) (rises (differences side .row) * 9)) (eqb (i % 10) (rises (differences side .column) * 9)))
 unfolding onEdge
 on-edge North i = refl
 on-edge East i = refl

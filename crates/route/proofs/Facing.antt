@@ -5,16 +5,27 @@
 --     facing-back     and faces back
 --     facing-along    along an edge it goes by the same stride
 -- Assumes nothing.
-use mathlib.Core.Path.{_≡_, _∙_}
+use mathlib.Core.Path.{_≡_, refl, _∙_}
 use mathlib.Core.Bool.{true}
-use Prim.Native.Nat.{ℕ, _+_, _*_, _/_, _%_, _<_}
+use Prim.Native.Nat.{ℕ, _+_, _-_, _*_, _/_, _%_, _<_}
 use native.Mathlib.Omega.{arith}
 use borrow.Author.Tests.{eqb-true, eq-eqb}
+use lib.IntN.{ℤ, pos, _+ℤ_}
 use Rattle.utilities.specs.declared.CompassDir.{CompassDir}
 use Rattle.utilities.specs.declared.CompassDir.the-variants.{North, East, South, West}
-use Rattle.utilities.specs.Compass.{opposite}
+use Rattle.utilities.specs.Compass.{differences, rises, falls, opposite}
+use Rattle.utilities.proofs.Compass.{small}
+use Rattle.utilities.proofs.Sums.{Single, sum-made}
 use Rattle.route.specs.Window.{onEdge, stride, facing}
 use Rattle.route.proofs.Cells.{by-edge}
+
+-- the sum is never below 0, so it is told without one in ℤ
+pub ten-more : (x : ℕ) (δ : ℤ) → Single δ → pos (x + 10 + rises δ - falls δ) ≡ pos (x + 10) +ℤ δ
+ten-more x δ s = sum-made (x + 10) (x + 10 + rises δ - falls δ) δ (omega (arith, s .one))
+
+told : (side : CompassDir) (i : ℕ) → facing side i ≡ (let δ = differences side in
+    (i / 10 + 10 + rises (δ .row) - falls (δ .row)) % 10 * 10 + (i % 10 + 10 + rises (δ .column) - falls (δ .column)) % 10)
+told side i = let δ = differences side in let s = small side refl in rw (← ten-more (i / 10) (δ .row) (s .rows), ← ten-more (i % 10) (δ .column) (s .columns))
 
 pub facing-in : (side : CompassDir) (i : ℕ) → facing side i < 100
 facing-in side i = omega arith
@@ -22,29 +33,29 @@ facing-in side i = omega arith
 module _ (i : ℕ) (h : i < 100) where
   pub facing-north : onEdge North i ≡ true → facing North i ≡ 90 + i % 10
   unfolding onEdge
-  facing-north p = omega (arith, eqb-true (i / 10) 0 p)
+  facing-north p = told North i ∙ omega (arith, eqb-true (i / 10) 0 p)
 
   pub facing-east : onEdge East i ≡ true → facing East i ≡ i / 10 * 10
   unfolding onEdge
-  facing-east p = omega (arith, eqb-true (i % 10) 9 p)
+  facing-east p = told East i ∙ omega (arith, eqb-true (i % 10) 9 p)
 
   pub facing-south : onEdge South i ≡ true → facing South i ≡ i % 10
   unfolding onEdge
-  facing-south p = omega (arith, eqb-true (i / 10) 9 p)
+  facing-south p = told South i ∙ omega (arith, eqb-true (i / 10) 9 p)
 
   pub facing-west : onEdge West i ≡ true → facing West i ≡ i / 10 * 10 + 9
   unfolding onEdge
-  facing-west p = omega (arith, eqb-true (i % 10) 0 p)
+  facing-west p = told West i ∙ omega (arith, eqb-true (i % 10) 0 p)
 
 module _ (i : ℕ) (h : i < 100) where
   pub facing-on : (side : CompassDir) → onEdge side i ≡ true → onEdge (opposite side) (facing side i) ≡ true
   unfolding onEdge
   facing-on side p =
       by-edge (λ s. onEdge (opposite s) (facing s i) ≡ true) side i p
-      (λ u. eq-eqb (facing North i / 10) 9 (omega arith))
-      (λ u. eq-eqb (facing East i % 10) 0 (omega arith))
-      (λ u. eq-eqb (facing South i / 10) 0 (omega arith))
-      (λ u. eq-eqb (facing West i % 10) 9 (omega arith))
+      (λ u. eq-eqb (facing North i / 10) 9 (rw (told North i) (omega arith)))
+      (λ u. eq-eqb (facing East i % 10) 0 (rw (told East i) (omega arith)))
+      (λ u. eq-eqb (facing South i / 10) 0 (rw (told South i) (omega arith)))
+      (λ u. eq-eqb (facing West i % 10) 9 (rw (told West i) (omega arith)))
 
   pub facing-back : (side : CompassDir) → onEdge side i ≡ true → facing (opposite side) (facing side i) ≡ i
   facing-back side p =

@@ -4,10 +4,11 @@ use mathlib.Core.Bool.{Bool, false, cond, _&&_}
 use mathlib.Core.List.{List, [], _∷_}
 use Prim.Native.Nat.{ℕ, _+_, _*_, _/_, _%_}
 use lib.Dec.{leb, eqb}
+use lib.IntN.{ℤ, pos, natAbs, _+ℤ_}
 use lib.ListN.{length}
 use Rattle.utilities.specs.declared.CompassDir.{CompassDir}
 use Rattle.utilities.specs.declared.CompassDir.the-variants.{North, East, South, West, NorthEast, SouthEast, SouthWest, NorthWest, Zero}
-use Rattle.utilities.specs.Compass.{differences}
+use Rattle.utilities.specs.Compass.{differences, still}
 use Rattle.utilities.specs.Lists.{consIf, below}
 use Rattle.utilities.specs.Padded.{padded}
 use Rattle.route.specs.declared.WindowCells.{WindowCells}
@@ -43,15 +44,17 @@ cellsBetween side first last = select (between first last) (edge side)
 
 -- from a window cell to the next: 1 along a row, 10 down a column
 abbrev pub stride : CompassDir → ℕ
-stride side = cond (eqb (differences side .column) 1) 1 10
+stride side = cond (still (differences side .column)) 1 10
 
 -- window cells in an array, with their count (01, under the table: places of a list beyond its count hold 0)
 abbrev pub listed : List ℕ → WindowCells
 listed l = record { cells = padded 10 0 l; count = length l }
 
+-- the sum of x and a difference, counted round: ten more, and what is left over tens
+abbrev pub round : ℕ → ℤ → ℕ
+round x δ = natAbs (pos (x + 10) +ℤ δ) % 10
+
 -- the cell across the boundary that faces cell i (01, "Flow byte": facing cells): one step on, columns and rows counted round into the next
--- sector; a difference is kept plus one, so nine more make ten
+-- sector
 abbrev pub facing : CompassDir → ℕ → ℕ
-facing side i =
-    let δ = differences side in
-    (i / 10 + δ .row + 9) % 10 * 10 + (i % 10 + δ .column + 9) % 10
+facing side i = let δ = differences side in round (i / 10) (δ .row) * 10 + round (i % 10) (δ .column)

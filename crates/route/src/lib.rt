@@ -1,5 +1,6 @@
 // A step of a route taken apart: its window's cells, and the target that a sector's field starts from.
 use utilities::CompassDir;
+use utilities::rises;
 ghost use mathlib.Core.Path.{_≡_};
 ghost use Prim.Native.Nat.{_+_, _*_, _%_, _<_};
 ghost use lib.ListN.{length, getD};
@@ -57,7 +58,7 @@ pub fn stride_of(boundary: CompassDir) -> usize
     ensures { λ r. ⌜ r ≡ stride boundary ⌝ }
 {
     let apart = boundary.differences();
-    if apart.column == 1 { 1 } else { 10 }
+    if apart.column == 0 { 1 } else { 10 }
 }
 
 // How many cells a side's edge has; a direction that is no side has no edge.
@@ -73,7 +74,7 @@ fn edge_cell(boundary: CompassDir, place: usize) -> usize
     ensures { λ r. ⌜ r ≡ getD (edge boundary) place 0 ⌝ }
 {
     let apart = boundary.differences();
-    let first = apart.column / 2 * 9 + apart.row / 2 * 90;
+    let first = rises(apart.column) * 9 + rises(apart.row) * 90;
     first + place * stride_of(boundary)
 }
 
@@ -92,9 +93,9 @@ pub fn facing_cell(boundary: CompassDir, index: usize) -> usize
     ensures { λ r. ⌜ r ≡ facing boundary index ⌝ }
 {
     let apart = boundary.differences();
-    let column = index % 10 + apart.column + 9;
-    let row = index / 10 + apart.row + 9;
-    row % 10 * 10 + column % 10
+    let column = (index % 10 + 10) as i64 + apart.column;
+    let row = (index / 10 + 10) as i64 + apart.row;
+    row as usize % 10 * 10 + column as usize % 10
 }
 
 impl RouteStep {

@@ -1,10 +1,11 @@
 -- Sectors of a floor (01, "A leg": 64 sectors, sector s at column s % 8, row s / 8).
 -- Assumes nothing.
 use mathlib.Core.Bool.{Bool, true, false, _&&_}
-use Prim.Native.Nat.{ℕ, _+_, _-_, _*_, _/_, _%_}
-use lib.Dec.{leb, ltb}
+use Prim.Native.Nat.{ℕ, _+_, _*_, _/_, _%_}
+use lib.Dec.{ltb}
+use lib.IntN.{pos, natAbs, _+ℤ_}
 use Rattle.utilities.specs.declared.CompassDir.{CompassDir}
-use Rattle.utilities.specs.Compass.{differences, points, sumWithin}
+use Rattle.utilities.specs.Compass.{differences, points, within}
 use Rattle.sectors.specs.declared.Across.{Across}
 use Rattle.sectors.specs.declared.Across.the-variants.{Sector, OffFloor}
 
@@ -23,14 +24,10 @@ abbrev pub sectorIf : Bool → ℕ → Across
 sectorIf true s = Sector s
 sectorIf false s = OffFloor
 
--- the sector at a column and a row that are counted from 1, where both lie in 1 to 8
-unfoldable pub placed : ℕ → ℕ → Across
-placed column row = sectorIf (leb 1 column && leb column 8 && (leb 1 row && leb row 8)) (sectorAt (column - 1) (row - 1))
-
 -- The sector one step away: the one at the two sums of the sector's column and row and the direction's differences, where both lie in 0 to 7.
--- Differences are kept plus one, so the sums are counted from 1. There is none for a number over 63, nor for `Zero`, which points nowhere.
+-- There is none for a number over 63, nor for `Zero`, which points nowhere.
 unfoldable pub across : ℕ → CompassDir → Across
 across s d =
-    let δ = differences d in
-    sectorIf (ltb s 64 && points d && (sumWithin 7 (columnOf s) (δ .column) && sumWithin 7 (rowOf s) (δ .row)))
-    (sectorAt (columnOf s + δ .column - 1) (rowOf s + δ .row - 1))
+    let column = pos (columnOf s) +ℤ differences d .column in
+    let row = pos (rowOf s) +ℤ differences d .row in
+    sectorIf (ltb s 64 && points d && (within 7 column && within 7 row)) (sectorAt (natAbs column) (natAbs row))

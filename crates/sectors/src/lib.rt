@@ -1,31 +1,12 @@
 // Sectors of a floor, eight rows of eight, and the sector across a boundary.
 use utilities::CompassDir;
 ghost use mathlib.Core.Path.{_≡_};
-ghost use Rattle.sectors.specs.Floor.{across, placed};
+ghost use Rattle.sectors.specs.Floor.{across};
 
 // What lies across a boundary.
 pub enum Across {
     Sector(usize),
     OffFloor,
-}
-
-// The sector at a column and a row that are counted from 1.
-fn sector_at(column: usize, row: usize) -> Across
-    ensures { λ r. ⌜ r ≡ placed column row ⌝ }
-{
-    if column < 1 {
-        return Across::OffFloor;
-    }
-    if 8 < column {
-        return Across::OffFloor;
-    }
-    if row < 1 {
-        return Across::OffFloor;
-    }
-    if 8 < row {
-        return Across::OffFloor;
-    }
-    Across::Sector((row - 1) * 8 + (column - 1))
 }
 
 // The sector one step away, or OffFloor where there is none.
@@ -39,7 +20,10 @@ pub fn get_in_compass_direction(sector: usize, dir: CompassDir) -> Across
         return Across::OffFloor;
     }
     let apart = dir.differences();
-    let column = sector % 8 + apart.column;
-    let row = sector / 8 + apart.row;
-    sector_at(column, row)
+    let column = (sector % 8) as i64 + apart.column;
+    let row = (sector / 8) as i64 + apart.row;
+    if 0 <= column && column <= 7 && 0 <= row && row <= 7 {
+        return Across::Sector(row as usize * 8 + column as usize);
+    }
+    Across::OffFloor
 }

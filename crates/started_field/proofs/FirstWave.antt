@@ -10,17 +10,15 @@ use mathlib.Core.Logic.{inl, inr, ⊎-elim}
 use Prim.Native.Nat.{ℕ, suc, _+_, _<_, _≤_, _/_, _%_}
 use native.Mathlib.Omega.{arith}
 use native.Mathlib.Decide.{decLt}
-use borrow.Author.Needs.{needs}
 use borrow.Author.Tests.{eq-eqb}
 use lib.ListN.{length, getD}
 use Rattle.utilities.specs.declared.CompassDir.{CompassDir}
 use Rattle.utilities.specs.declared.CompassDir.the-variants.{North, East, South, West}
-use Rattle.utilities.specs.Compass.{orthogonal, opposite, lowerSide}
+use Rattle.utilities.specs.Compass.{points, orthogonal, opposite, lowerSide}
 use Rattle.fields.specs.declared.FieldCell.{FieldCell}
 use Rattle.fields.specs.declared.Stepped.the-variants.{Cell}
 use Rattle.fields.specs.Cell.{cell, Inside, cellAt, indexOf, stepped}
-use Rattle.fields.specs.Steps.{Arrives}
-use Rattle.fields.proofs.Steps.{stepped-cell, steps-to, step-back, index-below, index-of-cell, cell-inside, cell-of-index}
+use Rattle.fields.proofs.Steps.{Told, stepped-cell, steps-by, step-back, index-below, index-of-cell, cell-inside, cell-of-index}
 use Rattle.integration_field.specs.Word.{isLos, isGoal, isBlocked, isImpassable}
 use Rattle.integration_field.specs.Diagonal.{wallAt, passesWall}
 use Rattle.started_field.specs.Sight.{
@@ -54,21 +52,21 @@ record Neighbour (c : FieldCell) : Type 0 where
   is-side : isSide way ≡ true
   step : stepped c way ≡ Cell at
 
-abbrev neighbour : (c : FieldCell) (d : CompassDir) (n : FieldCell) → isSide d ≡ true → Arrives c d n → Neighbour c
-neighbour c d n o a = record { way = d; at = n; is-side = o; step = steps-to c d n a }
+abbrev neighbour : (c : FieldCell) (d : CompassDir) (n : FieldCell) → isSide d ≡ true → points d ≡ true → Told c d n → Inside n → Neighbour c
+neighbour c d n o p t i = record { way = d; at = n; is-side = o; step = steps-by c d n p t i }
 
 -- a cell has a neighbour in its row, and one in its column
 module _ (c : FieldCell) (i : Inside c) where
   in-row : (n : Neighbour c) × (n .at .row ≡ c .row) × (n .at .column ≡ c .column → ⊥)
   in-row = elim (decLt (c .column) 9) [
-    | yes h ↦ (neighbour c East (cell (c .column + 1) (c .row)) refl (search needs), refl, omega arith)
-    | no h ↦ (neighbour c West (cell 8 (c .row)) refl (search needs), refl, omega arith)
+    | yes h ↦ (neighbour c East (cell (c .column + 1) (c .row)) refl refl (omega arith) (omega arith), refl, omega arith)
+    | no h ↦ (neighbour c West (cell 8 (c .row)) refl refl (omega arith) (omega arith), refl, omega arith)
   ]
 
   in-column : (n : Neighbour c) × (n .at .column ≡ c .column) × (n .at .row ≡ c .row → ⊥)
   in-column = elim (decLt (c .row) 9) [
-    | yes h ↦ (neighbour c South (cell (c .column) (c .row + 1)) refl (search needs), refl, omega arith)
-    | no h ↦ (neighbour c North (cell (c .column) 8) refl (search needs), refl, omega arith)
+    | yes h ↦ (neighbour c South (cell (c .column) (c .row + 1)) refl refl (omega arith) (omega arith), refl, omega arith)
+    | no h ↦ (neighbour c North (cell (c .column) 8) refl refl (omega arith) (omega arith), refl, omega arith)
   ]
 
 -- three different places that pass a test are no more than the count

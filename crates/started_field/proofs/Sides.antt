@@ -15,9 +15,7 @@ use Rattle.utilities.specs.Compass.{opposite, lowerSide}
 use Rattle.fields.specs.declared.FieldCell.{FieldCell}
 use Rattle.fields.specs.declared.Stepped.the-variants.{Cell}
 use Rattle.fields.specs.Cell.{stepped}
-use Rattle.fields.specs.Steps.{Arrives}
-use Rattle.fields.proofs.Steps.{stepped-cell, steps-to}
-use borrow.Author.Needs.{needs}
+use Rattle.fields.proofs.Steps.{Told, stepped-cell, told, steps-by}
 
 -- one of the four sides
 abbrev pub isSide : CompassDir → Bool
@@ -47,14 +45,16 @@ pub square : (d side : CompassDir) (c x a g : FieldCell) → stepped c d ≡ Cel
 square d side c x a g ex eg ea =
     let p = stepped-cell c d x ex in
     let q = stepped-cell x side g eg in
-    let r = stepped-cell c side a ea in
-    steps-to a d g (search (needs, p .pointing, q .within))
+    let u = told c d x p in
+    let v = told x side g q in
+    let w = told c side a (stepped-cell c side a ea) in
+    steps-by a d g (p .pointing) (omega arith) (q .within)
 
 pub odd : (d : CompassDir) (c n : FieldCell) → isSide d ≡ true → stepped c d ≡ Cell n → (c .column + c .row + n .column + n .row) % 2 ≡ 1
 odd d c n o e =
-    by-side (λ d. Arrives c d n → (c .column + c .row + n .column + n .row) % 2 ≡ 1)
+    by-side (λ d. Told c d n → (c .column + c .row + n .column + n .row) % 2 ≡ 1)
     (λ a. omega arith) (λ a. omega arith) (λ a. omega arith) (λ a. omega arith)
-    d o (stepped-cell c d n e)
+    d o (told c d n (stepped-cell c d n e))
 
 -- a direction sideways to d
 abbrev pub Sideways : CompassDir → CompassDir → Type 0
@@ -83,7 +83,7 @@ sideways-back =
     (inr refl) (inr refl) (inl refl) (inl refl) (inl refl) (inl refl) (inr refl) (inr refl)
 
 pub sideways-away : (c x : FieldCell) (d side : CompassDir) → isSide d ≡ true → Sideways d side → stepped c d ≡ Cell x → stepped x side ≡ Cell c → ⊥
-sideways-away c x d side o w e f = by-sideways (λ d side. Arrives c d x → Arrives x side c → ⊥)
+sideways-away c x d side o w e f = by-sideways (λ d side. Told c d x → Told x side c → ⊥)
     (λ a b. omega arith) (λ a b. omega arith) (λ a b. omega arith) (λ a b. omega arith)
     (λ a b. omega arith) (λ a b. omega arith) (λ a b. omega arith) (λ a b. omega arith)
-    d side o w (stepped-cell c d x e) (stepped-cell x side c f)
+    d side o w (told c d x (stepped-cell c d x e)) (told x side c (stepped-cell x side c f))

@@ -3,6 +3,7 @@ use route::RouteStep;
 use route::Target;
 use route::WindowCells;
 use utilities::CompassDir;
+use utilities::rises;
 ghost use mathlib.Core.Path.{_≡_};
 ghost use mathlib.Core.List.{[], _∷_};
 ghost use Rattle.route.specs.Window.{onEdge};
@@ -17,10 +18,10 @@ fn on_edge(boundary: CompassDir, index: usize) -> bool
         return false;
     }
     let apart = boundary.differences();
-    if apart.column == 1 {
-        return index / 10 == apart.row / 2 * 9;
+    if apart.column == 0 {
+        return index / 10 == rises(apart.row) * 9;
     }
-    index % 10 == apart.column / 2 * 9
+    index % 10 == rises(apart.column) * 9
 }
 
 // 6, 7 or 8 for a step with this window that is refused, else 0.

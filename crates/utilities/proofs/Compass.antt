@@ -1,27 +1,26 @@
 -- Laws of directions.
 --     small                   a direction moves by one at most in each coordinate, and by one in some unless it is Zero
---     opposite-differences    the opposite direction's differences are what is left of two: as far, the other way
+--     opposite-differences    the opposite direction's differences are as far, the other way
 --     opposite-points         and it is a direction where the other is one
---     within                  what the test of a sum says
 -- Assumes nothing.
 use mathlib.Core.Path.{_≡_, refl}
-use mathlib.Core.Bool.{true, _&&_, and-eq-true-iff}
-use Prim.Native.Nat.{ℕ, _+_, _-_, _≤_}
+use Prim.Native.Nat.{ℕ, _+_}
 use native.Mathlib.Omega.{arith}
-use lib.Dec.{leb, ltb}
-use borrow.Author.Tests.{leb-true}
+use lib.Dec.{ltb}
+use lib.IntN.{negℤ}
 use Rattle.utilities.specs.declared.CompassDir.{CompassDir}
 use Rattle.utilities.specs.declared.CompassDir.the-variants.{North, East, South, West, NorthEast, SouthEast, SouthWest, NorthWest, Zero}
 use Rattle.utilities.specs.declared.Differences.{Differences}
 use Rattle.utilities.specs.Compass.{differences, points, rises, falls, opposite}
+use Rattle.utilities.proofs.Sums.{Single}
 
 -- how many coordinates a pair of differences changes
 abbrev pub changes : Differences → ℕ
 changes δ = rises (δ .column) + falls (δ .column) + (rises (δ .row) + falls (δ .row))
 
 pub record Small (d : CompassDir) (δ : Differences) : Type 0 where
-  pub columns : δ .column ≤ 2
-  pub rows : δ .row ≤ 2
+  pub columns : Single (δ .column)
+  pub rows : Single (δ .row)
   pub some : points d ≡ ltb 0 (changes δ)
 
 of-each : (d : CompassDir) → Small d (differences d)
@@ -38,7 +37,7 @@ of-each Zero = record { columns = omega arith; rows = omega arith; some = refl }
 pub small : (d : CompassDir) {δ : Differences} → δ ≡ differences d → Small d δ
 small d e = rw e (of-each d)
 
-pub opposite-differences : (d : CompassDir) → differences (opposite d) ≡ record { column = 2 - differences d .column; row = 2 - differences d .row }
+pub opposite-differences : (d : CompassDir) → differences (opposite d) ≡ record { column = negℤ (differences d .column); row = negℤ (differences d .row) }
 opposite-differences North = refl
 opposite-differences East = refl
 opposite-differences South = refl
@@ -59,8 +58,3 @@ opposite-points SouthEast = refl
 opposite-points SouthWest = refl
 opposite-points NorthWest = refl
 opposite-points Zero = refl
-
-pub within : (x δ : ℕ) {m : ℕ} → (leb 1 (x + δ) && leb (x + δ) m) ≡ true → (1 ≤ x + δ) × (x + δ ≤ m)
-within x δ {m} e =
-    let p = and-eq-true-iff (leb 1 (x + δ)) (leb (x + δ) m) .0 e in
-    (leb-true 1 (x + δ) (p .0), leb-true (x + δ) m (p .1))

@@ -1,4 +1,5 @@
 pub mod Padded
+pub mod Sums
 pub mod Compass
 pub mod Lists
 pub mod Count

@@ -2,36 +2,44 @@
 -- Assumes nothing.
 use mathlib.Core.Bool.{Bool, cond, _&&_}
 use mathlib.Core.List.{List, [], _∷_}
-use Prim.Native.Nat.{ℕ, _+_, _-_, _/_}
-use lib.Dec.{leb, ltb, eqb}
+use Prim.Native.Nat.{ℕ, _+_}
+use lib.Dec.{ltb, eqb}
+use lib.IntN.{ℤ, pos, negsuc, natAbs}
 use lib.ListN.{getD}
+use lib.Signed.{leZ}
 use Rattle.utilities.specs.declared.Differences.{Differences}
 use Rattle.utilities.specs.declared.CompassDir.{CompassDir}
 use Rattle.utilities.specs.declared.CompassDir.the-variants.{North, East, South, West, NorthEast, SouthEast, SouthWest, NorthWest, Zero}
 
--- The differences of a direction (02, "Job 5": one pair of differences per direction): what it adds to a column and to a row, each kept plus
--- one, so that none is below 0. 0 is one less, 1 as it was, 2 is one more.
+-- The differences of a direction (02, "Job 5": one pair of differences per direction): what it adds to a column and to a row. `pos n` is n,
+-- and `negsuc 0` is one less than 0.
 abbrev pub differences : CompassDir → Differences
-differences North = record { column = 1; row = 0 }
-differences East = record { column = 2; row = 1 }
-differences South = record { column = 1; row = 2 }
-differences West = record { column = 0; row = 1 }
-differences NorthEast = record { column = 2; row = 0 }
-differences SouthEast = record { column = 2; row = 2 }
-differences SouthWest = record { column = 0; row = 2 }
-differences NorthWest = record { column = 0; row = 0 }
-differences Zero = record { column = 1; row = 1 }
+differences North = record { column = pos 0; row = negsuc 0 }
+differences East = record { column = pos 1; row = pos 0 }
+differences South = record { column = pos 0; row = pos 1 }
+differences West = record { column = negsuc 0; row = pos 0 }
+differences NorthEast = record { column = pos 1; row = negsuc 0 }
+differences SouthEast = record { column = pos 1; row = pos 1 }
+differences SouthWest = record { column = negsuc 0; row = pos 1 }
+differences NorthWest = record { column = negsuc 0; row = negsuc 0 }
+differences Zero = record { column = pos 0; row = pos 0 }
 
--- the sum of x and a difference lies in 0 to n: since the difference is kept plus one, in 1 to n + 1
-abbrev pub sumWithin : ℕ → ℕ → ℕ → Bool
-sumWithin n x δ = leb 1 (x + δ) && leb (x + δ) (n + 1)
+-- a sum lies in 0 to n
+abbrev pub within : ℕ → ℤ → Bool
+within n sum = leZ (pos 0) sum && leZ sum (pos n)
 
--- 1 where a difference adds one, else 0; and 1 where it takes one away, else 0
-abbrev pub rises : ℕ → ℕ
-rises δ = δ / 2
+-- how much a difference adds, else 0; and how much it takes away, else 0
+abbrev pub rises : ℤ → ℕ
+rises (pos n) = n
+rises (negsuc n) = 0
 
-abbrev pub falls : ℕ → ℕ
-falls δ = (2 - δ) / 2
+abbrev pub falls : ℤ → ℕ
+falls (pos n) = 0
+falls (negsuc n) = n + 1
+
+-- it does neither
+abbrev pub still : ℤ → Bool
+still δ = eqb (natAbs δ) 0
 
 -- the four sides, and all eight, in the order of 01's waves and looks
 abbrev pub orthogonal : List CompassDir
@@ -69,7 +77,7 @@ points d = ltb (numberOf d) 8
 
 -- of the two sides that lie square to a direction, the one of the lower index: West of North and South, North of East and West
 abbrev pub lowerSide : CompassDir → CompassDir
-lowerSide d = cond (eqb (differences d .column) 1) West North
+lowerSide d = cond (still (differences d .column)) West North
 
 -- the side that a boundary byte names (01, "A leg": 0 North, 1 East, 2 South, 3 West), Zero where it names none
 abbrev pub sideOf : ℕ → CompassDir

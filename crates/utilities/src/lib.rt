@@ -1,6 +1,6 @@
 // Directions.
 ghost use mathlib.Core.Path.{_≡_};
-ghost use Rattle.utilities.specs.Compass.{differences, opposite, numberOf, points, lowerSide, sideOf};
+ghost use Rattle.utilities.specs.Compass.{differences, rises, opposite, numberOf, points, lowerSide, sideOf};
 
 // A direction. Row 0 is north; `Zero` is none.
 pub enum CompassDir {
@@ -15,16 +15,26 @@ pub enum CompassDir {
     Zero,
 }
 
-// What a direction adds to a cell's column and to its row, each kept plus one: 0 is one less, 1 as it was, 2 is one more.
+// What a direction adds to a cell's column and to its row.
 pub struct Differences {
-    pub column: usize,
-    pub row: usize,
+    pub column: i64,
+    pub row: i64,
 }
 
-fn apart(column: usize, row: usize) -> Differences
+fn apart(column: i64, row: i64) -> Differences
     ensures { λ r. ⌜ r ≡ record { column = column; row = row } ⌝ }
 {
     Differences { column, row }
+}
+
+// How much a difference adds, else 0.
+pub fn rises(difference: i64) -> usize
+    ensures { λ r. ⌜ r ≡ rises difference ⌝ }
+{
+    if 0 < difference {
+        return difference as usize;
+    }
+    0
 }
 
 impl CompassDir {
@@ -33,15 +43,15 @@ impl CompassDir {
         ensures { λ r. ⌜ r ≡ differences self ⌝ }
     {
         match self {
-            CompassDir::North => apart(1, 0),
-            CompassDir::East => apart(2, 1),
-            CompassDir::South => apart(1, 2),
-            CompassDir::West => apart(0, 1),
-            CompassDir::NorthEast => apart(2, 0),
-            CompassDir::SouthEast => apart(2, 2),
-            CompassDir::SouthWest => apart(0, 2),
-            CompassDir::NorthWest => apart(0, 0),
-            CompassDir::Zero => apart(1, 1),
+            CompassDir::North => apart(0, -1),
+            CompassDir::East => apart(1, 0),
+            CompassDir::South => apart(0, 1),
+            CompassDir::West => apart(-1, 0),
+            CompassDir::NorthEast => apart(1, -1),
+            CompassDir::SouthEast => apart(1, 1),
+            CompassDir::SouthWest => apart(-1, 1),
+            CompassDir::NorthWest => apart(-1, -1),
+            CompassDir::Zero => apart(0, 0),
         }
     }
 
@@ -91,7 +101,7 @@ impl CompassDir {
         ensures { λ r. ⌜ r ≡ lowerSide self ⌝ }
     {
         let apart = self.differences();
-        if apart.column == 1 {
+        if apart.column == 0 {
             return CompassDir::West;
         }
         CompassDir::North

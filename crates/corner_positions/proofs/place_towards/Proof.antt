@@ -7,8 +7,7 @@ use borrow.Author.Needs.{needs}
 use Rattle.fields.specs.declared.FieldCell.{FieldCell}
 use Rattle.fields.specs.declared.Stepped.the-variants.{Cell}
 use Rattle.fields.specs.Cell.{stepped, cellAt, indexOf}
-use Rattle.fields.specs.Steps.{Arrives}
-use Rattle.fields.proofs.Steps.{stepped-cell, step-told, index-below}
+use Rattle.fields.proofs.Steps.{near-made, step-told}
 use Rattle.corner_positions.proofs.place_towards.Statement.{statement}
 use Rattle.corner_positions.proofs.place_towards.Tie as tie
 
@@ -17,23 +16,23 @@ returns c values p s small m =
     let step = c .before .before in
     rw (step-told _ _ (step .before .from-index .ensures) (step .get-in-compass-direction .ensures .0) (c .enum-told .given .1)) m
 
--- the call, and where its step arrives
+-- where the step is taken, the call, and where its step arrives
+abbrev step : tie.After-known-told → tie.After-get-in-compass-direction
+step c = c .before .before .before
+
 abbrev start : tie.After-known-told → tie.Start
-start c = c .before .before .before .before .before
+start c = step c .before .before
 
 abbrev neighbour : tie.After-known-told → FieldCell
 neighbour c = c .before .neighbour .given .0 .0
 
 arrives : (c : tie.After-known-told) → stepped (cellAt (start c .args .cell)) (start c .args .dir) ≡ Cell (neighbour c)
 arrives c =
-    let step = c .before .before .before in
-    step-told _ _ (step .before .from-index .ensures) (step .get-in-compass-direction .ensures .0) (c .before .neighbour .given .1)
-
-inside : (c : tie.After-known-told) → Arrives (cellAt (start c .args .cell)) (start c .args .dir) (neighbour c)
-inside c = stepped-cell _ _ _ (arrives c)
+    let taken = step c in
+    step-told _ _ (taken .before .from-index .ensures) (taken .get-in-compass-direction .ensures .0) (c .before .neighbour .given .1)
 
 index : (c : tie.After-index-beside) → let i = c .index-beside .result in (i ≡ indexOf (neighbour (c .before))) × (i < 100)
-index c = let e = c .index-beside .ensures in (e, omega (arith, e, index-below _ (inside (c .before) .within)))
+index c = c .index-beside .ensures _ (arrives (c .before))
 
 place-at-requires : tie.Need-place-at-requires
 place-at-requires c κs =
@@ -47,7 +46,7 @@ returns-2 c values p s small m =
 
 pub place-towards-spec : {M : Type 1} → statement M
 place-towards-spec = tie.close (tie.spec
-    (λ c κs. search needs) (λ c κs. search needs) (λ c. search needs) (λ c. search needs)
+    (λ c κs. search needs) (λ c κs. near-made (c .from-index .ensures) (c .before .fits .cell)) (λ c. search needs) (λ c. search needs)
     returns
-    (λ c κs. inside c)
+    (λ c κs. (neighbour c, arrives c))
     place-at-requires returns-2)

@@ -3,6 +3,7 @@
 use mathlib.Core.Path.{_≡_, ap₂, _∙_}
 use borrow.Author.Needs.{needs}
 use Rattle.fields.specs.Cell.{stepped}
+use Rattle.fields.proofs.Steps.{near-made}
 use Rattle.following.proofs.next_cell.Statement.{statement}
 use Rattle.following.proofs.next_cell.Tie as tie
 
@@ -13,7 +14,7 @@ get-compass-dir-from-bits-requires : tie.Need-get-compass-dir-from-bits-requires
 get-compass-dir-from-bits-requires c κs = search needs
 
 get-in-compass-direction-requires : tie.Need-get-in-compass-direction-requires
-get-in-compass-direction-requires c κs = search needs
+get-in-compass-direction-requires c κs = near-made (c .before .from-index .ensures) (c .before .before .fits .index)
 
 returns : tie.Need-returns
 returns c =

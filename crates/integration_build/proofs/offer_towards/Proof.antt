@@ -10,8 +10,7 @@ use Rattle.fields.specs.declared.FieldCell.{FieldCell}
 use Rattle.fields.specs.declared.Stepped.{Stepped}
 use Rattle.fields.specs.declared.Stepped.the-variants.{Cell}
 use Rattle.fields.specs.Cell.{stepped, cellAt, indexOf}
-use Rattle.fields.specs.Steps.{Arrives}
-use Rattle.fields.proofs.Steps.{stepped-cell, step-told, index-below}
+use Rattle.fields.proofs.Steps.{near-made, step-told}
 use Rattle.integration_field.specs.Wave.{relaxed, offered}
 use Rattle.integration_build.proofs.offer_towards.Statement.{statement}
 use Rattle.integration_build.proofs.offer_towards.Tie as tie
@@ -26,23 +25,23 @@ returns c =
       s .pre .1 .1 .1,
     )
 
--- the call, and where its step arrives
+-- where the step is taken, the call, and where its step arrives
+abbrev step : tie.After-known-told → tie.After-get-in-compass-direction
+step c = c .before .before .before
+
 abbrev start : tie.After-known-told → tie.Start
-start c = c .before .before .before .before .before .before
+start c = step c .before .before .before
 
 abbrev neighbour : tie.After-known-told → FieldCell
 neighbour c = c .before .neighbour .given .0 .0
 
 arrives : (c : tie.After-known-told) → stepped (cellAt (start c .args .cell)) (start c .args .dir) ≡ Cell (neighbour c)
 arrives c =
-    let step = c .before .before .before in
-    step-told _ _ (step .before .from-index .ensures) (step .get-in-compass-direction .ensures .0) (c .before .neighbour .given .1)
-
-inside : (c : tie.After-known-told) → Arrives (cellAt (start c .args .cell)) (start c .args .dir) (neighbour c)
-inside c = stepped-cell _ _ _ (arrives c)
+    let taken = step c in
+    step-told _ _ (taken .before .from-index .ensures) (taken .get-in-compass-direction .ensures .0) (c .before .neighbour .given .1)
 
 index : (c : tie.After-index-beside) → let i = c .index-beside .result in (i ≡ indexOf (neighbour (c .before))) × (i < 100)
-index c = let e = c .index-beside .ensures in (e, omega (arith, e, index-below _ (inside (c .before) .within)))
+index c = c .index-beside .ensures _ (arrives (c .before))
 
 shared-slice-read-wide : tie.Need-shared-slice-read-wide
 shared-slice-read-wide c = omega (arith, index (c .before) .1, start (c .before .before) .pre .1 .0)
@@ -55,10 +54,11 @@ relax-requires c κs =
 
 returns-2 : tie.Need-returns-2
 returns-2 c =
-    let found = c .before .before .before .before .before in
+    let summed = c .before .before .before in
+    let found = summed .before .before in
     let a = start (found .before) .args in (
       c .relax .ensures .0
-          ∙ ap (λ (w : ℕ). relaxed (a .value + w) (found .index-beside .result) (now (a .cells))) (c .before .before .before .wide .ensures .0)
+          ∙ ap (λ (w : ℕ). relaxed (a .value + w) (found .index-beside .result) (now (a .cells))) (summed .wide .ensures .0)
           ∙ ap (λ (i : ℕ). relaxed (a .value + getD (now (a .costs)) i 0) i (now (a .cells))) (index found .0)
           ∙ sym (ap (λ (s : Stepped). offered (now (a .costs)) (a .value) s (now (a .cells))) (arrives (found .before))),
       c .relax .ensures .1,
@@ -66,9 +66,9 @@ returns-2 c =
 
 pub offer-towards-spec : {M : Type 1} → statement M
 offer-towards-spec = tie.close (tie.spec
-    (λ c κs. search needs) (λ c κs. search needs) (λ c. search needs) (λ c. search needs)
+    (λ c κs. search needs) (λ c κs. near-made (c .from-index .ensures) (c .before .before .fits .cell)) (λ c. search needs) (λ c. search needs)
     returns
-    (λ c κs. inside c)
+    (λ c κs. (neighbour c, arrives c))
     shared-slice-read-wide
     (λ c κs. search needs) (λ c. search needs)
     relax-requires returns-2)

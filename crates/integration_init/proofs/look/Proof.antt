@@ -6,8 +6,7 @@ use native.Mathlib.Omega.{arith}
 use borrow.Author.Needs.{needs}
 use Rattle.fields.specs.declared.Stepped.the-variants.{Cell, Outside}
 use Rattle.fields.specs.Cell.{stepped, cellAt, indexOf}
-use Rattle.fields.specs.Steps.{Arrives}
-use Rattle.fields.proofs.Steps.{stepped-cell, step-told, index-below}
+use Rattle.fields.proofs.Steps.{near-made, step-told}
 use Rattle.integration_init.proofs.look.Statement.{statement}
 use Rattle.integration_init.proofs.look.Tie as tie
 
@@ -34,11 +33,8 @@ arrives c =
     let taken = step c in
     step-told _ _ (taken .before .from-index .ensures) (taken .get-in-compass-direction .ensures .0) (c .before .neighbour .given .1)
 
-inside : (c : tie.After-known-told) → let a = start (step c) .args in Arrives (cellAt (a .from)) (a .dir) (c .before .neighbour .given .0 .0)
-inside c = stepped-cell _ _ _ (arrives c)
-
 index : (c : tie.After-index-beside) → let i = c .index-beside .result in (i ≡ indexOf (known c .before .neighbour .given .0 .0)) × (i < 100)
-index c = let e = c .index-beside .ensures in (e, omega (arith, e, index-below _ (inside (known c) .within)))
+index c = c .index-beside .ensures _ (arrives (known c))
 
 look-at-requires : tie.Need-look-at-requires
 look-at-requires c κs =
@@ -53,7 +49,7 @@ returns-2 c =
 
 pub look-spec : {M : Type 1} → statement M
 look-spec = tie.close (tie.spec
-    (λ c κs. search needs) (λ c κs. search needs) (λ c. search needs) (λ c. search needs)
+    (λ c κs. search needs) (λ c κs. near-made (c .from-index .ensures) (c .before .fits .from)) (λ c. search needs) (λ c. search needs)
     returns
-    (λ c κs. inside c)
+    (λ c κs. (c .before .neighbour .given .0 .0, arrives c))
     look-at-requires returns-2)

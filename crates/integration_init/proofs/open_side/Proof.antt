@@ -5,7 +5,7 @@ use Prim.Native.Nat.{_<_}
 use borrow.Author.Needs.{needs}
 use Rattle.fields.specs.declared.Stepped.the-variants.{Cell, Outside}
 use Rattle.fields.specs.Cell.{stepped, cellAt, indexOf}
-use Rattle.fields.proofs.Steps.{stepped-cell, step-told, index-told}
+use Rattle.fields.proofs.Steps.{near-made, stepped-cell, step-told, index-told}
 use Rattle.integration_init.proofs.open_side.Statement.{statement}
 use Rattle.integration_init.proofs.open_side.Tie as tie
 
@@ -41,7 +41,7 @@ returns-3 c = rw (arrives (c .before .before .before), ← index (c .before .bef
 
 pub open-side-spec : {M : Type 1} → statement M
 open-side-spec = tie.close (tie.spec
-    (λ c κs. search needs) (λ c κs. search needs) (λ c. search needs) (λ c. search needs)
+    (λ c κs. search needs) (λ c κs. near-made (c .from-index .ensures) (c .before .fits .from)) (λ c. search needs) (λ c. search needs)
     returns
     (λ c κs. search needs)
     is-wall-at-requires returns-2 returns-3)

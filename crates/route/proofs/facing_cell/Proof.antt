@@ -1,33 +1,66 @@
--- `route::facing_cell` meets its contract: two sums, counted round.
+-- `route::facing_cell` meets its contract: two sums, counted round. With ten more none is below 0.
 -- Assumes nothing.
-use Rattle.utilities.proofs.Compass.{small}
+use mathlib.Core.Path.{_≡_, sym, _∙_}
+use Prim.Native.Nat.{ℕ, _+_, _/_, _%_}
+use native.Mathlib.Omega.{arith}
 use borrow.Author.Needs.{needs}
+use lib.IntN.{ℤ, pos, _+ℤ_}
+use mir.Syntax.{w64}
+use mir.Val.{toZ, ofZ}
+use Rattle.utilities.specs.declared.Differences.{Differences}
+use Rattle.utilities.proofs.Compass.{Small, small}
+use Rattle.utilities.proofs.Sums.{Made, sum, cast-back}
+use Rattle.route.proofs.Facing.{ten-more}
 use Rattle.route.proofs.facing_cell.Statement.{statement}
 use Rattle.route.proofs.facing_cell.Tie as tie
 
-differences-requires : tie.Need-differences-requires
-differences-requires c κs = search needs
+-- what the machine makes of ten more than a number and a difference
+abbrev ten : ℕ → ℤ → ℤ
+ten x z = toZ w64 (x + 10) +ℤ toZ w64 (ofZ w64 z)
 
-add-column : tie.Need-add-column
-add-column c = let at = c .before in let s = small (at .before .args .boundary) (at .differences .ensures) in search needs
+-- where the direction's differences are known: the two sums
+module _ (c : tie.After-differences) where
+  abbrev δ : Differences
+  δ = c .differences .result
 
-add-column-2 : tie.Need-add-column-2
-add-column-2 c = let at = c .before in let s = small (at .before .args .boundary) (at .differences .ensures) in search needs
+  apart : Small (c .before .args .boundary) δ
+  apart = small (c .before .args .boundary) (c .differences .ensures)
 
-add-row : tie.Need-add-row
-add-row c = let at = c .before .before in let s = small (at .before .args .boundary) (at .differences .ensures) in search needs
+  column-made : Made (ten (c .before .args .index % 10) (δ .column)) (pos (c .before .args .index % 10 + 10) +ℤ δ .column)
+  column-made = sum (c .before .args .index % 10 + 10) (δ .column) (omega arith) (apart .columns)
 
-add-row-2 : tie.Need-add-row-2
-add-row-2 c = let at = c .before .before in let s = small (at .before .args .boundary) (at .differences .ensures) in search needs
+  row-made : Made (ten (c .before .args .index / 10) (δ .row)) (pos (c .before .args .index / 10 + 10) +ℤ δ .row)
+  row-made = sum (c .before .args .index / 10 + 10) (δ .row) (omega (arith, c .before .fits .index)) (apart .rows)
 
-mul-result : tie.Need-mul-result
-mul-result c = search needs
+-- from where both are made
+abbrev known : tie.After-struct-told2 → tie.After-differences
+known c = c .before .before .before .before
 
-add-result : tie.Need-add-result
-add-result c = search needs
+cast-result : tie.Need-cast-result
+cast-result c =
+    let m = known c in
+    cast-back _ (row-made m .read ∙ sym (ten-more (m .before .args .index / 10) (δ m .row) (apart m .rows)))
+    (omega (arith, m .before .fits .index, apart m .rows .one))
+
+cast-result-2 : tie.Need-cast-result-2
+cast-result-2 c =
+    let m = known c in
+    cast-back _ (column-made m .read ∙ sym (ten-more (m .before .args .index % 10) (δ m .column) (apart m .columns))) (omega (arith, apart m .columns .one))
 
 returns : tie.Need-returns
-returns c = rw (← c .before .before .differences .ensures)
+returns c = let m = known c in rw (row-made m .read, column-made m .read, ← m .differences .ensures)
 
 pub facing-cell-spec : {M : Type 1} → statement M
-facing-cell-spec = tie.close (tie.spec differences-requires add-column add-column-2 add-row add-row-2 mul-result add-result returns)
+facing-cell-spec = tie.close (tie.spec
+    (λ c κs. search needs)
+    (λ c. search needs)
+    (λ c. search needs)
+    (λ c. column-made (c .before .before) .fits)
+    (λ c. search needs)
+    (λ c. search needs)
+    (λ c. row-made (known c) .fits)
+    cast-result
+    (λ c. search needs)
+    cast-result-2
+    (λ c. search needs)
+    returns)

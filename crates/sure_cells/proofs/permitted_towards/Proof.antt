@@ -13,7 +13,7 @@ use Rattle.utilities.specs.declared.CompassDir.{CompassDir}
 use Rattle.fields.specs.declared.FieldCell.{FieldCell}
 use Rattle.fields.specs.declared.Stepped.the-variants.{Cell, Outside}
 use Rattle.fields.specs.Cell.{Inside, stepped, cellAt, indexOf}
-use Rattle.fields.proofs.Steps.{stepped-cell, step-told, index-told, index-of-cell, cell-inside}
+use Rattle.fields.proofs.Steps.{near-made, stepped-cell, step-told, index-told, index-of-cell, cell-inside}
 use Rattle.integration_field.specs.Listed.{Indexes}
 use Rattle.flow_byte.specs.Look.{isPassedOver}
 use Rattle.cost_bounds.specs.declared.PermittedCells.{PermittedCells}
@@ -63,7 +63,7 @@ from-index-requires : tie.Need-from-index-requires
 from-index-requires c κs = search needs
 
 get-in-compass-direction-requires : tie.Need-get-in-compass-direction-requires
-get-in-compass-direction-requires c κs = search needs
+get-in-compass-direction-requires c κs = near-made (c .from-index .ensures) (c .before .fits .index)
 
 enum-known-to : tie.Need-enum-known-to
 enum-known-to c = search needs

@@ -1,45 +1,64 @@
--- `get_in_compass_direction` meets its contract: two sums and one test of both. A column or row that is cut off far out steps into the
--- sector exactly where it does itself.
+-- `get_in_compass_direction` meets its contract: two sums and one test of both. What the machine reads back from a sum's bits is the sum.
 -- Assumes nothing.
-use mathlib.Core.Path.{_≡_, sym, ap, _∙_}
+use mathlib.Core.Path.{_≡_, sym, _∙_}
 use mathlib.Core.Bool.{true}
 use mathlib.Core.Logic.{_⊎_, inl, inr}
-use Prim.Native.Nat.{ℕ, _+_, min}
 use native.Mathlib.Omega.{arith}
 use borrow.Author.Needs.{needs}
-use borrow.Author.Tests.{not-true, not-false, leb-true, leb-false}
+use borrow.Author.Tests.{not-true, not-false}
+use lib.IntN.{ℤ, pos, natAbs, _+ℤ_}
+use mir.Syntax.{w64}
+use mir.Val.{toZ, ofZ}
 use Rattle.utilities.specs.declared.Differences.{Differences}
-use Rattle.utilities.specs.Compass.{differences, points}
+use Rattle.utilities.specs.Compass.{points, within}
 use Rattle.utilities.proofs.Compass.{small}
-use Rattle.fields.specs.Inner.{farOut}
-use Rattle.fields.proofs.Steps.{pointless, summed-in, summed-out, promised}
+use Rattle.utilities.proofs.Sums.{Made, sum, both-in, low-out, high-out, within-true, cast-back}
+use Rattle.fields.proofs.Steps.{columnSum, rowSum, pointless, summed-in, summed-out, promised}
 use Rattle.fields.proofs.FieldCell.get_in_compass_direction.Statement.{statement}
 use Rattle.fields.proofs.FieldCell.get_in_compass_direction.Tie as tie
 
--- where both sums are made; where the direction's differences are known; the call
-abbrev Made : Type 0
-Made = tie.After-struct-known2
+-- where the direction's differences are known: the call, and the two sums as the machine makes them
+module _ (m : tie.After-differences) where
+  abbrev start : tie.Start
+  start = m .before .before .before
 
-abbrev told : Made → tie.After-differences
-told m = m .before .before .before .before
+  abbrev δ : Differences
+  δ = m .differences .result
 
-abbrev start : Made → tie.Start
-start m = told m .before .before .before
+  abbrev columnMade : ℤ
+  columnMade = toZ w64 (start .args .self .column) +ℤ toZ w64 (ofZ w64 (δ .column))
 
-abbrev column : Made → ℕ
-column m = m .before .before .before .capped .result + told m .differences .result .column
+  abbrev rowMade : ℤ
+  rowMade = toZ w64 (start .args .self .row) +ℤ toZ w64 (ofZ w64 (δ .row))
 
-abbrev row : Made → ℕ
-row m = m .before .capped2 .result + told m .differences .result .row
+  column-made : Made columnMade (columnSum (start .args .self) (start .args .dir))
+  column-made =
+      let e = m .differences .ensures in
+      rw (← e) (sum (start .args .self .column) (δ .column) (start .pre .column-near) (small (start .args .dir) e .columns))
 
-column-is : (m : Made) → column m ≡ min (start m .args .self .column) farOut + differences (start m .args .dir) .column
-column-is m = omega (arith, m .before .before .before .capped .ensures, ap (λ (δ : Differences). δ .column) (told m .differences .ensures))
+  row-made : Made rowMade (rowSum (start .args .self) (start .args .dir))
+  row-made =
+      let e = m .differences .ensures in
+      rw (← e) (sum (start .args .self .row) (δ .row) (start .pre .row-near) (small (start .args .dir) e .rows))
 
-row-is : (m : Made) → row m ≡ min (start m .args .self .row) farOut + differences (start m .args .dir) .row
-row-is m = omega (arith, m .before .capped2 .ensures, ap (λ (δ : Differences). δ .row) (told m .differences .ensures))
+  pointing : points (start .args .dir) ≡ true
+  pointing = sym (m .before .before .points .ensures) ∙ not-false _ (m .before .if1 .left)
 
-pointing : (m : Made) → points (start m .args .dir) ≡ true
-pointing m = sym (told m .before .before .points .ensures) ∙ not-false _ (told m .before .if1 .left)
+-- where both sums are made (from there to where the first one is, and further back), and where all tests of them held
+abbrev first : tie.After-struct-told2 → tie.After-struct-told
+first c = c .before .before .before
+
+abbrev known : tie.After-struct-told2 → tie.After-differences
+known c = first c .before .before .before
+
+abbrev inner : tie.Then5 → tie.After-differences
+inner c = known (c .before .before .before .before)
+
+column-in : (c : tie.Then5) → within 9 (columnSum (start (inner c) .args .self) (start (inner c) .args .dir)) ≡ true
+column-in c = both-in 9 (column-made (inner c)) (c .before .before .before .if2 .taken) (c .before .before .if3 .taken)
+
+row-in : (c : tie.Then5) → within 9 (rowSum (start (inner c) .args .self) (start (inner c) .args .dir)) ≡ true
+row-in c = both-in 9 (row-made (inner c)) (c .before .if4 .taken) (c .if5 .taken)
 
 points-requires : tie.Need-points-requires
 points-requires c κs = search needs
@@ -52,44 +71,39 @@ returns c =
 differences-requires : tie.Need-differences-requires
 differences-requires c κs = search needs
 
-capped-requires : tie.Need-capped-requires
-capped-requires c κs = search needs
+cast-column : tie.Need-cast-column
+cast-column c = search needs
 
 add-column : tie.Need-add-column
-add-column c =
-    let at = c .before .before in
-    let s = small (at .before .before .before .args .dir) (at .differences .ensures) in
-    search needs
+add-column c = column-made (c .before .before .before) .fits
 
-capped-requires-2 : tie.Need-capped-requires-2
-capped-requires-2 c κs = search needs
+cast-row : tie.Need-cast-row
+cast-row c = search needs
 
 add-row : tie.Need-add-row
-add-row c = let s = small (start c .args .dir) (told c .differences .ensures) in search needs
+add-row c = row-made (known c) .fits
 
-sub-t14 : tie.Need-sub-t14
-sub-t14 c = search needs
+cast-t13 : tie.Need-cast-t13
+cast-t13 c = let w = within-true 9 _ (column-in c) in cast-back _ (column-made (inner c) .read ∙ w .0) (omega (arith, w .1))
+
+cast-t14 : tie.Need-cast-t14
+cast-t14 c = let w = within-true 9 _ (row-in c) in cast-back _ (row-made (inner c) .read ∙ w .0) (omega (arith, w .1))
 
 returns-2 : tie.Need-returns-2
 returns-2 c =
-    let m = c .before .before .before .before in
+    let m = inner c in
     let a = start m .args in
-    let right = leb-true (column m) 10 (c .before .before .if3 .taken) in
-    let top = leb-true 1 (row m) (c .before .if4 .taken) in
-    let bottom = leb-true (row m) 10 (c .if5 .taken) in
-    promised (a .self) (a .dir)
-    (sym (summed-in (a .self) (a .dir) (column m) (row m) (column-is m) (row-is m) (pointing m) (omega arith) right top bottom))
+    promised (a .self) (a .dir) (rw (column-made m .read, row-made m .read) (sym (summed-in (a .self) (a .dir) (pointing m) (column-in c) (row-in c))))
 
 returns-3 : tie.Need-returns-3
 returns-3 c =
-    let m = c .before in
+    let m = known (c .before) in
     let a = start m .args in
-    let out = summed-out (a .self) (a .dir) (column m) (row m) (column-is m) (row-is m) in
-    promised (a .self) (a .dir) (sym (out (elim (c .if2 .came) [
-      | inl w ↦ inr (inr (inr (leb-false (row m) 10 (w .3 .left))))
-      | inr (inl w) ↦ inr (inr (inl (leb-false 1 (row m) (w .2 .left))))
-      | inr (inr (inl w)) ↦ inr (inl (leb-false (column m) 10 (w .1 .left)))
-      | inr (inr (inr w)) ↦ inl (omega (arith, w .left))
+    promised (a .self) (a .dir) (sym (summed-out (a .self) (a .dir) (elim (c .if2 .came) [
+      | inl w ↦ inr (high-out 9 (row-made m) (w .3 .left))
+      | inr (inl w) ↦ inr (low-out 9 (row-made m) (w .2 .left))
+      | inr (inr (inl w)) ↦ inl (high-out 9 (column-made m) (w .1 .left))
+      | inr (inr (inr w)) ↦ inl (low-out 9 (column-made m) (w .left))
     ])))
 
 pub get-in-compass-direction-spec : {M : Type 1} → statement M
@@ -99,10 +113,11 @@ get-in-compass-direction-spec =
     points-requires
     returns
     differences-requires
-    capped-requires
+    cast-column
     add-column
-    capped-requires-2
+    cast-row
     add-row
-    sub-t14
+    cast-t13
+    cast-t14
     returns-2
     returns-3)
