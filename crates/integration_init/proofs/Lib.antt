@@ -4,5 +4,6 @@ pub mod Masks
 pub mod Looks
 pub mod Waves
 pub mod Lines
+pub mod Walls
 pub mod Starts
 pub mod Answers

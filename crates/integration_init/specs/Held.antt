@@ -1,10 +1,14 @@
 -- Sight in lent arrays (01, "From Rust's form to Rattle's"): 100 cells, and lists of 100 places with a count.
 -- Assumes nothing.
 use mathlib.Core.Path.{_≡_}
+use mathlib.Core.Bool.{false}
 use mathlib.Core.List.{List, []}
+use mathlib.Core.Logic.{_⊎_}
 use Prim.Native.Nat.{ℕ, _<_, _≤_}
 use lib.ListN.{length, take}
+use Rattle.integration_field.specs.Diagonal.{wallAt}
 use Rattle.integration_field.specs.Listed.{padded}
+use Rattle.line_end_table.specs.Ends.{HoldsEnds}
 use Rattle.started_field.specs.Sight.{Sight}
 use Rattle.started_field.specs.Room.{Room}
 
@@ -51,8 +55,17 @@ abbrev pub AppliedAll : (Sight → Sight) → List ℕ → List ℕ → ℕ → 
 AppliedAll step cells corners count queue queued cells' corners' count' queue' queued' =
     HoldsAll (step (sightOf cells corners count (take queued queue))) cells' corners' count' queue' queued'
 
--- a wave's cost, the goal, and a cell of the wave
-pub record InWave (wave goal from : ℕ) : Type 0 where
+-- no cell is a wall
+abbrev pub NoWall : List ℕ → Type 0
+NoWall cells = (n : ℕ) → wallAt cells n ≡ false
+
+-- the table of line ends is lent wherever some cell is a wall: without one no line is drawn
+abbrev pub Lent : List (List ℕ) → List ℕ → Type 0
+Lent ends cells = NoWall cells ⊎ HoldsEnds ends
+
+-- a wave's cost, the goal, and a cell of the wave; and what is known of the table of line ends
+pub record InWave (Table : Type 0) (wave goal from : ℕ) : Type 0 where
   pub wave-in : wave ≤ 100
   pub goal-in : goal < 100
   pub from-in : from < 100
+  pub table : Table

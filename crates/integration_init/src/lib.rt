@@ -14,7 +14,7 @@ use route::WindowCells;
 use started_field::InitAnswer;
 use utilities::CompassDir;
 ghost use mathlib.Core.Path.{_≡_};
-ghost use mathlib.Core.Bool.{_||_};
+ghost use mathlib.Core.Bool.{false, _||_};
 ghost use mathlib.Core.List.{List, []};
 ghost use Prim.Native.Nat.{ℕ, suc, _+_, _<_, _≤_};
 ghost use lib.ListN.{length, take};
@@ -24,13 +24,14 @@ ghost use Rattle.integration_field.specs.Listed.{Indexes};
 ghost use Rattle.route.specs.Target.{targetOf};
 ghost use Rattle.integration_field.specs.Word.{isLos, isGoal, isBlocked, isImpassable};
 ghost use Rattle.integration_field.specs.Diagonal.{wallAt};
+ghost use Rattle.line_end_table.specs.Ends.{HoldsEnds};
 ghost use Rattle.route.specs.Inner.{heldCells, heldTarget, WindowHeld, TargetHeld};
 ghost use Rattle.started_field.specs.Started.{startedAt, startedFrom, started, initRefused, initAnswer, StartedField};
 ghost use Rattle.started_field.specs.CornerLine.{cornerLine};
 ghost use Rattle.started_field.specs.Sight.{wallOr, walls, marked, stopped, lineMarked, extended, unlessWall, sideTried, wallMet};
 ghost use Rattle.started_field.specs.Sight.{neighbourLooked, looked, lookedAround, waveLooked, sightAfter};
 ghost use Rattle.least_walks.specs.Promise.{OnceBuilt};
-ghost use Rattle.integration_init.specs.Held.{sightOf, Holds, Ready, Applied, AppliedAll, HoldsAll, ReadyAll, InWave};
+ghost use Rattle.integration_init.specs.Held.{sightOf, Holds, Ready, Applied, AppliedAll, HoldsAll, ReadyAll, NoWall, Lent, InWave};
 
 // How many corners are listed, and how many cells the wave has queued.
 struct Counts {
@@ -136,13 +137,14 @@ fn extend_los_corner(
     corner: usize,
     goal: usize,
     wavefront_cost: u32,
+    ends: &[[u8; 100]],
 ) -> usize
-    requires { ⌜ (Ready (now cells) (now corners) count) × (InWave «wavefront_cost» goal corner) ⌝ }
+    requires { ⌜ (Ready (now cells) (now corners) count) × (InWave (HoldsEnds (now ends)) «wavefront_cost» goal corner) ⌝ }
     ensures { λ r. ⌜ Applied (extended (cornerLine goal) «wavefront_cost» corner)
         (now (cells .entry)) (now (corners .entry)) count (now (cells .exit)) (now (corners .exit)) r ⌝ }
 {
     let from = FieldCell::from_index(corner);
-    let end = FieldCell::from_index(line_end_table::read_end(corner, goal));
+    let end = FieldCell::from_index(line_end_table::read_end(ends, corner, goal));
     let mut drawn: [usize; 10] = [0; 10];
     let length = bresenham::draw_cells_between_points(from, end, &mut drawn);
     mark_line(
@@ -166,8 +168,9 @@ fn try_side(
     side: CompassDir,
     goal: usize,
     wavefront_cost: u32,
+    ends: &[[u8; 100]],
 ) -> usize
-    requires { ⌜ (Ready (now cells) (now corners) count) × ((InWave «wavefront_cost» goal from) × (wall < 100)) ⌝ }
+    requires { ⌜ (Ready (now cells) (now corners) count) × ((InWave (HoldsEnds (now ends)) «wavefront_cost» goal from) × (wall < 100)) ⌝ }
     ensures { λ r. ⌜ Applied (sideTried (cornerLine goal) «wavefront_cost» from wall side)
         (now (cells .entry)) (now (corners .entry)) count (now (cells .exit)) (now (corners .exit)) r ⌝ }
 {
@@ -178,7 +181,7 @@ fn try_side(
         return count;
     };
     let index = corner.as_1d_index();
-    extend_los_corner(cells, corners, count, index, goal, wavefront_cost)
+    extend_los_corner(cells, corners, count, index, goal, wavefront_cost, ends)
 }
 
 // Tries both sides of a wall, across the direction in which it was met.
@@ -191,8 +194,9 @@ fn meet_wall(
     dir: CompassDir,
     goal: usize,
     wavefront_cost: u32,
+    ends: &[[u8; 100]],
 ) -> usize
-    requires { ⌜ (Ready (now cells) (now corners) count) × ((InWave «wavefront_cost» goal from) × (wall < 100)) ⌝ }
+    requires { ⌜ (Ready (now cells) (now corners) count) × ((InWave (HoldsEnds (now ends)) «wavefront_cost» goal from) × (wall < 100)) ⌝ }
     ensures { λ r. ⌜ Applied (wallMet (cornerLine goal) «wavefront_cost» from wall dir)
         (now (cells .entry)) (now (corners .entry)) count (now (cells .exit)) (now (corners .exit)) r ⌝ }
 {
@@ -206,6 +210,7 @@ fn meet_wall(
         side,
         goal,
         wavefront_cost,
+        ends,
     );
     try_side(
         cells,
@@ -216,6 +221,7 @@ fn meet_wall(
         side.inverse(),
         goal,
         wavefront_cost,
+        ends,
     )
 }
 
@@ -238,8 +244,10 @@ fn look_at(
     n: usize,
     goal: usize,
     wavefront_cost: u32,
+    ends: &[[u8; 100]],
 ) -> Counts
-    requires { ⌜ (ReadyAll (now cells) (now corners) (counts .corners) (now queue) (counts .queued)) × ((InWave «wavefront_cost» goal from) × (n < 100)) ⌝ }
+    requires { ⌜ (ReadyAll (now cells) (now corners) (counts .corners) (now queue) (counts .queued))
+        × ((InWave (Lent (now ends) (now cells)) «wavefront_cost» goal from) × (n < 100)) ⌝ }
     ensures { λ r. ⌜ AppliedAll (neighbourLooked (cornerLine goal) «wavefront_cost» from dir n)
         (now (cells .entry)) (now (corners .entry)) (counts .corners) (now (queue .entry)) (counts .queued)
         (now (cells .exit)) (now (corners .exit)) (r .corners) (now (queue .exit)) (r .queued) ⌝ }
@@ -251,7 +259,17 @@ fn look_at(
         return counts;
     }
     if integration_bits::is_impassable(cost) {
-        let corners = meet_wall(cells, corners, listed, from, n, dir, goal, wavefront_cost);
+        let corners = meet_wall(
+            cells,
+            corners,
+            listed,
+            from,
+            n,
+            dir,
+            goal,
+            wavefront_cost,
+            ends,
+        );
         return Counts { corners, queued };
     }
     cells[n] = wavefront_cost + INT_BITS_LOS;
@@ -262,7 +280,8 @@ fn look_at(
     }
 }
 
-// Looks at the neighbour of cell `from` in one direction, where there is one.
+// Looks at the neighbour of cell `from` in one direction, where there is one. The step says whether there is; the neighbour's index is told by the
+// index that the step is made from.
 fn look(
     cells: &mut [u32; 100],
     corners: &mut [usize; 100],
@@ -272,8 +291,10 @@ fn look(
     dir: CompassDir,
     goal: usize,
     wavefront_cost: u32,
+    ends: &[[u8; 100]],
 ) -> Counts
-    requires { ⌜ (ReadyAll (now cells) (now corners) (counts .corners) (now queue) (counts .queued)) × (InWave «wavefront_cost» goal from) ⌝ }
+    requires { ⌜ (ReadyAll (now cells) (now corners) (counts .corners) (now queue) (counts .queued))
+        × (InWave (Lent (now ends) (now cells)) «wavefront_cost» goal from) ⌝ }
     ensures { λ r. ⌜ AppliedAll (looked (cornerLine goal) «wavefront_cost» from dir (stepped (cellAt from) dir))
         (now (cells .entry)) (now (corners .entry)) (counts .corners) (now (queue .entry)) (counts .queued)
         (now (cells .exit)) (now (corners .exit)) (r .corners) (now (queue .exit)) (r .queued) ⌝ }
@@ -292,6 +313,7 @@ fn look(
         n,
         goal,
         wavefront_cost,
+        ends,
     )
 }
 
@@ -304,8 +326,10 @@ fn look_around(
     from: usize,
     goal: usize,
     wavefront_cost: u32,
+    ends: &[[u8; 100]],
 ) -> Counts
-    requires { ⌜ (ReadyAll (now cells) (now corners) (counts .corners) (now queue) (counts .queued)) × (InWave «wavefront_cost» goal from) ⌝ }
+    requires { ⌜ (ReadyAll (now cells) (now corners) (counts .corners) (now queue) (counts .queued))
+        × (InWave (Lent (now ends) (now cells)) «wavefront_cost» goal from) ⌝ }
     ensures { λ r. ⌜ AppliedAll (lookedAround (cornerLine goal) «wavefront_cost» from orthogonal)
         (now (cells .entry)) (now (corners .entry)) (counts .corners) (now (queue .entry)) (counts .queued)
         (now (cells .exit)) (now (corners .exit)) (r .corners) (now (queue .exit)) (r .queued) ⌝ }
@@ -327,6 +351,7 @@ fn look_around(
             dir,
             goal,
             wavefront_cost,
+            ends,
         );
         side += 1;
     }
@@ -343,9 +368,10 @@ fn look_wave(
     next: &mut [u8; 100],
     goal: usize,
     wavefront_cost: u32,
+    ends: &[[u8; 100]],
 ) -> Counts
     requires { ⌜ (Ready (now cells) (now corners) count)
-        × ((Indexes 100 (now wavefront) size) × ((length (now next) ≡ 100) × ((«wavefront_cost» ≤ 100) × (goal < 100)))) ⌝ }
+        × ((Indexes 100 (now wavefront) size) × ((length (now next) ≡ 100) × (InWave (Lent (now ends) (now cells)) «wavefront_cost» goal goal))) ⌝ }
     ensures { λ r. ⌜ HoldsAll (waveLooked (cornerLine goal) «wavefront_cost» (take size (now (wavefront .entry)))
         (sightOf (now (cells .entry)) (now (corners .entry)) count []))
         (now (cells .exit)) (now (corners .exit)) (r .corners) (now (next .exit)) (r .queued) ⌝ }
@@ -357,7 +383,16 @@ fn look_wave(
     let mut i = 0;
     while i < size {
         let from = fields::index_of(wavefront[i]);
-        counts = look_around(cells, corners, next, counts, from, goal, wavefront_cost);
+        counts = look_around(
+            cells,
+            corners,
+            next,
+            counts,
+            from,
+            goal,
+            wavefront_cost,
+            ends,
+        );
         i += 1;
     }
     counts
@@ -373,8 +408,10 @@ fn propagate_los(
     goal: usize,
     wavefront_cost: u32,
     falling: usize,
+    ends: &[[u8; 100]],
 ) -> usize
-    requires { ⌜ (Ready (now cells) (now corners) count) × ((Indexes 100 (now wavefront) size) × ((goal < 100) × («wavefront_cost» + falling ≤ 101))) ⌝ }
+    requires { ⌜ (Ready (now cells) (now corners) count) × ((Indexes 100 (now wavefront) size)
+        × ((goal < 100) × ((«wavefront_cost» + falling ≤ 101) × (Lent (now ends) (now cells))))) ⌝ }
     ensures { λ r. ⌜ ((before : List ℕ) (k : ℕ) → «wavefront_cost» ≡ suc k
         → sightOf (now (cells .entry)) (now (corners .entry)) count (take size (now (wavefront .entry))) ≡ sightAfter (cornerLine goal) before goal k
         → Holds (sightAfter (cornerLine goal) before goal (k + falling)) (now (cells .exit)) (now (corners .exit)) r) ⌝ }
@@ -395,6 +432,7 @@ fn propagate_los(
         &mut next,
         goal,
         wavefront_cost,
+        ends,
     );
     let listed = counts.corners;
     let queued = counts.queued;
@@ -407,7 +445,44 @@ fn propagate_los(
         goal,
         wavefront_cost + 1,
         falling - 1,
+        ends,
     )
+}
+
+// Whether some cell is a wall. Promised is what its caller needs: where it answers no, none is.
+fn has_wall(cells: &[u32; 100]) -> bool
+    requires { ⌜ length (now cells) ≡ 100 ⌝ }
+    ensures { λ r. ⌜ (r ≡ false → NoWall (now (cells .entry))) ⌝ }
+{
+    let mut found = false;
+    let mut i = 0;
+    while i < 100 {
+        found = found | is_wall_at(cells, i);
+        i += 1;
+    }
+    found
+}
+
+// Spreads sight from the goal. Where a corner's line ends is read from a table, which is laid out here, once, and lent to the waves. Without a
+// wall there is no corner and no line: then one row of zeros is lent in its place, which nothing reads. Answers how many corners are listed.
+fn spread_sight(
+    cells: &mut [u32; 100],
+    corners: &mut [usize; 100],
+    wavefront: &[u8; 100],
+    goal: usize,
+) -> usize
+    requires { ⌜ (Ready (now cells) (now corners) 0) × ((Indexes 100 (now wavefront) 1) × (goal < 100)) ⌝ }
+    ensures { λ r. ⌜ ((before : List ℕ)
+        → sightOf (now (cells .entry)) (now (corners .entry)) 0 (take 1 (now (wavefront .entry))) ≡ sightAfter (cornerLine goal) before goal 0
+        → Holds (sightAfter (cornerLine goal) before goal 100) (now (cells .exit)) (now (corners .exit)) r) ⌝ }
+{
+    if has_wall(cells) {
+        let mut ends: [[u8; 100]; 100] = [[0; 100]; 100];
+        line_end_table::ends::lay_out(&mut ends);
+        return propagate_los(cells, corners, 0, wavefront, 1, goal, 1, 100, &ends);
+    }
+    let none: [[u8; 100]; 1] = [[0; 100]; 1];
+    propagate_los(cells, corners, 0, wavefront, 1, goal, 1, 100, &none)
 }
 
 // A cell's word as its cost gives it.
@@ -473,16 +548,7 @@ fn start_from(costs: &[u8], goal: usize) -> IntegrationField
     cells[goal] = INT_BITS_GOAL;
     let mut wavefront: [u8; 100] = [0; 100];
     wavefront[0] = goal as u8;
-    field.count = propagate_los(
-        &mut cells,
-        &mut field.los_corners,
-        0,
-        &wavefront,
-        1,
-        goal,
-        1,
-        100,
-    );
+    field.count = spread_sight(&mut cells, &mut field.los_corners, &wavefront, goal);
     field.field = cells;
     field
 }

@@ -1,20 +1,20 @@
--- A row that passes one test, which antt computes goal by goal, holds the line ends of its corner.
---     row-holds    a row that passes
---     no-row       a number that is none of those below 100 is no corner
+-- A table that passes one test, which antt computes entry by entry, holds the line end of each pair.
+--     every-end     the table
+--     in-row        and what it holds is read by row and place in the row
 -- Assumes nothing.
-use mathlib.Core.Path.{_≡_, subst, sym}
+use mathlib.Core.Path.{_≡_, _∙_, subst, sym, ap}
 use mathlib.Core.Bool.{Bool, true, false}
-use mathlib.Core.List.{List}
-use Prim.Native.Nat.{ℕ, zero, suc, _≤_, _<_}
+use mathlib.Core.List.{List, [], _∷_}
+use Prim.Native.Nat.{ℕ, zero, suc, _+_, _*_, _/_, _%_, _<_}
+use native.Mathlib.Nat.{add-zero, zero-add, add-suc, suc-add, le-of-suc-le-suc, not-suc-le-zero}
 use native.Mathlib.Omega.{arith}
-use native.Mathlib.Decide.{ℕ-discrete}
 use lib.Dec.{T, eqb, eqb→eq}
-use lib.ListN.{length}
+use lib.ListN.{length, getD}
 use Rattle.fields.specs.Cell.{cellAt, indexOf}
 use Rattle.line_end.specs.LineEnd.{lineEnd}
-use Rattle.line_end_table.specs.Ends.{endOf, HoldsRow}
+use Rattle.line_end_table.specs.Ends.{entryAt, HoldsEnds}
 
--- ---- a test of each number below another
+-- ---- a test of each entry, for any table
 abbrev both : Bool → Bool → Bool
 both true b = b
 both false b = false
@@ -27,40 +27,52 @@ both-right : (a b : Bool) → T (both a b) → T b
 both-right true b t = t
 both-right false b t = absurd t
 
--- the test f passes at each number below n
-abbrev every : (ℕ → Bool) → ℕ → Bool
-every f zero = true
-every f (suc n) = both (f n) (every f n)
+-- the test f passes at each entry of the list and its place, counted from i
+abbrev every : {A : Type 0} → (ℕ → A → Bool) → ℕ → List A → Bool
+every f i [] = true
+every f i (x ∷ xs) = both (f i x) (every f (suc i) xs)
 
-at : (f : ℕ → Bool) (n : ℕ) → T (every f n) → (k : ℕ) → k < n → T (f k)
-at f zero t k h = absurd (omega arith)
-at f (suc n) t k h = elim (ℕ-discrete k n) [
-  | yes e ↦ subst (λ (m : ℕ). T (f m)) (sym e) (both-left (f n) (every f n) t)
-  | no q ↦ at f n (both-right (f n) (every f n) t) k (omega arith)
-]
+from : {A : Type 0} (d : A) (f : ℕ → A → Bool) (xs : List A) (i : ℕ) → T (every f i xs) → (k : ℕ) → k < length xs → T (f (i + k) (getD xs k d))
+from d f [] i t k h = absurd (not-suc-le-zero h)
+from d f (x ∷ xs) i t zero h = subst (λ (m : ℕ). T (f m x)) (sym (add-zero i)) (both-left (f i x) (every f (suc i) xs) t)
+from d f (x ∷ xs) i t (suc k) h =
+    subst (λ (m : ℕ). T (f m (getD xs k d))) (suc-add i k ∙ sym (add-suc i k))
+    (from d f xs (suc i) (both-right (f i x) (every f (suc i) xs) t) k (le-of-suc-le-suc h))
 
--- ---- the rows
--- a place of the row is the end of its goal
-abbrev isEnd : ℕ → List ℕ → ℕ → Bool
-isEnd corner row goal = eqb (endOf row goal) (indexOf (lineEnd (cellAt corner) (cellAt goal)))
+at : {A : Type 0} (d : A) (f : ℕ → A → Bool) (xs : List A) → T (every f 0 xs) → (k : ℕ) → k < length xs → T (f k (getD xs k d))
+at d f xs t k h = subst (λ (m : ℕ). T (f m (getD xs k d))) (zero-add k) (from d f xs 0 t k h)
 
--- each place is
-abbrev pub Passes : ℕ → List ℕ → Type 0
-Passes corner row = T (every (isEnd corner row) 100)
+-- ---- the test of line ends
+-- an entry of a corner's row is the end of its goal
+abbrev isEnd : ℕ → ℕ → ℕ → Bool
+isEnd corner goal x = eqb x (indexOf (lineEnd (cellAt corner) (cellAt goal)))
 
-pub row-holds : (k : ℕ) {corner : ℕ} {row : List ℕ} → corner ≡ k → length row ≡ 13 → Passes k row → corner < 100 → HoldsRow corner row
-row-holds k {corner} {row} e long t h =
-    let passed : HoldsRow k row = record { long = long; each = λ goal g. eqb→eq _ _ (at (isEnd k row) 100 t goal g) } in
-    rw e passed
+-- a corner's row has 100 entries, and each is
+abbrev isRow : ℕ → List ℕ → Bool
+isRow corner row = both (eqb (length row) 100) (every (isEnd corner) 0 row)
 
--- x is none of the numbers below n
-abbrev pub NoneOf : ℕ → ℕ → Type 0
-NoneOf x zero = Unit {0}
-NoneOf x (suc n) = NoneOf x n × (x ≡ n → ⊥)
+-- there are 100 rows, and each is the row of its place
+abbrev pub Passes : List (List ℕ) → Type 0
+Passes ends = T (every isRow 0 ends)
 
-past : (n x : ℕ) → NoneOf x n → n ≤ x
-past zero x r = omega arith
-past (suc n) x r = let h = past n x (r .0) in elim (ℕ-discrete x n) [ yes e ↦ absurd (r .1 e) | no q ↦ omega arith ]
+-- the entry of a pair, in a table of 100 rows that passes
+in-table : (ends : List (List ℕ)) → length ends ≡ 100 → Passes ends
+    → (corner goal : ℕ) → corner < 100 → goal < 100 → entryAt ends (corner * 100 + goal) ≡ indexOf (lineEnd (cellAt corner) (cellAt goal))
+in-table ends long t corner goal p q =
+    let c : (corner * 100 + goal) / 100 ≡ corner = omega arith in
+    let g : (corner * 100 + goal) % 100 ≡ goal = omega arith in
+    let row = getD ends corner [] in
+    let passed = at [] isRow ends t corner (rw long p) in
+    let full = eqb→eq (length row) 100 (both-left (eqb (length row) 100) (every (isEnd corner) 0 row) passed) in
+    let each = both-right (eqb (length row) 100) (every (isEnd corner) 0 row) passed in
+    rw (c, g) (eqb→eq _ _ (at 0 (isEnd corner) row each goal (rw full q)))
 
-pub no-row : {corner : ℕ} {row : List ℕ} → NoneOf corner 100 → corner < 100 → HoldsRow corner row
-no-row {corner} r h = absurd (omega (arith, past 100 corner r))
+pub every-end : (ends : List (List ℕ)) → length ends ≡ 100 → Passes ends → HoldsEnds ends
+every-end ends long t = record { long = long; each = in-table ends long t }
+
+pub in-row : (ends : List (List ℕ)) → HoldsEnds ends
+    → (corner goal : ℕ) → corner < 100 → goal < 100 → getD (getD ends corner []) goal 0 ≡ indexOf (lineEnd (cellAt corner) (cellAt goal))
+in-row ends held corner goal p q =
+    let c : (corner * 100 + goal) / 100 ≡ corner = omega arith in
+    let g : (corner * 100 + goal) % 100 ≡ goal = omega arith in
+    rw (c, g) at (held .each corner goal p q)

@@ -1,22 +1,18 @@
 -- The table of line ends (02, "Job 12"): a row for each corner, in it a place for each goal.
 -- Assumes nothing.
 use mathlib.Core.Path.{_≡_}
-use mathlib.Core.List.{List}
-use Prim.Native.Nat.{ℕ, _*_, _/_, _%_, _^_, _<_}
+use mathlib.Core.List.{List, []}
+use Prim.Native.Nat.{ℕ, _+_, _*_, _/_, _%_, _<_}
 use lib.ListN.{length, getD}
 use Rattle.fields.specs.Cell.{cellAt, indexOf}
 use Rattle.line_end.specs.LineEnd.{lineEnd}
 
--- byte `place` of a word, counted from the lowest
-abbrev pub byteOf : ℕ → ℕ → ℕ
-byteOf word place = word / 2 ^ (8 * place) % 256
+-- the entry at a place of rows of 100, which lie one after the other
+abbrev pub entryAt : List (List ℕ) → ℕ → ℕ
+entryAt ends place = getD (getD ends (place / 100) []) (place % 100) 0
 
--- place `goal` of a row, whose words hold eight places each
-abbrev pub endOf : List ℕ → ℕ → ℕ
-endOf row goal = byteOf (getD row (goal / 8) 0) (goal % 8)
-
--- A row that holds, for each goal, the index of the cell in which the line of that corner and that goal ends: what the rule of Job 11 gives, and
--- row 0 of its column where the corner is the goal.
-pub record HoldsRow (corner : ℕ) (row : List ℕ) : Type 0 where
-  pub long : length row ≡ 13
-  pub each : (goal : ℕ) → goal < 100 → endOf row goal ≡ indexOf (lineEnd (cellAt corner) (cellAt goal))
+-- A table that holds, at corner times 100 plus goal, the index of the cell in which the line of that corner and that goal ends:
+-- what the rule of Job 11 gives, and row 0 of its column where the corner is the goal.
+pub record HoldsEnds (ends : List (List ℕ)) : Type 0 where
+  pub long : length ends ≡ 100
+  pub each : (corner goal : ℕ) → corner < 100 → goal < 100 → entryAt ends (corner * 100 + goal) ≡ indexOf (lineEnd (cellAt corner) (cellAt goal))

@@ -5,21 +5,19 @@ ghost use mathlib.Core.Path.{_≡_};
 ghost use Prim.Native.Nat.{_<_};
 ghost use Rattle.fields.specs.Cell.{cellAt, indexOf};
 ghost use Rattle.line_end.specs.LineEnd.{lineEnd};
-ghost use Rattle.line_end_table.specs.Ends.{byteOf};
+ghost use Rattle.line_end_table.specs.Ends.{HoldsEnds};
 
-// A byte of a word, counted from the lowest.
-fn byte_of(word: u64, place: usize) -> usize
-    requires { ⌜ place < 8 ⌝ }
-    ensures { λ r. ⌜ r ≡ byteOf word place ⌝ }
+// A byte as an index.
+fn wide(x: u8) -> usize
+    ensures { λ r. ⌜ r ≡ x ⌝ }
 {
-    ((word >> (8 * place)) % 256) as usize
+    x as usize
 }
 
 // The index of the cell that a corner's line ends in, read from the table.
-pub fn read_end(corner: usize, goal: usize) -> usize
-    requires { ⌜ (corner < 100) × (goal < 100) ⌝ }
+pub fn read_end(ends: &[[u8; 100]], corner: usize, goal: usize) -> usize
+    requires { ⌜ HoldsEnds (now ends) × (corner < 100) × (goal < 100) ⌝ }
     ensures { λ r. ⌜ r ≡ indexOf (lineEnd (cellAt corner) (cellAt goal)) ⌝ }
 {
-    let row = ends::line_ends(corner);
-    byte_of(row[goal / 8], goal % 8)
+    wide(ends[corner][goal])
 }

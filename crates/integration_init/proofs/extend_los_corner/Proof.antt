@@ -49,7 +49,7 @@ end-within : (c : Ended) → Inside (end c)
 end-within c = subst Inside (sym (end-is c)) (defined-inside c)
 
 read-end-requires : tie.Need-read-end-requires
-read-end-requires c κs = let w = c .before .pre .1 in (w .from-in, w .goal-in)
+read-end-requires c κs = let w = c .before .pre .1 in (w .table, w .from-in, w .goal-in)
 
 draw-requires : tie.Need-draw-cells-between-points-requires
 draw-requires c κs = let e = c .before in ((from-inside e, end-within e), refl)

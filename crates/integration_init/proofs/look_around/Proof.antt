@@ -10,21 +10,23 @@ use Rattle.utilities.specs.Compass.{orthogonal}
 use Rattle.fields.specs.Cell.{cellAt, stepped}
 use Rattle.started_field.specs.Sight.{Sight, looked, lookedAround}
 use Rattle.started_field.specs.CornerLine.{cornerLine}
-use Rattle.integration_init.specs.Held.{sightOf, ReadyAll}
+use Rattle.integration_init.specs.Held.{sightOf, ReadyAll, Lent}
 use Rattle.integration_init.proofs.Held.{held-all, all-ready}
+use Rattle.integration_init.proofs.Walls.{lent-looked}
 use Rattle.integration_init.proofs.Waves.{around-step, around-end}
 use Rattle.integration_init.proofs.look_around.Statement.{statement}
 use Rattle.integration_init.proofs.look_around.Tie as tie
 
 abbrev Inv-loop : tie.InvT-loop
-Inv-loop cells₀ corners₀ queue₀ from goal wavefront-cost counted₀ side₀ cells corners queue counted side =
+Inv-loop cells₀ corners₀ queue₀ from goal wavefront-cost ends counted₀ side₀ cells corners queue counted side =
     (side ≤ 4)
     × ReadyAll cells corners (counted .corners) queue (counted .queued)
     × (lookedAround (cornerLine goal) wavefront-cost from orthogonal (sightOf cells₀ corners₀ (counted₀ .corners) (take (counted₀ .queued) queue₀))
     ≡ lookedAround (cornerLine goal) wavefront-cost from (drop side orthogonal) (sightOf cells corners (counted .corners) (take (counted .queued) queue)))
+    × Lent ends cells
 
 abbrev μ-loop : tie.MeasureT-loop
-μ-loop cells₀ corners₀ queue₀ from goal wavefront-cost counted₀ side₀ cells corners queue counted side = 4 - side
+μ-loop cells₀ corners₀ queue₀ from goal wavefront-cost ends counted₀ side₀ cells corners queue counted side = 4 - side
 
 -- the turn of the loop, where the direction is known, and the call
 abbrev Turn : Type 0
@@ -41,10 +43,14 @@ returns : tie.Need-returns Inv-loop μ-loop
 returns c = let in-sector = c .before .pre .1 .from-in in absurd (omega arith)
 
 loop-holds : tie.Need-loop-holds Inv-loop μ-loop
-loop-holds c = (search needs, c .before .pre .0, refl)
+loop-holds c = (search needs, c .before .pre .0, refl, c .before .pre .1 .table)
 
 look-requires : tie.Need-look-requires Inv-loop μ-loop
-look-requires c κs = let turn = c .before .before .before .before .before in (turn .loop .inv .1, start turn .pre .1)
+look-requires c κs =
+    let known = c .before .before .before in
+    let turn = known .before .before in
+    let w = start turn .pre .1 in
+    (turn .loop .inv .1, record { wave-in = w .wave-in; goal-in = w .goal-in; from-in = w .from-in; table = turn .loop .inv .3 })
 
 loop-again : tie.Need-loop-again Inv-loop μ-loop
 loop-again c =
@@ -54,6 +60,7 @@ loop-again c =
     let a = start turn .args in
     let l = turn .loop in
     let line = cornerLine (a .goal) in
+    let dir = told .from-boundary .result in
     let towards : CompassDir → Sight = λ d. looked line (a .wavefront-cost) (a .from) d (stepped (cellAt (a .from)) d) (held turn) in (
       search needs,
       all-ready (c .look .ensures),
@@ -61,6 +68,8 @@ loop-again c =
           ∙ around-step line (a .wavefront-cost) (a .from) (l .side) (held turn) (tested .loop-test .taken)
           ∙ ap (lookedAround line (a .wavefront-cost) (a .from) (drop (l .side + 1) orthogonal))
           (ap towards (sym (told .from-boundary .ensures)) ∙ sym (held-all (c .look .ensures))),
+      rw (c .look .ensures .held .cells-held)
+          (lent-looked line (a .wavefront-cost) (start turn .pre .1 .wave-in) _ (held turn) (a .from) dir (stepped (cellAt (a .from)) dir) (l .inv .3)),
     )
 
 returns-2 : tie.Need-returns-2 Inv-loop μ-loop

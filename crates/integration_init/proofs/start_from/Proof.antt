@@ -1,8 +1,6 @@
 -- `integration_init::start_from` meets its contract: walls, then the goal, then sight from it. The waves of sight hold what the definition says,
 -- and the record holds it.
 -- Assumes nothing.
-use mathlib.Core.Path.{refl}
-use native.Mathlib.Omega.{arith}
 use borrow.Author.Needs.{needs}
 use denote.Ref.{now}
 use Rattle.started_field.specs.Sight.{walls}
@@ -19,12 +17,12 @@ marked m = m .before .before .before
 abbrev start : tie.After-wavefront → tie.Start
 start m = marked m .before .before .before
 
-propagate-los-requires : tie.Need-propagate-los-requires
-propagate-los-requires c κs =
+spread-sight-requires : tie.Need-spread-sight-requires
+spread-sight-requires c κs =
     let s = start c in
     let goal = s .args .goal in (
       goal-ready (now (s .args .costs)) _ (marked c .mark-walls .ensures) goal (s .pre .0) (s .pre .1),
-      (goal-wavefront goal (s .pre .1), (s .pre .1, omega arith)),
+      (goal-wavefront goal (s .pre .1), s .pre .1),
     )
 
 returns : tie.Need-returns
@@ -32,9 +30,9 @@ unfolding startedFrom sightFrom
 returns c =
     let m = c .before in
     let costs = now (start m .args .costs) in
-    held-field (c .propagate-los .ensures (walls costs) 0 refl (goal-sight costs _ (marked m .mark-walls .ensures) (start m .args .goal)))
+    held-field (c .spread-sight .ensures (walls costs) (goal-sight costs _ (marked m .mark-walls .ensures) (start m .args .goal)))
 
 pub start-from-spec : {M : Type 1} → statement M
 start-from-spec = tie.close (tie.spec
     (λ c κs. search needs) (λ c. search needs) (λ c. search needs) (λ c. search needs) (λ c. search needs)
-    propagate-los-requires returns)
+    spread-sight-requires returns)
