@@ -24,7 +24,7 @@ use Rattle.fields.specs.Steps.{Arrives}
 use Rattle.fields.proofs.Steps.{stepped-cell, steps-to, told, cell-inside, cell-of-index}
 use Rattle.fields.proofs.Beside.{step-beside, beside-step, beside-flip, beside-below}
 use Rattle.integration_field.specs.Diagonal.{wallAt, diagonal, passesWall}
-use Rattle.arrows.proofs.Fall.{Sector, value, NoWall, spreads}
+use Rattle.arrows.proofs.Fall.{EndSector, value, NoWall, spreads}
 
 -- n is a cell beside i, or one row and one column away
 pub data Near (i n : ℕ) : Type 0 where
@@ -104,7 +104,7 @@ module _ (cells : List ℕ) (i n : ℕ) where
   way (beside b) e = direct b
   way (corner h l c r) e = around (aside i n) (beside-row i n h c) (beside-column i n h l r) (open-side c r e)
 
-module _ {costs window cells corners built : List ℕ} (s : Sector costs window cells corners built) (i : ℕ) where
+module _ {costs ends : List ℕ} {word : ℕ} {cells corners built : List ℕ} (s : EndSector costs ends word cells corners built) (i : ℕ) where
   -- a neighbour that the look does not pass over is reached where the cell is, and the cell where it is
   pub reached-there : (d : CompassDir) (n : ℕ) → Sees built i d n → value s i < 65535 → value s n < 65535
   reached-there d n e v = go (way built i n (e .to) (e .open-way))

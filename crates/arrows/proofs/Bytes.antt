@@ -73,6 +73,13 @@ portal-kept b h = record {
   unmarked = not-true (isImpassable (bitOr 0x90 b)) (holds-at 32 (λ b. not (isImpassable (bitOr 0x90 b))) refl b h);
 }
 
+-- and onto the goal's 0x70
+pub goal-kept : (b : ℕ) → b < 32 → Kept (bitOr 0x70 b)
+goal-kept b h = record {
+  pathable = holds-at 32 (λ b. isPathable (bitOr 0x70 b)) refl b h;
+  unmarked = not-true (isImpassable (bitOr 0x70 b)) (holds-at 32 (λ b. not (isImpassable (bitOr 0x70 b))) refl b h);
+}
+
 bits-few : (d : CompassDir) → bitsOf d ≤ 12
 bits-few d = let s = small d refl in omega (arith, s .columns, s .rows)
 

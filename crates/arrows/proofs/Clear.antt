@@ -26,7 +26,7 @@ use Rattle.fields.proofs.Steps.{stepped-cell}
 use Rattle.route.specs.declared.PortalWindow.{PortalWindow}
 use Rattle.route.specs.Window.{stride, onEdge, edge, between, cellsBetween}
 use Rattle.route.specs.Step.{goalOf, firstOf, lastOf, boundaryOf, isWindow, windowCells, portalOf}
-use Rattle.route.specs.Target.{Target, to-goal, to-window, windowOf, GoalCell, WindowCell, TargetIn, targetOf}
+use Rattle.route.specs.Target.{Target, to-goal, to-window, to-corner, windowOf, GoalCell, WindowCell, TargetIn, targetOf}
 use Rattle.route.proofs.Cells.{by-edge}
 use Rattle.route.proofs.Selected.{selected-from}
 use Rattle.integration_field.specs.Word.{low, isLos, isGoal, isPortal, isImpassable}
@@ -212,6 +212,7 @@ OnEdge portal target = (x : ℕ) → WindowCell target x → onEdge (portal .bou
 portal-word : (costs : List ℕ) (target : Target) → length costs ≡ 100 → TargetIn target → (x : ℕ) → isIn x (windowOf target) ≡ true
     → getD (builtCells costs target) x 0 ≡ 0x80000
 portal-word costs (to-goal goal) full inside x e = absurd (true≢false (sym e))
+portal-word costs (to-corner goal) full inside x e = absurd (true≢false (sym e))
 portal-word costs (to-window window) full inside x e =
     let was = started-field costs full (to-window window) inside .cells-are .portal-cell x (in-among x window e) in
     zero-stays (started-walks costs (to-window window) full inside) x (ap low was) ∙ was

@@ -1,15 +1,18 @@
--- Followed arrows end in the window.
---     arrows-lead      from every reached cell, after at most 99 moves, each to a lower cell and none between two walls; and all of 0xE0
+-- Followed arrows end in the window, or without sight in the goal.
+--     arrows-led       from every reached cell, after at most 99 moves, each to a lower cell and none between two walls; and all of 0xE0
 --                      stands exactly on walls and unreached cells
+--     marked-told      the latter with costs of 0 too
+--     arrows-lead      the same of a sector left by a window
 --     build-arrows     the same as it is promised of `FlowField::build`
 --     window-flow      a window cell's byte: its flags, and the bits of its window
+--     end-flow         the byte of a cell where arrows end: its flags, and bits below 0x20
 --     leads-once       following is determined: two ways to follow the arrows from a cell make as many moves
 --     move-read        and is the same by the direction that a byte reads as
 -- Assumes nothing.
 use mathlib.Core.Path.{_≡_, refl, sym, ap, subst, _∙_}
 use mathlib.Core.Bool.{Bool, true, false, true≢false, _||_}
 use mathlib.Core.Logic.{_⊎_, inl, inr, Iff·symm}
-use mathlib.Core.List.{List, List·Memᴰ}
+use mathlib.Core.List.{List, [], _∷_, List·Memᴰ, List·Memᴰ·head, List·Memᴰ·not-nil, List·Memᴰ·eq-of-singleton}
 use Prim.Native.Nat.{ℕ, zero, suc, _+_, _*_, _/_, _%_, _^_, _≤_, _<_}
 use native.Mathlib.Omega.{arith}
 use lib.Bits.{bitOr}
@@ -22,43 +25,72 @@ use Rattle.fields.proofs.Steps.{stepped-cell}
 use Rattle.fields.proofs.Beside.{beside-flip}
 use Rattle.route.specs.declared.PortalWindow.{PortalWindow}
 use Rattle.route.specs.Step.{portalOf}
-use Rattle.route.specs.Target.{Target, to-goal, to-window, windowOf, targetOf}
+use Rattle.route.specs.Target.{Target, to-goal, to-window, to-corner, windowOf, EndCell, endsOf, isSightless, TargetIn, targetOf}
 use Rattle.integration_field.specs.Word.{low, isGoal, isPortal}
 use Rattle.integration_field.specs.Word as word
 use Rattle.integration_field.specs.Diagonal.{wallAt, passesWall}
 use Rattle.integration_field.specs.Listed.{listOf}
 use Rattle.integration_field.proofs.Flags.{small-flag}
+use Rattle.started_field.specs.StartedCell.{Among}
 use Rattle.started_field.specs.Started.{started}
 use Rattle.least_walks.specs.Walks.{Wall}
 use Rattle.least_walks.proofs.Ground.{among-mem, mem-among}
 use Rattle.flow_byte.specs.declared.Look.{Look}
 use Rattle.flow_byte.specs.declared.Look.the-variants.{Looking, Taken, Ended}
 use Rattle.flow_bits.specs.Byte.{bitsOf, dirOf, isImpassable}
-use Rattle.flow_byte.specs.New.{windowBits, newBytes}
+use Rattle.flow_byte.specs.New.{startOf, windowBits, newBytes}
 use Rattle.flow_byte.specs.Look.{lookedByte, lookAround, pointed, flowBuild}
-use Rattle.arrows.specs.Arrows.{Reached, arrow, Away, Cuts, Move, Leads, ends, moves, ArrowsLead}
-use Rattle.arrows.specs.Promise.{WindowSector, builtCells, BuildArrows}
-use Rattle.arrows.proofs.Fall.{Sector, value, Plain, window-word, wall-word, by-kind, Lower, falls, rank, rank-less, rank-few}
+use Rattle.arrows.specs.Arrows.{Reached, arrow, Away, Cuts, Move, Leads, ends, moves, CellsMarked, ArrowsLead}
+use Rattle.arrows.specs.Promise.{WindowSector, SightlessSector, builtCells, BuildArrows}
+use Rattle.arrows.proofs.Fall.{end-open, EndSector, value, word-low, Plain, end-word, wall-word, by-kind, Beside, lower-beside, entered-from, falls, rank, rank-less, rank-few}
 use Rattle.arrows.proofs.Around.{Sees, differ, near-in, reached-there, reached-back, sees-beside}
 use Rattle.arrows.proofs.Clear.{arrows-clear, target-on}
 use Rattle.arrows.proofs.Look.{Found, found, Nothing, nothing}
 use Rattle.arrows.proofs.Moves.{away, reads-so, away-once}
 use Rattle.arrows.proofs.Bytes.{new-length, Pointed, pointed-is}
-use Rattle.arrows.proofs.CellBytes.{small-untaken, window-sector, window-byte, window-kept, wall-byte, plain-byte}
+use Rattle.arrows.proofs.CellBytes.{small-untaken, endWord, window-listed, end-sector, window-sector, window-byte, end-byte, end-kept, wall-byte, plain-byte}
 
-module _ (costs window cells corners built : List ℕ) (s : Sector costs window cells corners built) (cost-from : (x : ℕ) → x < 100 → 1 ≤ getD costs x 0)
+-- ---- the walls of a target without sight: cells of cost 255 where arrows do not end
+
+wall-no-end : (costs : List ℕ) (target : Target) → isSightless target ≡ true → (x : ℕ) → Wall costs target x → Among x (endsOf target) → ⊥
+wall-no-end costs (to-goal n) e x w a = true≢false (sym e)
+wall-no-end costs (to-window cells) e x w a = w .not-window (among-mem x cells a)
+wall-no-end costs (to-corner n) e x w a = w .not-goal (List·Memᴰ·eq-of-singleton (among-mem x (n ∷ []) a))
+
+end-or-wall : (costs : List ℕ) (target : Target) → isSightless target ≡ true → (x : ℕ) → getD costs x 0 ≡ 255 → (Among x (endsOf target) → ⊥)
+    → Wall costs target x
+end-or-wall costs (to-goal n) e x c a = absurd (true≢false (sym e))
+end-or-wall costs (to-window cells) e x c a = record { impassable = c; not-goal = λ g. g; not-window = λ w. a (mem-among x cells w) }
+end-or-wall costs (to-corner n) e x c a = record {
+  impassable = c;
+  not-goal = λ g. a (mem-among x (n ∷ []) (List·Memᴰ·head g));
+  not-window = λ w. absurd (List·Memᴰ·not-nil w);
+}
+
+module _ (costs : List ℕ) (target : Target) (sightless : isSightless target ≡ true) (cells corners built : List ℕ)
+    (s : EndSector costs (endsOf target) (endWord target) cells corners built)
     (portal : PortalWindow) (has : Bool) (previous : List ℕ) where
-  abbrev target : Target
-  target = to-window window
+  abbrev window : List ℕ
+  window = windowOf target
+
+  abbrev ends-in : List ℕ
+  ends-in = endsOf target
 
   abbrev bytes : List ℕ
   bytes = flowBuild built (newBytes portal window built has previous)
+
+  -- a cell where arrows end costs 0 and is no wall
+  end-zero : {w : ℕ} → w ≡ endWord target → low w ≡ 0
+  end-zero e = ap low e ∙ word-low s
+
+  end-passable : {w : ℕ} → w ≡ endWord target → word.isImpassable w ≡ false
+  end-passable e = ap word.isImpassable e ∙ end-open (s .word-is)
 
   -- ---- a move
 
   -- the walls of document 01 are walls of the built field
   wall-at : (x : ℕ) → x < 100 → Wall costs target x → wallAt built x ≡ true
-  wall-at x h w = ap word.isImpassable (wall-word s x h (w .impassable) (λ a. w .not-window (among-mem x window a)))
+  wall-at x h w = ap word.isImpassable (wall-word s x h (w .impassable) (wall-no-end costs target sightless x w))
 
   no-cut : (x n : ℕ) → x < 100 → n < 100 → passesWall built x n ≡ false → Cuts costs target x n → ⊥
   unfolding passesWall
@@ -67,20 +99,20 @@ module _ (costs window cells corners built : List ℕ) (s : Sector costs window 
       true≢false (rw (differ (x / 10) (n / 10) (c .other-row), differ (x % 10) (n % 10) (c .other-column), r) at e)
 
   -- where the byte of a cell points
-  record Next (x : ℕ) : Type 0 where
+  record Next (b x : ℕ) : Type 0 where
     way : CompassDir
     next : ℕ
     sees : Sees built x way next
-    lower : value s next < value s x
+    lower : value s next < b
     byte : getD bytes x 0 ≡ pointed 0 way
 
-  next-pointed : {x : ℕ} (n : Next x) → Pointed (n .way)
-  next-pointed {x} n = pointed-is (n .way) (stepped-cell (cellAt x) (n .way) (cellAt (n .next)) (n .sees .steps) .pointing)
+  next-pointed : {b x : ℕ} (n : Next b x) → Pointed (n .way)
+  next-pointed {x = x} n = pointed-is (n .way) (stepped-cell (cellAt x) (n .way) (cellAt (n .next)) (n .sees .steps) .pointing)
 
-  next-arrow : {x : ℕ} (n : Next x) → arrow bytes x ≡ bitsOf (n .way)
+  next-arrow : {b x : ℕ} (n : Next b x) → arrow bytes x ≡ bitsOf (n .way)
   next-arrow n = ap (λ (b : ℕ). b % 16) (n .byte) ∙ next-pointed n .arrow-is
 
-  next-move : {x : ℕ} → x < 100 → (n : Next x) → Move costs target built bytes x (n .next)
+  next-move : {x : ℕ} → x < 100 → (n : Next (value s x) x) → Move costs target built bytes x (n .next)
   next-move {x} h n = record {
     away =
         subst (λ (a : ℕ). Away a x (n .next)) (sym (next-arrow n))
@@ -90,64 +122,45 @@ module _ (costs window cells corners built : List ℕ) (s : Sector costs window 
     uncut = no-cut x (n .next) h (near-in (n .sees .to)) (n .sees .open-way);
   }
 
-  -- a goal or portal of the built field is a window cell, of cost 0
+  -- a goal or portal of the built field is a cell where arrows end, of cost 0
   taken-zero : (n : ℕ) → n < 100 → wallAt built n ≡ false → (isGoal (getD built n 0) || isPortal (getD built n 0)) ≡ true → value s n ≡ 0
   taken-zero n h w t =
-      by-kind s n h (λ a e. ap low e) (λ c a e. absurd (true≢false (sym (ap word.isImpassable e) ∙ w)))
+      by-kind s n h (λ a e. end-zero e) (λ c a e. absurd (true≢false (sym (ap word.isImpassable e) ∙ w)))
       (λ p l. absurd (true≢false (sym t ∙ small-untaken (getD built n 0) l)))
 
-  next-of : (x : ℕ) → Plain s x → getD built x 0 < 2 ^ 16 → value s x < 65535 → Next x
-  next-of x p l r =
-      go (lookAround built x) (plain-byte s portal has previous x p l)
-      (found built x (p .inside) reached (value s x) (f .cell) (d .0) (d .1) (d .2) (f .lower))
+  next-of : (b x : ℕ) → b ≤ 65535 → Beside s b x → Plain s x → getD built x 0 < 2 ^ 16 → value s x < 65535 → Next b x
+  next-of b x most f p l r =
+      go (lookAround built x) (plain-byte s window (window-listed target) portal has previous x p l)
+      (found built x (p .inside) reached b (f .cell) (d .0) (d .1) (d .2) (f .below))
     where
-      f : Lower s x
-      f = falls s cost-from x p r
-
       reached : (d : CompassDir) (n : ℕ) → Sees built x d n → low (getD built n 0) < 65535
       reached d n e = reached-there s x d n e r
 
       open-cell : wallAt built (f .cell) ≡ false
       open-cell =
-          by-kind s (f .cell) (f .inside) (λ a e. ap word.isImpassable e) (λ c a e. absurd (omega (arith, ap low e, f .lower)))
+          by-kind s (f .cell) (f .inside) (λ a e. end-passable e) (λ c a e. absurd (omega (arith, ap low e, f .below)))
           (λ q m. small-flag (getD built (f .cell) 0) 25 (omega arith))
 
       d : (d : CompassDir) × List·Memᴰ d all × Sees built x d (f .cell)
       d = sees-beside built x (p .inside) (f .cell) (beside-flip (cellAt (f .cell)) (cellAt x) (f .beside)) open-cell
 
-      go : (look : Look) → getD bytes x 0 ≡ lookedByte 0 look → Found built x (p .inside) reached (value s x) look → Next x
+      go : (look : Look) → getD bytes x 0 ≡ lookedByte 0 look → Found built x (p .inside) reached b look → Next b x
       go (Looking best v) e q = record { way = best; next = q .0; sees = q .1; lower = q .2; byte = e }
       go (Taken t) e q = record {
         way = t;
         next = q .0;
         sees = q .1;
-        lower = omega (arith, f .lower, taken-zero (q .0) (near-in (q .1 .to)) (q .1 .no-wall) (q .2));
+        lower = omega (arith, f .below, taken-zero (q .0) (near-in (q .1 .to)) (q .1 .no-wall) (q .2));
         byte = e;
       }
       go (Ended best) e q = absurd q
-
-  -- ---- the arrows lead to the window
-
-  abbrev Led : ℕ → Type 0
-  Led x = (n : ℕ) × (n ≤ rank s x) × Leads costs target built bytes n x
-
-  lead : (r x : ℕ) → x < 100 → rank s x < r → value s x < 65535 → Led x
-  lead zero x h l v = absurd (omega arith)
-  lead (suc r) x h l v =
-      by-kind s x h (λ a e. (zero, omega arith, ends (among-mem x window a))) (λ c a e. absurd (omega (arith, ap low e)))
-      (λ p q.
-      let n = next-of x p q v in
-      let to = near-in (n .sees .to) in
-      let less = rank-less s x (n .next) to (n .lower) in
-      let rest = lead r (n .next) to (omega arith) (omega (arith, n .lower)) in
-      (suc (rest .0), omega (arith, rest .1), moves (λ w. p .no-window (mem-among x window w)) (next-move h n) (rest .2)))
 
   -- ---- all of 0xE0
 
   -- nothing seen from an unreached cell is reached
   plain-unreached : (x : ℕ) → Plain s x → getD built x 0 < 2 ^ 16 → (value s x < 65535 → ⊥) → isImpassable (getD bytes x 0) ≡ true
   unfolding pointed
-  plain-unreached x p l u = rw (plain-byte s portal has previous x p l) (go (lookAround built x) (nothing built x (p .inside) unreached))
+  plain-unreached x p l u = rw (plain-byte s window (window-listed target) portal has previous x p l) (go (lookAround built x) (nothing built x (p .inside) unreached))
     where
       unreached : (d : CompassDir) (n : ℕ) → Sees built x d n
           → (low (getD built n 0) ≡ 65535) × ((isGoal (getD built n 0) || isPortal (getD built n 0)) ≡ false)
@@ -155,7 +168,7 @@ module _ (costs window cells corners built : List ℕ) (s : Sector costs window 
           let w : value s n < 65535 → ⊥ = λ r. u (reached-back s x d n e (small-flag (getD built x 0) 25 (omega arith)) r) in
           let v : low (getD built n 0) ≡ 65535 = omega arith in (
             v,
-            by-kind s n (near-in (e .to)) (λ a q. absurd (omega (arith, ap low q))) (λ c a q. absurd (true≢false (sym (ap word.isImpassable q) ∙ e .no-wall)))
+            by-kind s n (near-in (e .to)) (λ a q. absurd (omega (arith, end-zero q))) (λ c a q. absurd (true≢false (sym (ap word.isImpassable q) ∙ e .no-wall)))
                 (λ q m. small-untaken (getD built n 0) m),
           )
 
@@ -166,51 +179,88 @@ module _ (costs window cells corners built : List ℕ) (s : Sector costs window 
 
   marked-cell : (x : ℕ) → x < 100 → isImpassable (getD bytes x 0) ≡ true → Wall costs target x ⊎ (Reached built x → ⊥)
   marked-cell x h m =
-      by-kind s x h (λ a e. absurd (true≢false (sym m ∙ window-kept s portal has previous x h a e .unmarked)))
-      (λ c a e. inl (record { impassable = c; not-goal = λ g. g; not-window = λ w. a (mem-among x window w) }))
-      (λ p l. inr (λ r. (let n = next-of x p l (omega arith) in true≢false (sym m ∙ ap isImpassable (n .byte) ∙ next-pointed n .unmarked))))
+      by-kind s x h (λ a e. absurd (true≢false (sym m ∙ end-kept s window (window-listed target) portal has previous x h e .unmarked)))
+      (λ c a e. inl (end-or-wall costs target sightless x c a))
+      (λ p l. inr (λ r. (let v : value s x < 65535 = omega arith in let n = next-of (suc (value s x)) x (omega arith) (entered-from s x p v) p l v in true≢false (sym m ∙ ap isImpassable (n .byte) ∙ next-pointed n .unmarked))))
 
   cell-marked : (x : ℕ) → x < 100 → Wall costs target x ⊎ (Reached built x → ⊥) → isImpassable (getD bytes x 0) ≡ true
   cell-marked x h (inl w) =
       by-kind s x h
-      (λ a e. absurd (w .not-window (among-mem x window a)))
-      (λ c a e. ap isImpassable (wall-byte s portal has previous x h a e))
+      (λ a e. absurd (wall-no-end costs target sightless x w a))
+      (λ c a e. ap isImpassable (wall-byte s window (window-listed target) portal has previous x h a e))
       (λ p l. absurd (p .no-wall (w .impassable)))
   cell-marked x h (inr u) =
       by-kind s x h
-      (λ a e. absurd (u (omega (arith, ap low e))))
-      (λ c a e. ap isImpassable (wall-byte s portal has previous x h a e))
+      (λ a e. absurd (u (omega (arith, end-zero e))))
+      (λ c a e. ap isImpassable (wall-byte s window (window-listed target) portal has previous x h a e))
       (λ p l. plain-unreached x p l (λ v. u (omega arith)))
 
-  sector-arrows : ArrowsLead costs target built bytes
-  sector-arrows = record {
-    leads = λ x h r.
-        (let few = rank-few s x h in
-        let l = lead 100 x h (omega arith) (omega arith) in
-        (l .0, omega (arith, l .1), l .2));
-    marked = λ x h. Iff·symm (cell-marked x h, marked-cell x h);
-  }
+  cells-marked : CellsMarked costs target built bytes
+  cells-marked x h = Iff·symm (cell-marked x h, marked-cell x h)
 
--- ---- a sector left by a window
+  module _ (cost-from : (x : ℕ) → x < 100 → 1 ≤ getD costs x 0) where
+    -- ---- the arrows lead to where they end
 
--- its cells and corners, and what is known of it
-abbrev cells : List ℕ → List ℕ → List ℕ
-cells costs window = started costs (to-window window) .field
+    abbrev Led : ℕ → Type 0
+    Led x = (n : ℕ) × (n ≤ rank s x) × Leads costs target built bytes n x
 
-abbrev corners : List ℕ → List ℕ → List ℕ
-corners costs window = listOf (started costs (to-window window))
+    lead : (r x : ℕ) → x < 100 → rank s x < r → value s x < 65535 → Led x
+    lead zero x h l v = absurd (omega arith)
+    lead (suc r) x h l v =
+        by-kind s x h (λ a e. (zero, omega arith, ends (among-mem x ends-in a))) (λ c a e. absurd (omega (arith, ap low e)))
+        (λ p q.
+        let n = next-of (value s x) x (omega arith) (lower-beside s (falls s cost-from x p v)) p q v in
+        let to = near-in (n .sees .to) in
+        let less = rank-less s x (n .next) to (n .lower) in
+        let rest = lead r (n .next) to (omega arith) (omega (arith, n .lower)) in
+        (suc (rest .0), omega (arith, rest .1), moves (λ w. p .no-end (mem-among x ends-in w)) (next-move h n) (rest .2)))
 
-sector : (costs window : List ℕ) → WindowSector costs (to-window window)
-    → Sector costs window (cells costs window) (corners costs window) (builtCells costs (to-window window))
-sector costs window w = window-sector costs window (w .full) (w .target-in) (w .byte)
+    sector-arrows : ArrowsLead costs target built bytes
+    sector-arrows = record {
+      leads = λ x h r.
+          (let few = rank-few s x h in
+          let l = lead 100 x h (omega arith) (omega arith) in
+          (l .0, omega (arith, l .1), l .2));
+      marked = cells-marked;
+    }
+
+-- ---- a sector without sight, and one left by a window
+
+pub arrows-led : (costs : List ℕ) (target : Target) → SightlessSector costs target → (portal : PortalWindow) (has : Bool) (previous : List ℕ)
+    → ArrowsLead costs target (builtCells costs target)
+    (flowBuild (builtCells costs target) (newBytes portal (windowOf target) (builtCells costs target) has previous))
+arrows-led costs target w portal has previous =
+    sector-arrows costs target (w .sightless) (started costs target .field) (listOf (started costs target)) (builtCells costs target)
+    (end-sector costs target (w .full) (w .target-in) (w .sightless) (w .byte)) portal has previous (w .no-zero)
+
+-- with costs of 0 too, all of 0xE0 stands exactly on walls and unreached cells
+pub marked-told : (costs : List ℕ) (target : Target) → length costs ≡ 100 → TargetIn target → isSightless target ≡ true
+    → ((x : ℕ) → x < 100 → getD costs x 0 ≤ 255) → (portal : PortalWindow) (has : Bool) (previous : List ℕ)
+    → CellsMarked costs target (builtCells costs target)
+    (flowBuild (builtCells costs target) (newBytes portal (windowOf target) (builtCells costs target) has previous))
+marked-told costs target full inside e byte portal has previous =
+    cells-marked costs target e (started costs target .field) (listOf (started costs target)) (builtCells costs target)
+    (end-sector costs target full inside e byte) portal has previous
+
+pub window-sightless : (costs : List ℕ) (target : Target) → WindowSector costs target → SightlessSector costs target
+window-sightless costs (to-goal goal) w = absurd (true≢false (sym (w .by-window)))
+window-sightless costs (to-window window) w = record { full = w .full; no-zero = w .no-zero; byte = w .byte; target-in = w .target-in; sightless = refl }
+window-sightless costs (to-corner goal) w = absurd (true≢false (sym (w .by-window)))
 
 pub arrows-lead : (costs : List ℕ) (target : Target) → WindowSector costs target → (portal : PortalWindow) (has : Bool) (previous : List ℕ)
     → ArrowsLead costs target (builtCells costs target)
     (flowBuild (builtCells costs target) (newBytes portal (windowOf target) (builtCells costs target) has previous))
-arrows-lead costs (to-goal goal) w portal has previous = absurd (true≢false (sym (w .by-window)))
-arrows-lead costs (to-window window) w portal has previous =
-    sector-arrows costs window (cells costs window) (corners costs window) (builtCells costs (to-window window)) (sector costs window w)
-    (λ x h. w .no-zero x h) portal has previous
+arrows-lead costs target w = arrows-led costs target (window-sightless costs target w)
+
+-- the byte there of a cell where arrows end: its flags, and bits below 0x20
+pub end-flow : (costs : List ℕ) (target : Target) → SightlessSector costs target → (portal : PortalWindow) (has : Bool) (previous : List ℕ)
+    → (x : ℕ) → x < 100 → EndCell target x
+    → (b : ℕ) × (b < 32)
+    × (getD (flowBuild (builtCells costs target) (newBytes portal (windowOf target) (builtCells costs target) has previous)) x 0
+    ≡ bitOr (startOf (endWord target)) b)
+end-flow costs target w portal has previous x h m =
+    let s = end-sector costs target (w .full) (w .target-in) (w .sightless) (w .byte) in
+    end-byte s (windowOf target) (window-listed target) portal has previous x h (end-word s x (mem-among x (endsOf target) m))
 
 -- a window cell's byte there: its flags, and the bits of its window
 pub window-flow : (costs window : List ℕ) → WindowSector costs (to-window window) → (portal : PortalWindow) (has : Bool) (previous : List ℕ)
@@ -219,8 +269,8 @@ pub window-flow : (costs window : List ℕ) → WindowSector costs (to-window wi
     ≡ bitOr 0x90 (windowBits portal has previous x)
 window-flow costs window w portal has previous x h m =
     let a = mem-among x window m in
-    let s = sector costs window w in
-    window-byte s portal has previous x h a (window-word s x a)
+    let s = window-sector costs window (w .full) (w .target-in) (w .byte) in
+    window-byte s portal has previous x h a (end-word s x a)
 
 -- for a call that writes what building makes of a sheet of 100 bytes
 pub build-arrows : (cells entry exit : List ℕ) → (length entry ≡ 100 → exit ≡ flowBuild cells entry) → BuildArrows cells entry exit

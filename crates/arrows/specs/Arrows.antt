@@ -1,5 +1,5 @@
--- Followed arrows (01, "Flow byte", last paragraph; 02, "Job 7"), in the documents' words: reached, arrow, move, cut, pass. Walls and window
--- cells are those of permitted walks. Nothing here is told by the helpers of a look, nor by those that read a byte or step from a cell.
+-- Followed arrows (01, "Flow byte", last paragraph; 02, "Job 7"), in the documents' words: reached, arrow, move, cut, pass. Walls, window
+-- cells and the goal are those of permitted walks. Nothing here is told by the helpers of a look, nor by those that read a byte or step from a cell.
 -- Assumes nothing.
 use mathlib.Core.Path.{_≡_}
 use mathlib.Core.Bool.{true}
@@ -8,7 +8,7 @@ use mathlib.Core.List.{List}
 use Prim.Native.Nat.{ℕ, zero, suc, _+_, _/_, _%_, _≤_, _<_}
 use lib.ListN.{getD}
 use Rattle.fields.specs.Cell.{cell, indexOf}
-use Rattle.route.specs.Target.{Target, WindowCell}
+use Rattle.route.specs.Target.{Target, EndCell}
 use Rattle.integration_field.specs.Word.{low}
 use Rattle.least_walks.specs.Walks.{Wall}
 use Rattle.flow_bits.specs.Byte.{isImpassable}
@@ -77,14 +77,18 @@ module _ (costs : List ℕ) (target : Target) where
       pub lower : builtCost built y < builtCost built x
       pub uncut : Cuts x y → ⊥
 
-    -- Followed from a cell, the arrows end in a window cell after so many moves, each of them such a move.
-    -- From a window cell no move is made.
+    -- Followed from a cell, the arrows end in a cell that they lead to, a window's or without sight the goal, after so many moves, each of them
+    -- such a move. From such a cell no move is made.
     pub data Leads : ℕ → ℕ → Type 0 where
-      ends : {x : ℕ} → WindowCell target x → Leads zero x
-      moves : {n x y : ℕ} → (WindowCell target x → ⊥) → Move x y → Leads n y → Leads (suc n) x
+      ends : {x : ℕ} → EndCell target x → Leads zero x
+      moves : {n x y : ℕ} → (EndCell target x → ⊥) → Move x y → Leads n y → Leads (suc n) x
+
+    -- a byte has all of 0xE0 exactly on walls and unreached cells
+    abbrev pub CellsMarked : Type 0
+    CellsMarked = (x : ℕ) → x < 100 → (isImpassable (getD bytes x 0) ≡ true) ↔ (Wall costs target x ⊎ (Reached built x → ⊥))
 
     pub record ArrowsLead : Type 0 where
-      -- from every reached cell the arrows, followed, end in the window after at most 99 moves
+      -- from every reached cell the arrows, followed, end in the window, or without sight in the goal, after at most 99 moves
       pub leads : (x : ℕ) → x < 100 → Reached built x → (n : ℕ) × (n ≤ 99) × Leads n x
       -- a byte has all of 0xE0 exactly on walls and unreached cells
-      pub marked : (x : ℕ) → x < 100 → (isImpassable (getD bytes x 0) ≡ true) ↔ (Wall costs target x ⊎ (Reached built x → ⊥))
+      pub marked : CellsMarked

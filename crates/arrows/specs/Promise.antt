@@ -6,19 +6,31 @@ use mathlib.Core.Bool.{Bool, true}
 use mathlib.Core.List.{List}
 use Prim.Native.Nat.{ℕ, _≤_, _<_}
 use lib.ListN.{length, getD}
-use Rattle.route.specs.Target.{Target, byWindow, TargetIn, targetOf}
+use Rattle.route.specs.Target.{Target, byWindow, isSightless, TargetIn, targetOf}
 use Rattle.integration_field.specs.Built.{builtField}
 use Rattle.started_field.specs.Started.{started}
 use Rattle.flow_byte.specs.New.{flowNew}
 use Rattle.arrows.specs.Arrows.{ClearArrows, ArrowsLead}
 
+-- no cost 0 is drawn
+abbrev pub NoCostZero : List ℕ → Type 0
+NoCostZero costs = (x : ℕ) → x < 100 → 1 ≤ getD costs x 0
+
 -- a sector left by a window, with no cost 0: 100 cost bytes from 1 on, and window cells inside the sector
 pub record WindowSector (costs : List ℕ) (target : Target) : Type 0 where
   pub full : length costs ≡ 100
-  pub no-zero : (x : ℕ) → x < 100 → 1 ≤ getD costs x 0
+  pub no-zero : NoCostZero costs
   pub byte : (x : ℕ) → x < 100 → getD costs x 0 ≤ 255
   pub target-in : TargetIn target
   pub by-window : byWindow target ≡ true
+
+-- a sector planned without sight, left by a window or with the goal in it, with no cost 0
+pub record SightlessSector (costs : List ℕ) (target : Target) : Type 0 where
+  pub full : length costs ≡ 100
+  pub no-zero : NoCostZero costs
+  pub byte : (cell : ℕ) → cell < 100 → getD costs cell 0 ≤ 255
+  pub target-in : TargetIn target
+  pub sightless : isSightless target ≡ true
 
 -- the cells of the built started field
 abbrev pub builtCells : List ℕ → Target → List ℕ

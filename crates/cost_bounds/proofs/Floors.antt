@@ -29,7 +29,7 @@ use Rattle.started_field.proofs.Before.{walls-length}
 use Rattle.started_field.proofs.Words.{word-at}
 use Rattle.least_walks.proofs.Ground.{mem-among}
 use Rattle.flow_byte.specs.New.{isIn}
-use Rattle.arrows.proofs.Fall.{is-in, not-in, Sector, value, Plain, window-word, by-kind, spreads}
+use Rattle.arrows.proofs.Fall.{is-in, not-in, Sector, value, Plain, end-word, by-kind, spreads}
 use Rattle.arrows.proofs.CellBytes.{small-untaken}
 
 -- ---- the same walls
@@ -84,38 +84,38 @@ module _ {costs window cells corners built : List ℕ} (s : Sector costs window 
   pub wall-known : wallAt built x ≡ wallAt cells x
   wall-known =
       by-kind s x h
-      (λ a e. ap isImpassable (e ∙ sym (s .started .portal-cell x a)))
+      (λ a e. ap isImpassable (e ∙ sym (s .started .end-cell x a)))
       (λ c a e. ap isImpassable (e ∙ sym (s .started .wall-cell x h c a)))
-      (λ p l. small-flag (getD built x 0) 25 (omega arith) ∙ sym (ap isImpassable (s .started .other-cell x h (p .no-wall) (p .no-window))))
+      (λ p l. small-flag (getD built x 0) 25 (omega arith) ∙ sym (ap isImpassable (s .started .other-cell x h (p .no-wall) (p .no-end))))
 
   pub taken-known : (isGoal (getD built x 0) || isPortal (getD built x 0)) ≡ isIn x window
   taken-known =
       by-kind s x h
       (λ a e. ap (λ (w : ℕ). isGoal w || isPortal w) e ∙ sym (is-in x window a))
       (λ c a e. ap (λ (w : ℕ). isGoal w || isPortal w) e ∙ sym (not-in x window a))
-      (λ p l. small-untaken (getD built x 0) l ∙ sym (not-in x window (p .no-window)))
+      (λ p l. small-untaken (getD built x 0) l ∙ sym (not-in x window (p .no-end)))
 
   pub portal-known : isPortal (getD built x 0) ≡ isIn x window
   portal-known =
       by-kind s x h
       (λ a e. ap isPortal e ∙ sym (is-in x window a))
       (λ c a e. ap isPortal e ∙ sym (not-in x window a))
-      (λ p l. small-flag (getD built x 0) 19 (omega arith) ∙ sym (not-in x window (p .no-window)))
+      (λ p l. small-flag (getD built x 0) 19 (omega arith) ∙ sym (not-in x window (p .no-end)))
 
 -- ---- reached on one floor, reached on the other
 
 module _ {a b window cells corners on-a on-b : List ℕ} (s : Sector a window cells corners on-a) (t : Sector b window cells corners on-b) where
   walked : {k x v : ℕ} → Permitted a cells corners k x v → value t x < 65535
-  walked {x = x} (start c e) = omega (arith, ap low (window-word t x (mem-among x window (rw (t .started .list) at c))))
+  walked {x = x} (start c e) = omega (arith, ap low (end-word t x (mem-among x window (rw (t .started .list) at c))))
   walked {x = x} (move {y = y} w n m e) = spreads t y x n (walked w) (wall-known t x (beside-below y x n .1) ∙ m .no-wall)
 
   pub reached-too : (x : ℕ) → x < 100 → value s x < 65535 → value t x < 65535
   reached-too x h v =
       by-kind s x h
-      (λ i e. omega (arith, ap low (window-word t x i)))
+      (λ i e. omega (arith, ap low (end-word t x i)))
       (λ c i e. absurd (omega (arith, ap low e)))
       (λ p l. go p (s .least .attained x))
     where
       go : Plain s x → (getD on-a x 0 ≡ getD cells x 0) ⊎ Walked a cells corners x (getD on-a x 0) → value t x < 65535
-      go p (inl e) = absurd (omega (arith, ap low e, ap low (s .started .other-cell x h (p .no-wall) (p .no-window))))
+      go p (inl e) = absurd (omega (arith, ap low e, ap low (s .started .other-cell x h (p .no-wall) (p .no-end))))
       go p (inr w) = walked (w .walk)

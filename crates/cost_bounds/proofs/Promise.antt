@@ -12,7 +12,7 @@ use lib.ListN.{length, getD}
 use Rattle.fields.specs.Cell.{cellAt}
 use Rattle.fields.proofs.Steps.{stepped-cell}
 use Rattle.route.specs.declared.PortalWindow.{PortalWindow}
-use Rattle.route.specs.Target.{Target, to-goal, to-window, windowOf, byWindow, TargetIn, WindowIn}
+use Rattle.route.specs.Target.{Target, to-goal, to-window, to-corner, windowOf, byWindow, TargetIn, WindowIn}
 use Rattle.integration_field.specs.declared.IntegrationField.{IntegrationField}
 use Rattle.integration_field.specs.Word.{isPortal}
 use Rattle.integration_field.specs.Listed.{listOf}
@@ -168,6 +168,7 @@ module _ (low high window : List ℕ) (r : Ranged low high) (window-in : WindowI
 pub cost-bounds : (low high : List ℕ) (target : Target) → Ranged low high → TargetIn target → byWindow target ≡ true
     → CostBounds low high target (costsOn low target) (costsOn high target)
 cost-bounds low high (to-goal goal) r i w = absurd (true≢false (sym w))
+cost-bounds low high (to-corner goal) r i w = absurd (true≢false (sym w))
 cost-bounds low high (to-window window) r i w = bounded low high window r i
 
 pub sure-marks : (low high : List ℕ) (target : Target) → Ranged low high → TargetIn target → byWindow target ≡ true → (portal : PortalWindow)
@@ -175,10 +176,12 @@ pub sure-marks : (low high : List ℕ) (target : Target) → Ranged low high →
     (λ costs has previous. flowBuild (builtCells costs target) (newBytes portal (windowOf target) (builtCells costs target) has previous))
     (costsOn low target) (costsOn high target) (sureOn low high target)
 sure-marks low high (to-goal goal) r i w portal = absurd (true≢false (sym w))
+sure-marks low high (to-corner goal) r i w portal = absurd (true≢false (sym w))
 sure-marks low high (to-window window) r i w portal = marks low high window r i portal
 
 -- the window cells are those flagged as portals
 pub portals : (costs : List ℕ) (target : Target) → length costs ≡ 100 → TargetIn target → byWindow target ≡ true
     → ((x : ℕ) → x < 100 → getD costs x 0 ≤ 255) → (n : ℕ) → n < 100 → isPortal (getD (builtCells costs target) n 0) ≡ isIn n (windowOf target)
 portals costs (to-goal goal) full i w byte n h = absurd (true≢false (sym w))
+portals costs (to-corner goal) full i w byte n h = absurd (true≢false (sym w))
 portals costs (to-window window) full i w byte n h = portal-known (window-sector costs window full i byte) n h

@@ -24,7 +24,7 @@ use Rattle.flow_byte.specs.declared.Look.the-variants.{Looking, Taken, Ended}
 use Rattle.flow_byte.specs.New.{newBytes}
 use Rattle.flow_byte.specs.Look.{lookAround, lookedByte, pointed, flowBuild}
 use Rattle.arrows.specs.Arrows.{arrow, Away}
-use Rattle.arrows.proofs.Fall.{is-in, in-among, Sector, value, Plain, NoWall, window-word}
+use Rattle.arrows.proofs.Fall.{is-in, in-among, Sector, value, Plain, NoWall, end-word}
 use Rattle.arrows.proofs.Around.{Sees, near-in, pointing-in, reached-there, reached-back}
 use Rattle.arrows.proofs.Look.{First, first-or-none, first-holds, first-same, LooksAt, Takes, is-taking, takes-first, ends-least}
 use Rattle.arrows.proofs.Bytes.{pointed-is}
@@ -39,7 +39,7 @@ use Rattle.cost_bounds.proofs.Permitted.{permitted-sees, sees-permitted
 module _ {costs window cells corners built : List ℕ} (s : Sector costs window cells corners built) (x : ℕ) (h : x < 100) where
   pub points-at : (portal : PortalWindow) (has : Bool) (previous : List ℕ) → Plain s x → getD built x 0 < 2 ^ 16
       → (n : ℕ) → LooksAt built x n (lookAround built x) → Away (arrow (flowBuild built (newBytes portal window built has previous)) x) x n
-  points-at portal has previous p l n looks = go (lookAround built x) (plain-byte s portal has previous x p l) looks
+  points-at portal has previous p l n looks = go (lookAround built x) (plain-byte s window (λ y i. in-among y window i) portal has previous x p l) looks
     where
       bytes : List ℕ
       bytes = flowBuild built (newBytes portal window built has previous)
@@ -64,7 +64,7 @@ module _ {costs window cells corners built : List ℕ} (s : Sector costs window 
   taken-window n l t = among-mem n window (in-among n window (sym (taken-known s n l) ∙ t))
 
   window-reached : (n : ℕ) → WindowCell (to-window window) n → value s n < 65535
-  window-reached n w = omega (arith, ap low (window-word s n (mem-among n window w)))
+  window-reached n w = omega (arith, ap low (end-word s n (mem-among n window w)))
 
   looks-first : NoWall s x → {d : CompassDir} → First (Takes built x h) all d → (n : ℕ) → Sees built x d n → LooksAt built x n (lookAround built x)
   looks-first o {d} f n v =

@@ -26,7 +26,7 @@ use Rattle.least_walks.proofs.Ground.{mem-among}
 use Rattle.least_walks.proofs.Promise.{demand3}
 use Rattle.arrows.specs.Arrows.{builtCost}
 use Rattle.arrows.specs.Promise.{builtCells}
-use Rattle.arrows.proofs.Fall.{window-word}
+use Rattle.arrows.proofs.Fall.{end-word}
 use Rattle.arrows.proofs.CellBytes.{window-sector}
 use Rattle.cost_square.specs.Square.{leastBuilt, windowCost, squareEntry, costSquare}
 use Rattle.cost_square.specs.Promise.{WindowWalk, LeastCost, costAt, WindowSquare}
@@ -123,7 +123,7 @@ module _ (costs : List ℕ) (full : length costs ≡ 100) (byte : (x : ℕ) → 
       let sector = window-sector costs (windowCells step) full (inside g) byte in
       let m = listed g (firstOf step) (first g) in
       let cells = builtCells costs (to-window (windowCells step)) in
-      let zero : builtCost cells (firstOf step) ≡ 0 = ap low (window-word sector _ (mem-among _ _ m)) in
+      let zero : builtCost cells (firstOf step) ≡ 0 = ap low (end-word sector _ (mem-among _ _ m)) in
       rw (target-window step (g .window)) (omega (arith, zero, least-most cells (windowCells step) (firstOf step) m))
 
 -- ---- the square

@@ -20,7 +20,7 @@ use Rattle.least_walks.proofs.Ground.{among-mem, mem-among}
 use Rattle.least_walks.proofs.Promise.{demand3}
 use Rattle.arrows.specs.Arrows.{builtCost}
 use Rattle.arrows.specs.Promise.{builtCells}
-use Rattle.arrows.proofs.Fall.{Sector, Plain, window-word, by-kind, spreads}
+use Rattle.arrows.proofs.Fall.{Sector, Plain, end-word, by-kind, spreads}
 use Rattle.arrows.proofs.CellBytes.{window-sector}
 use Rattle.cost_square.specs.Promise.{WindowWalk}
 
@@ -49,7 +49,7 @@ module _ (costs window : List ℕ) (full : length costs ≡ 100) (window-in : Wi
       (λ p l. small-flag (getD built x 0) 25 (omega arith))
 
   pub walked-reached : {k x s : ℕ} → WindowWalk costs (to-window window) k x s → builtCost built x < 65535
-  walked-reached {x = x} (start c e) = omega (arith, ap low (window-word sector x (mem-among x window (rw (sector .started .list) at c))))
+  walked-reached {x = x} (start c e) = omega (arith, ap low (end-word sector x (mem-among x window (rw (sector .started .list) at c))))
   walked-reached {x = x} (move {y = y} w b o e) = spreads sector y x b (walked-reached w) (no-flag x o)
 
   least : StartedLeast costs cells corners (Wall costs (to-window window)) (GoalCell (to-window window)) built
@@ -61,7 +61,7 @@ module _ (costs window : List ℕ) (full : length costs ≡ 100) (window-in : Wi
       (λ a e. (
         0,
         start {x = x} {s = builtCost built x} (rw (sector .started .list) (among-mem x window a))
-            (omega (arith, ap low e, ap low (sector .started .portal-cell x a))),
+            (omega (arith, ap low e, ap low (sector .started .end-cell x a))),
       ))
       (λ c a e. absurd (omega (arith, ap low e)))
       (λ p l. plain p (least .attained x (enterable p)))
@@ -76,5 +76,5 @@ module _ (costs window : List ℕ) (full : length costs ≡ 100) (window-in : Wi
 
       plain : Plain sector x → (builtCost built x ≡ low (getD cells x 0)) ⊎ ((k : ℕ) × WindowWalk costs (to-window window) k x (builtCost built x))
           → (k : ℕ) × WindowWalk costs (to-window window) k x (builtCost built x)
-      plain p (inl e) = absurd (omega (arith, e, ap low (sector .started .other-cell x h (p .no-wall) (p .no-window))))
+      plain p (inl e) = absurd (omega (arith, e, ap low (sector .started .other-cell x h (p .no-wall) (p .no-end))))
       plain p (inr w) = w

@@ -9,7 +9,7 @@ use lib.Dec.{ltb}
 use Rattle.route.specs.declared.PortalWindow.{PortalWindow}
 use Rattle.route.specs.Window.{select}
 use Rattle.route.specs.Step.{boundaryByte, windowCells, portalOf}
-use Rattle.route.specs.Target.{Target, to-goal, to-window, targetOf, StepWindow}
+use Rattle.route.specs.Target.{Target, to-goal, to-window, to-corner, bySight, targetOf, StepWindow}
 use Rattle.flow_byte.specs.New.{seenValues}
 use Rattle.arrows.specs.Arrows.{Reached}
 
@@ -24,16 +24,18 @@ counts portal previous i =
 unfoldable pub countingCells : List ℕ → List ℕ → List ℕ
 countingCells previous step = select (counts (portalOf step) previous) (windowCells step)
 
--- what a step of a leg starts from: the first its goal, a later one the cells of its window that count; `has` says that there is a step before
-abbrev pub legTarget : Bool → List ℕ → List ℕ → Target
-legTarget false previous step = targetOf step
-legTarget true previous step = to-window (countingCells previous step)
+-- what a step of a leg starts from: the first its goal, with the sight of it or without, a later one the cells of its window that count; `has`
+-- says that there is a step before
+abbrev pub legTarget : Bool → Bool → List ℕ → List ℕ → Target
+legTarget sight false previous step = bySight sight (targetOf step)
+legTarget sight true previous step = to-window (countingCells previous step)
 
 -- a window with no counting cell
 abbrev pub isClosed : Target → Bool
 isClosed (to-goal n) = false
 isClosed (to-window []) = true
 isClosed (to-window (i ∷ l)) = false
+isClosed (to-corner n) = false
 
 -- The same cells of a step that is not refused, by its bytes, rows and columns, and by nothing that makes the list or the values compared; that
 -- they are the same is `counting-told`, `proofs/Told.antt`.

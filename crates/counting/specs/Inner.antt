@@ -5,10 +5,10 @@ use mathlib.Core.List.{List}
 use Prim.Native.Nat.{ℕ}
 use Rattle.route.specs.declared.RouteStep.{RouteStep}
 use Rattle.route.specs.Window.{select, cellsBetween}
-use Rattle.route.specs.Target.{Target, to-window}
+use Rattle.route.specs.Target.{Target, to-window, bySight}
 use Rattle.route.specs.Inner.{routeTarget}
 use Rattle.counting.specs.Counting.{counts}
 
-abbrev pub routeLegTarget : RouteStep → Bool → List ℕ → Target
-routeLegTarget s false previous = routeTarget s
-routeLegTarget s true previous = to-window (select (counts (s .portal) previous) (cellsBetween (s .portal .boundary) (s .portal .start) (s .portal .end)))
+abbrev pub routeLegTarget : RouteStep → Bool → Bool → List ℕ → Target
+routeLegTarget s sight false previous = bySight sight (routeTarget s)
+routeLegTarget s sight true previous = to-window (select (counts (s .portal) previous) (cellsBetween (s .portal .boundary) (s .portal .start) (s .portal .end)))

@@ -49,17 +49,19 @@ pub fn counting_cells(portal: PortalWindow, previous: &[u32; 100]) -> WindowCell
     WindowCells { cells, count }
 }
 
-// What a step of a leg starts from: the first its goal, a later one the cells of its window that count.
-pub fn leg_target(step: RouteStep, has_previous: bool, previous: &[u32; 100]) -> Target
-    ensures { λ r. ⌜ r ≡ listedTarget (routeLegTarget step «has_previous» (now (previous .entry))) ⌝ }
+// What a step of a leg starts from: the first its goal, with the sight of it or without, a later one the cells of its window that count.
+pub fn leg_target(step: RouteStep, sight: bool, has_previous: bool, previous: &[u32; 100]) -> Target
+    ensures { λ r. ⌜ r ≡ listedTarget (routeLegTarget step sight «has_previous» (now (previous .entry))) ⌝ }
 {
     if !has_previous {
-        return step.as_target();
+        let whole = step.as_target();
+        return whole.by_sight(sight);
     }
     let portal = step.portal;
     let window = counting_cells(portal, previous);
     Target {
         has_window: true,
+        sight: true,
         goal: 0,
         window,
     }

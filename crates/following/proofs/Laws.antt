@@ -20,8 +20,8 @@ use Rattle.arrivals.specs.Promise.{ArrivalsTold}
 use Rattle.arrivals.specs.Inner.{readStep, followedFrom}
 use Rattle.arrivals.proofs.Told.{told}
 use Rattle.arrivals.proofs.Followed.{over, here-stops, step-goes, step-leaves, moves-followed}
-use Rattle.planned_arrivals.specs.Promise.{WindowArrives, LegTold}
-use Rattle.planned_arrivals.proofs.Window.{window-arrives}
+use Rattle.planned_arrivals.specs.Promise.{WindowArrives, SightlessArrives, LegTold}
+use Rattle.planned_arrivals.proofs.Window.{window-arrives, sightless-arrives}
 use Rattle.planned_arrivals.proofs.Way.{leg-told}
 
 -- ---- the loop
@@ -57,16 +57,17 @@ module _ (bytes : List ℕ) (index : ℕ) where
 abbrev Promised : List ℕ → Arrivals → Type 0
 Promised sheet r =
     (r ≡ arrivalsAnswer sheet)
-    × ((r .number ≡ 0 → ArrivalsTold sheet (r .moves)) × ((r .number ≡ 0 → WindowArrives sheet (r .moves)) × (r .number ≡ 0 → LegTold sheet (r .moves))))
+    × ((r .number ≡ 0 → ArrivalsTold sheet (r .moves)) × ((r .number ≡ 0 → WindowArrives sheet (r .moves))
+    × ((r .number ≡ 0 → LegTold sheet (r .moves)) × (r .number ≡ 0 → SightlessArrives sheet (r .moves)))))
 
 pub accepts : (sheet moves : List ℕ) → length sheet ≡ 100 → moves ≡ map (movesFrom sheet) (below 100)
     → Promised sheet (record { number = 0; moves = moves })
 unfolding arrivalsAnswer
 accepts sheet moves full e =
     let so = told sheet moves e in
-    (rw (eq-eqb (length sheet) 100 full, e), (λ z. so, (λ z. window-arrives sheet moves e, λ z. leg-told sheet moves so)))
+    (rw (eq-eqb (length sheet) 100 full, e), (λ z. so, (λ z. window-arrives sheet moves e, (λ z. leg-told sheet moves so, λ z. sightless-arrives sheet moves e))))
 
 pub refuses : (sheet : List ℕ) → (length sheet ≡ 100 → ⊥) → Promised sheet (record { number = 2; moves = replicate 100 0 })
 unfolding arrivalsAnswer
 refuses sheet other =
-    (rw (ne-eqb (length sheet) 100 other), (λ z. absurd (omega arith), (λ z. absurd (omega arith), λ z. absurd (omega arith))))
+    (rw (ne-eqb (length sheet) 100 other), (λ z. absurd (omega arith), (λ z. absurd (omega arith), (λ z. absurd (omega arith), λ z. absurd (omega arith)))))

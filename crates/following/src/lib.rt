@@ -12,7 +12,7 @@ ghost use Rattle.flow_bits.specs.Byte.{dirOf};
 ghost use Rattle.arrivals.specs.Following.{isArrival};
 ghost use Rattle.arrivals.specs.Arrivals.{movesFrom, arrivalsAnswer};
 ghost use Rattle.arrivals.specs.Promise.{ArrivalsTold};
-ghost use Rattle.planned_arrivals.specs.Promise.{WindowArrives, LegTold};
+ghost use Rattle.planned_arrivals.specs.Promise.{WindowArrives, SightlessArrives, LegTold};
 
 // The number of moves of a cell whose arrows never arrive.
 const NEVER: u8 = 255;
@@ -81,6 +81,7 @@ pub fn arrivals(sheet: &[u8]) -> Arrivals
     ensures told { λ r. ⌜ (r .number ≡ 0 → ArrivalsTold (now (sheet .entry)) (r .moves)) ⌝ }
     ensures by_window { λ r. ⌜ (r .number ≡ 0 → WindowArrives (now (sheet .entry)) (r .moves)) ⌝ }
     ensures whole_way { λ r. ⌜ (r .number ≡ 0 → LegTold (now (sheet .entry)) (r .moves)) ⌝ }
+    ensures without_sight { λ r. ⌜ (r .number ≡ 0 → SightlessArrives (now (sheet .entry)) (r .moves)) ⌝ }
 {
     if sheet.len() != 100 {
         return Arrivals {

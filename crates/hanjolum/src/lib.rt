@@ -11,6 +11,7 @@ use nearest_line::Line;
 use practice::PracticeFloor;
 use started_field::InitAnswer;
 use tour_plan::PlannedTour;
+ghost use mathlib.Core.Bool.{true, false};
 ghost use mathlib.Core.Path.{_≡_};
 ghost use lib.ListN.{take, drop};
 ghost use Rattle.utilities.specs.Compass.{numberOf};
@@ -20,7 +21,8 @@ ghost use Rattle.nearest_line.specs.Nearest.{columnOf, rowOf, HoldsNearestLine,
 ghost use Rattle.line_end.specs.LineEnd.{lineEndAnswer};
 ghost use Rattle.line_end.specs.Away.{HoldsSlanted};
 ghost use Rattle.line_end.specs.Mirror.{HoldsMirrored};
-ghost use Rattle.route.specs.Target.{targetOf};
+ghost use Rattle.route.specs.Step.{isWindow};
+ghost use Rattle.route.specs.Target.{targetOf, withoutSight};
 ghost use Rattle.integration_field.specs.Listed.{listOf};
 ghost use Rattle.integration_field.specs.Answer.{buildAnswer};
 ghost use Rattle.integration_field.specs.Promise.{LeastWalks, Counted, EarliestCorners};
@@ -30,11 +32,11 @@ ghost use Rattle.flow_bits.specs.Byte.{dirOf, isPathable, hasLineOfSight, isGoa
 ghost use Rattle.arrows.specs.Promise.{BuildArrows};
 ghost use Rattle.arrivals.specs.Arrivals.{arrivalsAnswer};
 ghost use Rattle.arrivals.specs.Promise.{ArrivalsTold};
-ghost use Rattle.planned_arrivals.specs.Promise.{WindowArrives, LegTold};
+ghost use Rattle.planned_arrivals.specs.Promise.{WindowArrives, SightlessArrives, LegTold};
 ghost use Rattle.flow_new.specs.Flow.{newNumber, newSheet};
 ghost use Rattle.flow_build.specs.Flow.{buildNumber, buildSheet};
-ghost use Rattle.sector.specs.Sector.{sectorAnswer, sectorSheet};
-ghost use Rattle.sector.specs.Promise.{Planned};
+ghost use Rattle.sector.specs.Sector.{sectorAnswer, sectorSheet, sectorAnswerBy, sectorSheetBy};
+ghost use Rattle.sector.specs.Promise.{Planned, PlannedWithout};
 ghost use Rattle.cost_bounds.specs.Bounds.{boundsAnswer};
 ghost use Rattle.cost_bounds.specs.Promise.{CostBounds, SureMarks};
 ghost use Rattle.bounds.specs.Promise.{floorBytes};
@@ -43,9 +45,9 @@ ghost use Rattle.cost_square.specs.Promise.{WindowSquare};
 ghost use Rattle.tour_plan.specs.Plan.{tourIn, tourAnswer};
 ghost use Rattle.tour_plan.specs.Promise.{TourPlanned};
 ghost use Rattle.step_list.specs.Steps.{stepsOf};
-ghost use Rattle.leg_plan.specs.Leg.{legNumber, legSheet};
-ghost use Rattle.leg_plan.specs.Promise.{LegPlanned};
-ghost use Rattle.journey.specs.Journey.{LegArrives};
+ghost use Rattle.leg_plan.specs.Leg.{legNumber, legSheet, legNumberBy, legSheetBy};
+ghost use Rattle.leg_plan.specs.Promise.{LegPlanned, LegPlannedBy};
+ghost use Rattle.journey.specs.Journey.{LegArrives, LegArrivesAtGoal};
 ghost use Rattle.leg_file.specs.File.{writeNumber, writtenFile, fileSteps, fileAnswer};
 ghost use Rattle.leg_file.specs.Promise.{ReadBack, WrittenSame};
 ghost use Rattle.practice.specs.Floor.{practiceFloor};
@@ -68,6 +70,32 @@ pub extern "C" fn hanjolum_sector(
         → StartedPositions (now (costs .entry)) (targetOf (now (step .entry))) (r .field .field) (r .field .positions)) ⌝ }
 {
     sector::plan_sector(costs, step, has_previous, previous, sheet)
+}
+
+// A sector planned without sight: a goal is the one listed corner, so that every arrow leads to it; a step with a window is planned as it is with
+// sight. Its numbers are those of the sector call.
+#[no_mangle]
+pub extern "C" fn hanjolum_sector_without_sight(
+    costs: &[u8],
+    step: &[u8],
+    has_previous: bool,
+    previous: &[u32],
+    sheet: &mut [u8],
+) -> BuildAnswer
+    ensures answer { λ r. ⌜ r
+        ≡ sectorAnswerBy false (now (costs .entry)) (now (step .entry)) «has_previous» (now (previous .entry)) (now (sheet .entry)) ⌝ }
+    ensures sheet { λ _. ⌜ now (sheet .exit)
+        ≡ sectorSheetBy false (now (costs .entry)) (now (step .entry)) «has_previous» (now (previous .entry)) (now (sheet .entry)) ⌝ }
+    ensures planned { λ r. ⌜ (r .number ≡ 0
+        → Planned (now (costs .entry)) (withoutSight (targetOf (now (step .entry)))) (r .field .field) (r .waves) (now (sheet .exit))) ⌝ }
+    ensures positions { λ r. ⌜ (r .number ≡ 0
+        → StartedPositions (now (costs .entry)) (withoutSight (targetOf (now (step .entry)))) (r .field .field) (r .field .positions)) ⌝ }
+    ensures without { λ r. ⌜ (r .number ≡ 0 → PlannedWithout (now (costs .entry)) (now (step .entry)) (r .field) (now (sheet .exit))) ⌝ }
+    ensures window { λ r. ⌜ (isWindow (now (step .entry)) ≡ true
+        → (r ≡ sectorAnswer (now (costs .entry)) (now (step .entry)) «has_previous» (now (previous .entry)) (now (sheet .entry)))
+        × (now (sheet .exit) ≡ sectorSheet (now (costs .entry)) (now (step .entry)) «has_previous» (now (previous .entry)) (now (sheet .entry)))) ⌝ }
+{
+    sector::plan_sector_without_sight(costs, step, has_previous, previous, sheet)
 }
 
 // The least and greatest built costs over all floors between two, and the cells that are sure, or number 1, 3, 4 to 8, 16, or 18.
@@ -111,6 +139,17 @@ pub extern "C" fn hanjolum_leg(floor: &[u8], steps: &[u8], sheet: &mut [u8]) -> 
     leg::plan_leg(floor, steps, sheet)
 }
 
+// A leg whose goal's own sector is planned without sight, so that every arrow leads to the goal: 0, or number 1 to 10, 15, or 16.
+#[no_mangle]
+pub extern "C" fn hanjolum_leg_without_sight(floor: &[u8], steps: &[u8], sheet: &mut [u8]) -> u8
+    ensures number { λ r. ⌜ r ≡ legNumberBy false (now (floor .entry)) (now (steps .entry)) (now (sheet .entry)) ⌝ }
+    ensures sheet { λ _. ⌜ now (sheet .exit) ≡ legSheetBy false (now (floor .entry)) (now (steps .entry)) (now (sheet .entry)) ⌝ }
+    ensures planned { λ r. ⌜ (r ≡ 0 → LegPlannedBy false (now (floor .entry)) (stepsOf (now (steps .entry))) (now (sheet .entry)) (now (sheet .exit))) ⌝ }
+    ensures arrives { λ r. ⌜ (r ≡ 0 → LegArrivesAtGoal (now (floor .entry)) (stepsOf (now (steps .entry))) (now (sheet .exit))) ⌝ }
+{
+    leg::plan_leg_without_sight(floor, steps, sheet)
+}
+
 // For each cell of a sheet, the number of moves after which its arrows arrive, 255 where they never do, or number 2.
 #[no_mangle]
 pub extern "C" fn hanjolum_arrivals(sheet: &[u8]) -> Arrivals
@@ -118,6 +157,7 @@ pub extern "C" fn hanjolum_arrivals(sheet: &[u8]) -> Arrivals
     ensures told { λ r. ⌜ (r .number ≡ 0 → ArrivalsTold (now (sheet .entry)) (r .moves)) ⌝ }
     ensures by_window { λ r. ⌜ (r .number ≡ 0 → WindowArrives (now (sheet .entry)) (r .moves)) ⌝ }
     ensures whole_way { λ r. ⌜ (r .number ≡ 0 → LegTold (now (sheet .entry)) (r .moves)) ⌝ }
+    ensures without_sight { λ r. ⌜ (r .number ≡ 0 → SightlessArrives (now (sheet .entry)) (r .moves)) ⌝ }
 {
     following::arrivals(sheet)
 }

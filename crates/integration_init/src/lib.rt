@@ -26,7 +26,7 @@ ghost use Rattle.integration_field.specs.Word.{isLos, isGoal, isBlocked, isImpa
 ghost use Rattle.integration_field.specs.Diagonal.{wallAt};
 ghost use Rattle.line_end_table.specs.Ends.{HoldsEnds};
 ghost use Rattle.route.specs.Inner.{heldCells, heldTarget, WindowHeld, TargetHeld};
-ghost use Rattle.started_field.specs.Started.{startedAt, startedFrom, started, initRefused, initAnswer, StartedField};
+ghost use Rattle.started_field.specs.Started.{startedAt, startedFrom, startedWithout, started, initRefused, initAnswer, StartedField};
 ghost use Rattle.started_field.specs.CornerLine.{cornerLine};
 ghost use Rattle.started_field.specs.Sight.{wallOr, walls, marked, stopped, lineMarked, extended, unlessWall, sideTried, wallMet};
 ghost use Rattle.started_field.specs.Sight.{neighbourLooked, looked, lookedAround, waveLooked, sightAfter};
@@ -553,6 +553,23 @@ fn start_from(costs: &[u8], goal: usize) -> IntegrationField
     field
 }
 
+// The field that starts from a goal without the sight of it: the goal is the one listed corner.
+fn start_without(costs: &[u8], goal: usize) -> IntegrationField
+    requires { ⌜ (length (now costs) ≡ 100) × (goal < 100) ⌝ }
+    ensures { λ r. ⌜ r ≡ startedWithout (now (costs .entry)) goal ⌝ }
+{
+    let mut field = IntegrationField {
+        field: [65535; 100],
+        los_corners: [0; 100],
+        count: 1,
+        positions: [255; 100],
+    };
+    mark_walls(costs, &mut field.field);
+    field.field[goal] = INT_BITS_GOAL;
+    field.los_corners[0] = goal;
+    field
+}
+
 // The field that a target starts.
 pub fn start(costs: &[u8], target: Target) -> IntegrationField
     requires { ⌜ (length (now costs) ≡ 100) × (TargetHeld target) ⌝ }
@@ -562,7 +579,11 @@ pub fn start(costs: &[u8], target: Target) -> IntegrationField
     if has_window {
         return start_at(costs, target.window);
     }
-    start_from(costs, target.goal)
+    let sight = target.sight;
+    if sight {
+        return start_from(costs, target.goal);
+    }
+    start_without(costs, target.goal)
 }
 
 // A refused answer: its number, and every other part zero.

@@ -1,4 +1,5 @@
 -- The step before, in a list of steps that is not refused with 9 or 10.
+--     first-goal       the first step has a goal
 --     later-window     a later step has a window
 --     sector-before    and across its boundary lies the sector of the step before
 -- Assumes nothing.
@@ -22,6 +23,11 @@ no-goal : (ss : List (List ℕ)) → someGoal ss ≡ false → (k : ℕ) → k <
 no-goal [] e k h = absurd (omega arith)
 no-goal (s ∷ ss) e zero h = not-false (isWindow s) (neither (not (isWindow s)) (someGoal ss) e .0)
 no-goal (s ∷ ss) e (suc k) h = no-goal ss (neither (not (isWindow s)) (someGoal ss) e .1) k (omega arith)
+
+-- the first has a goal
+pub first-goal : (ss : List (List ℕ)) → outOfOrder ss ≡ false → 0 < length ss → isWindow (stepOf ss 0) ≡ false
+first-goal [] e h = absurd (omega arith)
+first-goal (s ∷ ss) e h = neither (isWindow s) (someGoal ss) (neither (isWindow s || someGoal ss) (namesTwice (s ∷ ss)) e .0) .0
 
 pub later-window : (ss : List (List ℕ)) → outOfOrder ss ≡ false → (k : ℕ) → suc k < length ss → isWindow (stepOf ss (suc k)) ≡ true
 later-window [] e k h = absurd (omega arith)

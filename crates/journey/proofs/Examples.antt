@@ -1,6 +1,7 @@
 -- A leg over three sectors, worked out: the arrows of the sheet that its definition leaves, followed over the floor.
 -- Assumes nothing.
 use mathlib.Core.Path.{_≡_, refl}
+use mathlib.Core.Bool.{true}
 use mathlib.Core.List.{List, [], _∷_}
 use Prim.Native.Nat.{ℕ, zero, suc, _+_}
 use lib.ListN.{set, replicate}
@@ -33,7 +34,7 @@ steps = (9 ∷ 0 ∷ 0 ∷ 0 ∷ 0 ∷ 0 ∷ 0 ∷ 0 ∷ []) ∷ (10 ∷ 0 ∷ 1
 
 -- of the row that sector 18 faces, cell 99 alone is no wall, so that cells 8 and 9 of its window count
 abbrev after : List ℕ
-after = planned (walled 9) steps (replicate 6400 0)
+after = planned true (walled 9) steps (replicate 6400 0)
 
 -- From cell 5 of sector 18: three moves east along the window to cell 8, north-east into cell 99, north to 89, since the way north-west to 88
 -- passes the wall 98 (02, "Job 7"), nine moves west to 80, and north-west into cell 79 of the goal's sector.

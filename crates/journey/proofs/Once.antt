@@ -5,6 +5,7 @@
 --     journey-followed    so many moves, worked out, end in a reached cell of the goal's sector
 -- Assumes nothing.
 use mathlib.Core.Path.{_≡_, refl, sym, ap, ap₂, subst}
+use mathlib.Core.Bool.{Bool}
 use mathlib.Core.List.{List}
 use Prim.Native.Nat.{ℕ, zero, suc, _+_, _-_}
 use native.Mathlib.Omega.{arith}
@@ -32,21 +33,23 @@ moved-is : (sheet : List ℕ) {p q : Place} → FloorMove sheet p q → moved sh
 unfolding moved
 moved-is sheet m = same-place (omega (arith, m .columns)) (omega (arith, m .rows))
 
-module _ (floor : List ℕ) (steps : List (List ℕ)) (sheet : List ℕ) where
-  pub journey-once : {n m k : ℕ} {p : Place} → Journey floor steps sheet n k p → Journey floor steps sheet m k p → n ≡ m
-  journey-once (ends r) (ends s) = refl
+module _ (sight : Bool) (floor : List ℕ) (steps : List (List ℕ)) (sheet : List ℕ) where
+  pub journey-once : {n m k : ℕ} {p : Place} → Journey sight floor steps sheet n k p → Journey sight floor steps sheet m k p → n ≡ m
+  journey-once (ends r a) (ends s b) = refl
+  journey-once (ends r a) (moves t w s l g) = absurd (t a)
+  journey-once (moves o v r i j) (ends s b) = absurd (o b)
   journey-once {m = suc m} (moves {k = k} o v r i j) (moves t w s l g) =
-      ap suc (journey-once j (subst (Journey floor steps sheet m (suc k)) (points-once w v) g))
+      ap suc (journey-once j (subst (Journey sight floor steps sheet m k) (points-once w v) g))
   journey-once (moves o v r i j) (crosses c w s g) = absurd (o c)
   journey-once (crosses c v r j) (moves o w s l g) = absurd (o c)
-  journey-once {m = suc m} (crosses {k = k} c v r j) (crosses d w s g) = ap suc (journey-once j (subst (Journey floor steps sheet m k) (points-once w v) g))
+  journey-once {m = suc m} (crosses {k = k} c v r j) (crosses d w s g) = ap suc (journey-once j (subst (Journey sight floor steps sheet m k) (points-once w v) g))
 
   -- n moves from a place, worked out, end in the goal's sector
   abbrev Ends : ℕ → Place → Type 0
-  Ends n p = ReachedIn floor steps zero (followed sheet n p)
+  Ends n p = ReachedIn sight floor steps zero (followed sheet n p)
 
-  pub journey-followed : {n k : ℕ} {p : Place} → Journey floor steps sheet n k p → Ends n p
+  pub journey-followed : {n k : ℕ} {p : Place} → Journey sight floor steps sheet n k p → Ends n p
   unfolding followed
-  journey-followed (ends r) = r
+  journey-followed (ends r a) = r
   journey-followed (moves {n = n} o v r i j) = subst (Ends n) (sym (moved-is sheet v)) (journey-followed j)
   journey-followed (crosses {n = n} c v r j) = subst (Ends n) (sym (moved-is sheet v)) (journey-followed j)

@@ -1,5 +1,5 @@
 -- What a started cell is, as far as walks go.
---     goal-ground, window-ground    of a field started with a goal, and with a window
+--     goal-ground, window-ground, corner-ground    of a field started with a goal, with a window, and with a goal without sight
 -- Assumes nothing.
 use mathlib.Core.Path.{_≡_}
 use mathlib.Core.Logic.{_⊎_, inl, inr, ⊎-elim}
@@ -8,10 +8,10 @@ use Prim.Native.Nat.{ℕ, _<_}
 use native.Mathlib.Omega.{arith}
 use native.Mathlib.Decide.{decLt, ℕ-discrete}
 use lib.ListN.{getD, length, List·getD-eq-default}
-use Rattle.route.specs.Target.{to-goal, to-window, GoalCell}
+use Rattle.route.specs.Target.{to-goal, to-window, to-corner, GoalCell}
 use Rattle.route.proofs.Targets.{at-place, place-of}
 use Rattle.integration_field.specs.Word.{low}
-use Rattle.started_field.specs.StartedCell.{Among, SightCell, in-sight, corner, unseen, GoalStarted, WindowStarted}
+use Rattle.started_field.specs.StartedCell.{Among, SightCell, in-sight, corner, unseen, GoalStarted, WindowStarted, CornerStarted}
 use Rattle.started_field.proofs.Words.{corner-flags, seen-flags}
 use Rattle.least_walks.specs.Walks.{Wall, Enterable}
 use Rattle.least_walks.proofs.Started.{Ground}
@@ -91,3 +91,19 @@ module _ (costs : List ℕ) (full : length costs ≡ 100) (cells corners : List 
         go x o (no n) =
             inr (rw (g .other-cell x (o .inside)
             (λ e. o .no-wall (record { impassable = e; not-goal = o .no-goal; not-window = λ m. absurd (n m) })) (no-window x n)))
+
+  module _ (goal : ℕ) (g : CornerStarted costs goal cells corners) where
+    abbrev CornerWall : ℕ → Type 0
+    CornerWall = Wall costs (to-corner goal)
+
+    abbrev IsCorner : ℕ → Type 0
+    IsCorner = GoalCell (to-corner goal)
+
+    pub corner-ground : Ground costs cells corners CornerWall IsCorner
+    corner-ground = record {
+      wall-flag = λ x w. rw (g .wall-cell x (cost-inside costs x full (w .impassable)) (w .impassable) (w .not-goal));
+      flag-wall = λ x h e. (let w = g .wall-only x h e in record { impassable = w .0; not-goal = w .1; not-window = λ m. absurd (List·Memᴰ·not-nil m) });
+      goal-zero = λ x q. rw (q, g .goal-stays .goal-cell);
+      listed-or-unset = λ x o. inr (rw (g .other-cell x (o .inside)
+          (λ e. o .no-wall (record { impassable = e; not-goal = o .no-goal; not-window = λ m. absurd (List·Memᴰ·not-nil m) })) (o .no-goal)));
+    }

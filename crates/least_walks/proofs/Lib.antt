@@ -1,3 +1,4 @@
 pub mod Started
 pub mod Ground
+pub mod Goal
 pub mod Promise

@@ -4,6 +4,7 @@
 --     started-walks      its least walks, once built
 --     started-positions  its positions, once built
 --     demand3            the same in demand 3's words, and the exact count
+--     goal-told          of a goal without sight: its costs are least walks from the goal, and its positions
 --     built, builds      what `build` answers for it, and the same of that answer
 --     builds-started     as it is promised of `build`
 --     once-built         as it is promised of `init`
@@ -11,28 +12,31 @@
 use mathlib.Core.Path.{_≡_, refl, subst, _∙_}
 use mathlib.Core.Bool.{true}
 use mathlib.Core.List.{List, [], _∷_, List·Memᴰ}
-use Prim.Native.Nat.{ℕ, zero, suc, _<_}
+use Prim.Native.Nat.{ℕ, zero, suc, _<_, _≤_}
 use native.Mathlib.Omega.{arith}
 use lib.ListN.{getD, length}
 use borrow.Author.Tests.{lt-ltb}
-use Rattle.route.specs.Target.{Target, to-goal, to-window, GoalCell, TargetIn, targetOf}
+use Rattle.route.specs.Target.{Target, to-goal, to-window, to-corner, GoalCell, TargetIn, targetOf}
 use Rattle.integration_field.specs.Listed.{listOf}
 use Rattle.integration_field.specs.declared.IntegrationField.{IntegrationField}
 use Rattle.integration_field.specs.declared.BuildAnswer.{BuildAnswer}
 use Rattle.integration_field.specs.Build.{build}
 use Rattle.integration_field.specs.Answer.{answerOf, allCells, Accepted, buildAnswer}
 use Rattle.integration_field.specs.Position.{positions}
-use Rattle.integration_field.specs.Promise.{LeastWalks}
+use Rattle.integration_field.specs.Promise.{LeastWalks, EarliestCorners}
 use Rattle.integration_field.proofs.Answers.{number-accepted}
 use Rattle.started_field.specs.declared.InitAnswer.{InitAnswer}
 use Rattle.integration_field.proofs.Least.{least-walks, waves-counted}
 use Rattle.integration_field.proofs.Position.{positions-told}
 use Rattle.started_field.specs.Started.{started, StartedCells, StartedField, initAnswer}
+use Rattle.started_field.specs.StartedCell.{CornerStarted}
 use Rattle.started_field.proofs.Started.{started-field, accepted-target, answered}
 use Rattle.least_walks.specs.Walks.{Wall}
 use Rattle.least_walks.specs.Promise.{Demand3, StartedPositions, OnceBuilt, BuildsStarted}
+use Rattle.least_walks.specs.Goal.{GoalCosts, GoalPositions}
 use Rattle.least_walks.proofs.Started.{Ground, started-least}
-use Rattle.least_walks.proofs.Ground.{mem-among, goal-ground, window-ground}
+use Rattle.least_walks.proofs.Ground.{mem-among, goal-ground, window-ground, corner-ground}
+use Rattle.least_walks.proofs.Goal.{goal-costs, goal-positions}
 
 all-below : (l : List ℕ) → ((i : ℕ) → i < length l → getD l i 0 < 100) → allCells l ≡ true
 unfolding allCells
@@ -44,14 +48,17 @@ module _ (costs : List ℕ) (full : length costs ≡ 100) (cells corners : List 
   long : (target : Target) → StartedCells costs target cells corners → length cells ≡ 100
   long (to-goal goal) s = s .full
   long (to-window window) s = s .full
+  long (to-corner goal) s = s .full
 
   within : (target : Target) → StartedCells costs target cells corners → (i : ℕ) → i < length corners → getD corners i 0 < 100
   within (to-goal goal) s = s .corner-in
   within (to-window window) s = s .corner-in
+  within (to-corner goal) s = s .corner-in
 
   ground : (target : Target) → StartedCells costs target cells corners → Ground costs cells corners (Wall costs target) (GoalCell target)
   ground (to-goal goal) s = goal-ground costs full cells corners goal s
   ground (to-window window) s = window-ground costs full cells corners window s
+  ground (to-corner goal) s = corner-ground costs full cells corners goal s
 
 module _ (costs : List ℕ) (target : Target) (full : length costs ≡ 100) (target-in : TargetIn target) where
   abbrev cells : List ℕ
@@ -97,6 +104,25 @@ module _ (costs : List ℕ) (target : Target) (full : length costs ≡ 100) (tar
   pub builds : (f : IntegrationField) (r : BuildAnswer) → r ≡ buildAnswer costs f → f ≡ started costs target
       → (r .number ≡ 0) × Demand3 costs target (r .field .field) (r .waves)
   builds f r e q = rw (e ∙ built f q) (refl, demand3)
+
+-- of a goal without sight; costs are bytes
+module _ (costs : List ℕ) (goal : ℕ) (full : length costs ≡ 100) (goal-in : goal < 100) (byte : (x : ℕ) → x < 100 → getD costs x 0 ≤ 255) where
+  abbrev field : IntegrationField
+  field = started costs (to-corner goal)
+
+  abbrev built-cells : List ℕ
+  built-cells = build costs (field .field) (listOf field) .cells
+
+  pub goal-told : GoalCosts costs goal built-cells × GoalPositions costs goal built-cells (positions costs (field .field) (listOf field))
+  goal-told =
+      let c = started-field costs full (to-corner goal) goal-in .cells-are in
+      let at = subst (CornerStarted costs goal (field .field)) (c .list) c in
+      let least = subst (λ (l : List ℕ). LeastWalks costs (field .field) l built-cells) (c .list) (started-walks costs (to-corner goal) full goal-in) in
+      let told = started-positions costs (to-corner goal) full goal-in in (
+        goal-costs costs goal (field .field) at byte built-cells least,
+        goal-positions costs goal (field .field) at byte built-cells least (positions costs (field .field) (listOf field))
+            (subst (λ (l : List ℕ). EarliestCorners costs (field .field) l built-cells (positions costs (field .field) (listOf field))) (c .list) told),
+      )
 
 pub builds-started : (costs : List ℕ) (f : IntegrationField) (r : BuildAnswer) → r ≡ buildAnswer costs f → BuildsStarted costs f r
 builds-started costs f r e = record {

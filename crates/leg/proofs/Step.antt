@@ -43,22 +43,22 @@ module _ {floor step sheet : List ℕ} (ready : StepReady floor step sheet) wher
   pub in-floor : sectorOf step < 64
   in-floor = accepted-step step (ready .accepted) .sector-in
 
-  module _ (has : Bool) (previous : List ℕ) {s : RouteStep} {t : program.Target}
-      (apart : s ≡ routeStep step) (made : t ≡ listedTarget (routeLegTarget s has previous)) where
-    is : t ≡ listedTarget (legTarget has previous step)
-    is = made-is step has previous apart made
+  module _ (sight has : Bool) (previous : List ℕ) {s : RouteStep} {t : program.Target}
+      (apart : s ≡ routeStep step) (made : t ≡ listedTarget (routeLegTarget s sight has previous)) where
+    is : t ≡ listedTarget (legTarget sight has previous step)
+    is = made-is step sight has previous apart made
 
-    pub held-is : heldTarget t ≡ legTarget has previous step
-    held-is = ap heldTarget is ∙ held-listed (legTarget has previous step)
+    pub held-is : heldTarget t ≡ legTarget sight has previous step
+    held-is = ap heldTarget is ∙ held-listed (legTarget sight has previous step)
 
     pub held : TargetHeld t
-    held = subst TargetHeld (sym is) (listed-held (legTarget has previous step) (leg-target-in has previous step (ready .accepted)))
+    held = subst TargetHeld (sym is) (listed-held (legTarget sight has previous step) (leg-target-in sight has previous step (ready .accepted)))
 
-    pub closed-is : (t .«has_window» && eqb (t .window .count) 0) ≡ isClosed (legTarget has previous step)
-    closed-is = ap (λ (u : program.Target). u .«has_window» && eqb (u .window .count) 0) is ∙ closed-listed (legTarget has previous step)
+    pub closed-is : (t .«has_window» && eqb (t .window .count) 0) ≡ isClosed (legTarget sight has previous step)
+    closed-is = ap (λ (u : program.Target). u .«has_window» && eqb (u .window .count) 0) is ∙ closed-listed (legTarget sight has previous step)
 
     pub closes-step : (b : Bool) → b ≡ (t .«has_window» && eqb (t .window .count) 0) → b ≡ true → (r : PlannedStep) → r .closed ≡ true
-        → StepPlanned floor step has previous sheet r sheet
+        → StepPlanned sight floor step has previous sheet r sheet
     closes-step b e h r q = record {
       closed-is = q ∙ sym h ∙ e ∙ closed-is;
       answered = λ z. absurd (true≢false (sym q ∙ z));
@@ -68,7 +68,7 @@ module _ {floor step sheet : List ℕ} (ready : StepReady floor step sheet) wher
     at-sector : (b : Bool) → b ≡ (t .«has_window» && eqb (t .window .count) 0) → b ≡ false → (cells bytes : List ℕ)
         → cells ≡ sectorField (part floor (sectorOf step)) (heldTarget t) .field
         → bytes ≡ sectorBytes (part floor (sectorOf step)) (heldTarget t) (s .portal) has previous
-        → StepPlanned floor step has previous sheet (record { closed = false; cells = cells })
+        → StepPlanned sight floor step has previous sheet (record { closed = false; cells = cells })
         (take (sectorOf step * 100) sheet ++ (bytes ++ drop 100 (drop (sectorOf step * 100) sheet)))
     at-sector b e h cells bytes p q =
         record {
@@ -86,48 +86,48 @@ module _ {floor step sheet : List ℕ} (ready : StepReady floor step sheet) wher
         → (b : Bool) → b ≡ (t .«has_window» && eqb (t .window .count) 0) → b ≡ false → (cells bytes : List ℕ)
         → cells ≡ sectorField (take n (drop (w * 100) floor)) (heldTarget t) .field
         → bytes ≡ sectorBytes (take n (drop (w * 100) floor)) (heldTarget t) (s .portal) has previous
-        → StepPlanned floor step has previous sheet (record { closed = false; cells = cells })
+        → StepPlanned sight floor step has previous sheet (record { closed = false; cells = cells })
         (take (w * 100) sheet ++ (bytes ++ drop n (drop (w * 100) sheet)))
     plans-step w e n f = rw (e, f) at-sector
 
 -- ---- step after step
 
-module _ (floor steps : List ℕ) where
+module _ (sight : Bool) (floor steps : List ℕ) where
   -- before the first step, whatever stands in the place of a previous field
-  pub from-first : (previous sheet : List ℕ) → planned floor (stepsOf steps) sheet ≡ plannedFrom floor (stepsFrom steps 0) (ltb 0 0) previous sheet
+  pub from-first : (previous sheet : List ℕ) → planned sight floor (stepsOf steps) sheet ≡ plannedFrom sight floor (stepsFrom steps 0) (ltb 0 0) previous sheet
   unfolding planned
-  from-first previous sheet = rw (from-start steps) (from-none floor (stepsOf steps) [] previous sheet)
+  from-first previous sheet = rw (from-start steps) (from-none sight floor (stepsOf steps) [] previous sheet)
 
-  pub shut-first : (previous : List ℕ) → someClosed floor (stepsOf steps) ≡ closedFrom floor (stepsFrom steps 0) (ltb 0 0) previous
+  pub shut-first : (previous : List ℕ) → someClosed sight floor (stepsOf steps) ≡ closedFrom sight floor (stepsFrom steps 0) (ltb 0 0) previous
   unfolding someClosed
-  shut-first previous = rw (from-start steps) (closed-from-none floor (stepsOf steps) [] previous)
+  shut-first previous = rw (from-start steps) (closed-from-none sight floor (stepsOf steps) [] previous)
 
   -- a step is planned, lent as this part of the bytes
   module _ {k : ℕ} (h : k < length steps / 8) {step : List ℕ} (e : step ≡ stepAt steps k) {previous sheet after : List ℕ} {r : PlannedStep}
-      (p : StepPlanned floor step (ltb 0 k) previous sheet r after) where
+      (p : StepPlanned sight floor step (ltb 0 k) previous sheet r after) where
     pub from-more : r .closed ≡ false
-        → plannedFrom floor (stepsFrom steps k) (ltb 0 k) previous sheet ≡ plannedFrom floor (stepsFrom steps (k + 1)) (ltb 0 (k + 1)) (r .cells) after
+        → plannedFrom sight floor (stepsFrom steps k) (ltb 0 k) previous sheet ≡ plannedFrom sight floor (stepsFrom steps (k + 1)) (ltb 0 (k + 1)) (r .cells) after
     unfolding plannedFrom
     from-more z = rw (from-here steps k h, p .answered z, p .wrote z, e, lt-ltb 0 (k + 1) (omega arith))
 
-    shut-at : closedFrom floor (stepsFrom steps k) (ltb 0 k) previous
-        ≡ (r .closed || closedFrom floor (stepsFrom steps (k + 1)) true (stepField floor (ltb 0 k) previous step))
+    shut-at : closedFrom sight floor (stepsFrom steps k) (ltb 0 k) previous
+        ≡ (r .closed || closedFrom sight floor (stepsFrom steps (k + 1)) true (stepField sight floor (ltb 0 k) previous step))
     unfolding closedFrom
     shut-at = rw (from-here steps k h, p .closed-is, e)
 
-    pub shut-here : r .closed ≡ true → closedFrom floor (stepsFrom steps k) (ltb 0 k) previous ≡ true
+    pub shut-here : r .closed ≡ true → closedFrom sight floor (stepsFrom steps k) (ltb 0 k) previous ≡ true
     shut-here z = shut-at ∙ rw z
 
     pub shut-more : r .closed ≡ false
-        → closedFrom floor (stepsFrom steps k) (ltb 0 k) previous ≡ closedFrom floor (stepsFrom steps (k + 1)) (ltb 0 (k + 1)) (r .cells)
+        → closedFrom sight floor (stepsFrom steps k) (ltb 0 k) previous ≡ closedFrom sight floor (stepsFrom steps (k + 1)) (ltb 0 (k + 1)) (r .cells)
     shut-more z = shut-at ∙ rw (z, p .answered z, lt-ltb 0 (k + 1) (omega arith))
 
   -- behind the last step
-  pub from-last : (k : ℕ) → length steps / 8 ≤ k → (has : Bool) (previous sheet : List ℕ) → plannedFrom floor (stepsFrom steps k) has previous sheet ≡ sheet
+  pub from-last : (k : ℕ) → length steps / 8 ≤ k → (has : Bool) (previous sheet : List ℕ) → plannedFrom sight floor (stepsFrom steps k) has previous sheet ≡ sheet
   unfolding plannedFrom
   from-last k h has previous sheet = rw (from-done steps k h)
 
-  pub shut-last : (k : ℕ) → length steps / 8 ≤ k → (has : Bool) (previous : List ℕ) → closedFrom floor (stepsFrom steps k) has previous ≡ false
+  pub shut-last : (k : ℕ) → length steps / 8 ≤ k → (has : Bool) (previous : List ℕ) → closedFrom sight floor (stepsFrom steps k) has previous ≡ false
   unfolding closedFrom
   shut-last k h has previous = rw (from-done steps k h)
 
@@ -139,8 +139,8 @@ copy-ready {steps = steps} ready f g =
     record { in-floor = λ k h. accepted-step (stepAt steps k) (ready .accepted k h) .sector-in; from-full = f; sheet-full = g }
 
 -- the parts of a planned sheet, copied, make the sheet of the planned leg
-pub copies : {floor steps : List ℕ} → LegReady floor steps → (scratch sheet : List ℕ) → length scratch ≡ 6400
-    → copied (stepsOf steps) (planned floor (stepsOf steps) scratch) sheet ≡ planned floor (stepsOf steps) sheet
+pub copies : (sight : Bool) {floor steps : List ℕ} → LegReady floor steps → (scratch sheet : List ℕ) → length scratch ≡ 6400
+    → copied (stepsOf steps) (planned sight floor (stepsOf steps) scratch) sheet ≡ planned sight floor (stepsOf steps) sheet
 unfolding planned
-copies {floor = floor} {steps = steps} ready scratch sheet f =
-    copied-planned floor (stepsOf steps) scratch sheet (fits floor steps scratch ready f) (ready .named-once)
+copies sight {floor = floor} {steps = steps} ready scratch sheet f =
+    copied-planned sight floor (stepsOf steps) scratch sheet (fits sight floor steps scratch ready f) (ready .named-once)

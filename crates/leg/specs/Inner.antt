@@ -19,15 +19,15 @@ pub record StepReady (floor step sheet : List ℕ) : Type 0 where
   pub accepted : stepNumber step ≡ 0
 
 -- what planning a step answers, and the sheet that it leaves
-pub record StepPlanned (floor step : List ℕ) (has : Bool) (previous sheet : List ℕ) (r : PlannedStep) (after : List ℕ) : Type 0 where
-  pub closed-is : r .closed ≡ isClosed (legTarget has previous step)
-  pub answered : r .closed ≡ false → r .cells ≡ stepField floor has previous step
-  pub wrote : r .closed ≡ false → after ≡ withPart sheet (sectorOf step) (stepBytes floor has previous step)
+pub record StepPlanned (sight : Bool) (floor step : List ℕ) (has : Bool) (previous sheet : List ℕ) (r : PlannedStep) (after : List ℕ) : Type 0 where
+  pub closed-is : r .closed ≡ isClosed (legTarget sight has previous step)
+  pub answered : r .closed ≡ false → r .cells ≡ stepField sight floor has previous step
+  pub wrote : r .closed ≡ false → after ≡ withPart sheet (sectorOf step) (stepBytes sight floor has previous step)
 
 -- the same of all steps
-pub record StepsPlanned (floor steps sheet : List ℕ) (closed : Bool) (after : List ℕ) : Type 0 where
-  pub closed-is : closed ≡ someClosed floor (stepsOf steps)
-  pub wrote : closed ≡ false → after ≡ planned floor (stepsOf steps) sheet
+pub record StepsPlanned (sight : Bool) (floor steps sheet : List ℕ) (closed : Bool) (after : List ℕ) : Type 0 where
+  pub closed-is : closed ≡ someClosed sight floor (stepsOf steps)
+  pub wrote : closed ≡ false → after ≡ planned sight floor (stepsOf steps) sheet
 
 -- steps that each name a sector of the floor, and two sheets of 64 sectors
 pub record CopyReady (steps from sheet : List ℕ) : Type 0 where

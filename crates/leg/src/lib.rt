@@ -4,6 +4,7 @@ use route::RouteStep;
 use sectors::Across;
 use utilities::CompassDir;
 ghost use mathlib.Core.Path.{_≡_};
+ghost use mathlib.Core.Bool.{true, false};
 ghost use mathlib.Core.List.{List};
 ghost use Prim.Native.Nat.{ℕ, _≤_};
 ghost use lib.ListN.{length};
@@ -11,10 +12,10 @@ ghost use Rattle.utilities.specs.Compass.{sideOf};
 ghost use Rattle.route.specs.Table.{firstNumber};
 ghost use Rattle.sectors.specs.Floor.{across};
 ghost use Rattle.step_list.specs.Steps.{stepsOf};
-ghost use Rattle.leg_plan.specs.Leg.{names, namesTwice, someGoal, outOfOrder, isSector, apart, floorNumber, eachRows, judgedRows, legNumber, legSheet};
+ghost use Rattle.leg_plan.specs.Leg.{names, namesTwice, someGoal, outOfOrder, isSector, apart, floorNumber, eachRows, judgedRows, legNumber, legSheet, legNumberBy, legSheetBy};
 ghost use Rattle.leg_plan.specs.Inner.{LegReady, copied};
-ghost use Rattle.leg_plan.specs.Promise.{LegPlanned};
-ghost use Rattle.journey.specs.Journey.{LegArrives};
+ghost use Rattle.leg_plan.specs.Promise.{LegPlanned, LegPlannedBy};
+ghost use Rattle.journey.specs.Journey.{LegArrives, LegArrivesAtGoal, Arrives};
 ghost use Rattle.leg.specs.Inner.{StepPlanned, StepReady, StepsPlanned, CopyReady};
 
 fn wide(byte: u8) -> usize
@@ -179,16 +180,17 @@ struct PlannedStep {
 fn plan_step(
     floor: &[u8],
     step: &[u8],
+    sight: bool,
     has_previous: bool,
     previous: &[u32; 100],
     sheet: &mut [u8],
 ) -> PlannedStep
     requires { ⌜ StepReady (now floor) (now step) (now sheet) ⌝ }
-    ensures { λ r. ⌜ StepPlanned (now (floor .entry)) (now (step .entry)) «has_previous» (now (previous .entry)) (now (sheet .entry)) r (now (sheet .exit)) ⌝ }
+    ensures { λ r. ⌜ StepPlanned sight (now (floor .entry)) (now (step .entry)) «has_previous» (now (previous .entry)) (now (sheet .entry)) r (now (sheet .exit)) ⌝ }
 {
     let route_step = RouteStep::new(step);
     let portal = route_step.portal;
-    let target = counting::leg_target(route_step, has_previous, previous);
+    let target = counting::leg_target(route_step, sight, has_previous, previous);
     let at = wide(step[0]) * 100;
     let end = at + 100;
     if counting::is_closed(target) {
@@ -213,16 +215,16 @@ fn plan_step(
 }
 
 // Plans the steps in order, each with the built field of the step before, up to one with a window that has no counting cell; whether there is one.
-fn plan_steps(floor: &[u8], steps: &[u8], sheet: &mut [u8]) -> bool
+fn plan_steps(floor: &[u8], steps: &[u8], sight: bool, sheet: &mut [u8]) -> bool
     requires { ⌜ (LegReady (now floor) (now steps)) × (length (now sheet) ≡ 6400) ⌝ }
-    ensures { λ r. ⌜ StepsPlanned (now (floor .entry)) (now (steps .entry)) (now (sheet .entry)) r (now (sheet .exit)) ⌝ }
+    ensures { λ r. ⌜ StepsPlanned sight (now (floor .entry)) (now (steps .entry)) (now (sheet .entry)) r (now (sheet .exit)) ⌝ }
 {
     let count = steps.len() / 8;
     let mut previous = [0u32; 100];
     let mut k = 0;
     while k < count {
         let at = k * 8;
-        let planned = plan_step(floor, &steps[at..at + 8], 0 < k, &previous, sheet);
+        let planned = plan_step(floor, &steps[at..at + 8], sight, 0 < k, &previous, sheet);
         if planned.closed {
             return true;
         }
@@ -247,21 +249,43 @@ fn copy_parts(steps: &[u8], from: &[u8], sheet: &mut [u8])
     }
 }
 
-// The leg: 0 where it is planned, else the number with which it is refused. All steps are planned before the sheet is written.
-pub fn plan_leg(floor: &[u8], steps: &[u8], sheet: &mut [u8]) -> u8
-    ensures number { λ r. ⌜ r ≡ legNumber (now (floor .entry)) (now (steps .entry)) (now (sheet .entry)) ⌝ }
-    ensures sheet { λ _. ⌜ now (sheet .exit) ≡ legSheet (now (floor .entry)) (now (steps .entry)) (now (sheet .entry)) ⌝ }
-    ensures planned { λ r. ⌜ (r ≡ 0 → LegPlanned (now (floor .entry)) (stepsOf (now (steps .entry))) (now (sheet .entry)) (now (sheet .exit))) ⌝ }
-    ensures arrives { λ r. ⌜ (r ≡ 0 → LegArrives (now (floor .entry)) (stepsOf (now (steps .entry))) (now (sheet .exit))) ⌝ }
+// The leg, with the sight of the goal or without: 0 where it is planned, else the number with which it is refused. All steps are planned before the
+// sheet is written.
+fn plan_by_sight(floor: &[u8], steps: &[u8], sight: bool, sheet: &mut [u8]) -> u8
+    ensures number { λ r. ⌜ r ≡ legNumberBy sight (now (floor .entry)) (now (steps .entry)) (now (sheet .entry)) ⌝ }
+    ensures sheet { λ _. ⌜ now (sheet .exit) ≡ legSheetBy sight (now (floor .entry)) (now (steps .entry)) (now (sheet .entry)) ⌝ }
+    ensures planned { λ r. ⌜ (r ≡ 0 → LegPlannedBy sight (now (floor .entry)) (stepsOf (now (steps .entry))) (now (sheet .entry)) (now (sheet .exit))) ⌝ }
+    ensures arrives { λ r. ⌜ (r ≡ 0 → Arrives sight (now (floor .entry)) (stepsOf (now (steps .entry))) (now (sheet .exit))) ⌝ }
 {
     let number = leg_number(floor, steps, sheet.len());
     if number != 0 {
         return number;
     }
     let mut scratch = [0u8; 6400];
-    if plan_steps(floor, steps, &mut scratch) {
+    if plan_steps(floor, steps, sight, &mut scratch) {
         return 15;
     }
     copy_parts(steps, &scratch, sheet);
     0
+}
+
+// The leg: 0 where it is planned, else the number with which it is refused.
+pub fn plan_leg(floor: &[u8], steps: &[u8], sheet: &mut [u8]) -> u8
+    ensures number { λ r. ⌜ r ≡ legNumber (now (floor .entry)) (now (steps .entry)) (now (sheet .entry)) ⌝ }
+    ensures sheet { λ _. ⌜ now (sheet .exit) ≡ legSheet (now (floor .entry)) (now (steps .entry)) (now (sheet .entry)) ⌝ }
+    ensures planned { λ r. ⌜ (r ≡ 0 → LegPlanned (now (floor .entry)) (stepsOf (now (steps .entry))) (now (sheet .entry)) (now (sheet .exit))) ⌝ }
+    ensures arrives { λ r. ⌜ (r ≡ 0 → LegArrives (now (floor .entry)) (stepsOf (now (steps .entry))) (now (sheet .exit))) ⌝ }
+{
+    plan_by_sight(floor, steps, true, sheet)
+}
+
+// The leg without sight: the goal of the first step is the one listed corner of its sector, so that all arrows lead to the goal. 0 where it is planned,
+// else the number with which it is refused.
+pub fn plan_leg_without_sight(floor: &[u8], steps: &[u8], sheet: &mut [u8]) -> u8
+    ensures number { λ r. ⌜ r ≡ legNumberBy false (now (floor .entry)) (now (steps .entry)) (now (sheet .entry)) ⌝ }
+    ensures sheet { λ _. ⌜ now (sheet .exit) ≡ legSheetBy false (now (floor .entry)) (now (steps .entry)) (now (sheet .entry)) ⌝ }
+    ensures planned { λ r. ⌜ (r ≡ 0 → LegPlannedBy false (now (floor .entry)) (stepsOf (now (steps .entry))) (now (sheet .entry)) (now (sheet .exit))) ⌝ }
+    ensures arrives { λ r. ⌜ (r ≡ 0 → LegArrivesAtGoal (now (floor .entry)) (stepsOf (now (steps .entry))) (now (sheet .exit))) ⌝ }
+{
+    plan_by_sight(floor, steps, false, sheet)
 }

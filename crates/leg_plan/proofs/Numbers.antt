@@ -18,7 +18,7 @@ use Rattle.route.specs.Table.{Row, row, firstNumber}
 use Rattle.route.specs.Step.{isWindow, noStepList}
 use Rattle.route.proofs.Walls.{each-step-on, accepted-on}
 use Rattle.step_list.specs.Steps.{stepsOf}
-use Rattle.leg_plan.specs.Leg.{namesTwice, someGoal, outOfOrder, apart, floorNumber, eachRows, someClosed, judgedRows, legNumber}
+use Rattle.leg_plan.specs.Leg.{namesTwice, someGoal, outOfOrder, apart, floorNumber, eachRows, someClosed, judgedRows, legNumberBy}
 use Rattle.step_list.specs.Inner.{stepAt}
 use Rattle.leg_plan.specs.Inner.{LegReady}
 use Rattle.step_list.proofs.Steps.{neither, steps-count, step-of, step-long}
@@ -131,33 +131,34 @@ module _ (floor steps sheet : List ℕ) where
             faced = l .1;
           }
 
+module _ (sight : Bool) (floor steps sheet : List ℕ) where
   -- a number that is judged before a step is planned is the leg's
-  pub judged-first : (firstNumber (judgedRows floor steps sheet) ≡ 0 → ⊥) → legNumber floor steps sheet ≡ firstNumber (judgedRows floor steps sheet)
-  unfolding legNumber
-  judged-first h = rows-first (judgedRows floor steps sheet) (row 15 (someClosed floor (stepsOf steps)) ∷ []) h
+  pub judged-first : (firstNumber (judgedRows floor steps sheet) ≡ 0 → ⊥) → legNumberBy sight floor steps sheet ≡ firstNumber (judgedRows floor steps sheet)
+  unfolding legNumberBy
+  judged-first h = rows-first (judgedRows floor steps sheet) (row 15 (someClosed sight floor (stepsOf steps)) ∷ []) h
 
   -- else 15 decides
-  last-number : Judged floor steps sheet → legNumber floor steps sheet ≡ cond (someClosed floor (stepsOf steps)) 15 0
-  unfolding legNumber judgedRows
+  last-number : Judged floor steps sheet → legNumberBy sight floor steps sheet ≡ cond (someClosed sight floor (stepsOf steps)) 15 0
+  unfolding legNumberBy judgedRows
   last-number j = rw (eq-eqb (length floor) 6400 (j .floor-full), eq-eqb (length sheet) 6400 (j .sheet-full), j .list)
       (ap firstNumber (append-assoc (eachRows floor (stepsOf steps)) _ _) ∙ each-none floor (stepsOf steps) _ (j .each) ∙ rw (j .ordered, j .faced))
 
-  pub closed-15 : Judged floor steps sheet → someClosed floor (stepsOf steps) ≡ true → legNumber floor steps sheet ≡ 15
+  pub closed-15 : Judged floor steps sheet → someClosed sight floor (stepsOf steps) ≡ true → legNumberBy sight floor steps sheet ≡ 15
   closed-15 j e = last-number j ∙ rw e
 
-  pub open-0 : Judged floor steps sheet → someClosed floor (stepsOf steps) ≡ false → legNumber floor steps sheet ≡ 0
+  pub open-0 : Judged floor steps sheet → someClosed sight floor (stepsOf steps) ≡ false → legNumberBy sight floor steps sheet ≡ 0
   open-0 j e = last-number j ∙ rw e
 
   -- a leg that is not refused
-  pub accepted : legNumber floor steps sheet ≡ 0 → Judged floor steps sheet × (someClosed floor (stepsOf steps) ≡ false)
+  pub accepted : legNumberBy sight floor steps sheet ≡ 0 → Judged floor steps sheet × (someClosed sight floor (stepsOf steps) ≡ false)
   accepted e = go (eqb (firstNumber (judgedRows floor steps sheet)) 0) refl
     where
       shut : (b : Bool) → _≡_ {A = ℕ} (cond b 15 0) 0 → b ≡ false
       shut true z = absurd (omega arith)
       shut false z = refl
 
-      go : (b : Bool) → eqb (firstNumber (judgedRows floor steps sheet)) 0 ≡ b → Judged floor steps sheet × (someClosed floor (stepsOf steps) ≡ false)
-      go true q = let j = judged (eqb-true _ 0 q) in (j, shut (someClosed floor (stepsOf steps)) (sym (last-number j) ∙ e))
+      go : (b : Bool) → eqb (firstNumber (judgedRows floor steps sheet)) 0 ≡ b → Judged floor steps sheet × (someClosed sight floor (stepsOf steps) ≡ false)
+      go true q = let j = judged floor steps sheet (eqb-true _ 0 q) in (j, shut (someClosed sight floor (stepsOf steps)) (sym (last-number j) ∙ e))
       go false q = let h = eqb-false _ 0 q in absurd (h (sym (judged-first h) ∙ e))
 
 -- ---- what planning is given

@@ -4,7 +4,7 @@
 --     refuses, plans   all that is promised of a number and a sheet
 -- Assumes nothing.
 use mathlib.Core.Path.{_≡_, sym, ap, subst, _∙_}
-use mathlib.Core.Bool.{false}
+use mathlib.Core.Bool.{Bool, false}
 use mathlib.Core.List.{List, []}
 use Prim.Native.Nat.{ℕ, _/_, _<_}
 use native.Mathlib.Omega.{arith}
@@ -19,10 +19,10 @@ use Rattle.sector.specs.Sector.{sectorField}
 use Rattle.sector.specs.Promise as sector
 use Rattle.sector.proofs.Planned.{sector-planned}
 use Rattle.step_list.specs.Steps.{stepsOf}
-use Rattle.leg_plan.specs.Leg.{part, legNumber, plannedFrom, planned, legSheet}
+use Rattle.leg_plan.specs.Leg.{part, legNumberBy, plannedFrom, planned, legSheetBy}
 use Rattle.leg_plan.specs.Inner.{LegReady}
 use Rattle.step_list.specs.Steps.{stepOf}
-use Rattle.leg_plan.specs.Promise.{sectorAt, targetAt, portalAt, hasBefore, costsAt, builtAt, builtBefore, LegPlanned}
+use Rattle.leg_plan.specs.Promise.{sectorAt, targetAt, portalAt, hasBefore, costsAt, builtAt, builtBefore, LegPlannedBy}
 use Rattle.step_list.proofs.Steps.{steps-count, step-of}
 use Rattle.leg_plan.proofs.Numbers.{accepted, ready}
 use Rattle.counting.proofs.Counting.{leg-target-in, leg-target-on}
@@ -31,7 +31,7 @@ use Rattle.leg_plan.proofs.Sheet.{Fits, full-after, kept, written, buil
 pub part-hundred : (l : List ℕ) (sector : ℕ) → length l ≡ 6400 → sector < 64 → length (part l sector) ≡ 100
 part-hundred l sector e h = simp (length-take, length-drop) (omega arith)
 
-module _ (floor steps sheet : List ℕ) (ready : LegReady floor steps) (sheet-full : length sheet ≡ 6400) where
+module _ (sight : Bool) (floor steps sheet : List ℕ) (ready : LegReady floor steps) (sheet-full : length sheet ≡ 6400) where
   pub good : (k : ℕ) → k < length (stepsOf steps) → stepNumber (stepOf (stepsOf steps) k) ≡ 0
   good k h =
       let g : k < length steps / 8 = omega (arith, steps-count steps) in
@@ -40,40 +40,40 @@ module _ (floor steps sheet : List ℕ) (ready : LegReady floor steps) (sheet-fu
   pub fits : Fits (stepsOf steps) sheet
   fits = record { in-floor = λ k h. accepted-step (stepOf (stepsOf steps) k) (good k h) .sector-in; full = sheet-full }
 
-  pub target-at : (k : ℕ) → k < length (stepsOf steps) → TargetIn (targetAt floor (stepsOf steps) k)
-  target-at k h = leg-target-in (hasBefore k) (builtBefore floor (stepsOf steps) k) (stepOf (stepsOf steps) k) (good k h)
+  pub target-at : (k : ℕ) → k < length (stepsOf steps) → TargetIn (targetAt sight floor (stepsOf steps) k)
+  target-at k h = leg-target-in sight (hasBefore k) (builtBefore sight floor (stepsOf steps) k) (stepOf (stepsOf steps) k) (good k h)
 
-  pub leg-planned : LegPlanned floor (stepsOf steps) sheet (planned floor (stepsOf steps) sheet)
+  pub leg-planned : LegPlannedBy sight floor (stepsOf steps) sheet (planned sight floor (stepsOf steps) sheet)
   unfolding planned
   leg-planned =
-      let wrote = written floor (stepsOf steps) fits (ready .named-once) in
+      let wrote = written sight floor (stepsOf steps) fits (ready .named-once) in
       record {
         written = wrote;
-        kept = kept floor (stepsOf steps) false [] fits;
-        same-length = full-after floor (stepsOf steps) false [] fits ∙ sym sheet-full;
+        kept = kept sight floor (stepsOf steps) false [] fits;
+        same-length = full-after sight floor (stepsOf steps) false [] fits ∙ sym sheet-full;
         demand3 =
             λ k h.
             let costs = costsAt floor (stepsOf steps) k in
-            let target = targetAt floor (stepsOf steps) k in
-            let bytes = part (plannedFrom floor (stepsOf steps) false [] sheet) (sectorAt (stepsOf steps) k) in
+            let target = targetAt sight floor (stepsOf steps) k in
+            let bytes = part (plannedFrom sight floor (stepsOf steps) false [] sheet) (sectorAt (stepsOf steps) k) in
             subst (λ (b : List ℕ). sector.Planned costs target b (waveCount costs (started costs target)) bytes)
-            (sym (built-is floor (stepsOf steps) k))
+            (sym (built-is sight floor (stepsOf steps) k))
             (subst (sector.Planned costs target (sectorField costs target .field) (waveCount costs (started costs target))) (sym (wrote k h))
             (sector-planned costs target (portalAt (stepsOf steps) k) (part-hundred floor (sectorAt (stepsOf steps) k) (ready .floor-full) (fits .in-floor k h))
-            (target-at k h) (hasBefore k) (builtBefore floor (stepsOf steps) k)
-            (leg-target-on (hasBefore k) (builtBefore floor (stepsOf steps) k) (stepOf (stepsOf steps) k))));
+            (target-at k h) (hasBefore k) (builtBefore sight floor (stepsOf steps) k)
+            (leg-target-on sight (hasBefore k) (builtBefore sight floor (stepsOf steps) k) (stepOf (stepsOf steps) k))));
       }
 
-module _ (floor steps sheet : List ℕ) where
+module _ (sight : Bool) (floor steps sheet : List ℕ) where
   -- a number, and the sheet that is left with it
   abbrev Promised : ℕ → List ℕ → Type 0
   Promised n after =
-      (n ≡ legNumber floor steps sheet) × ((after ≡ legSheet floor steps sheet) × (n ≡ 0 → LegPlanned floor (stepsOf steps) sheet after))
+      (n ≡ legNumberBy sight floor steps sheet) × ((after ≡ legSheetBy sight floor steps sheet) × (n ≡ 0 → LegPlannedBy sight floor (stepsOf steps) sheet after))
 
-  pub refuses : (n : ℕ) → n ≡ legNumber floor steps sheet → (n ≡ 0 → ⊥) → Promised n sheet
+  pub refuses : (n : ℕ) → n ≡ legNumberBy sight floor steps sheet → (n ≡ 0 → ⊥) → Promised n sheet
   refuses n e h = (e, (rw (← e, ne-eqb n 0 h), λ z. absurd (h z)))
 
-  pub plans : legNumber floor steps sheet ≡ 0 → (after : List ℕ) → after ≡ planned floor (stepsOf steps) sheet → Promised 0 after
+  pub plans : legNumberBy sight floor steps sheet ≡ 0 → (after : List ℕ) → after ≡ planned sight floor (stepsOf steps) sheet → Promised 0 after
   plans z after e =
-      let j = accepted floor steps sheet z .0 in
-      (sym z, (rw z e, λ q. subst (LegPlanned floor (stepsOf steps) sheet) (sym e) (leg-planned floor steps sheet (ready j) (j .sheet-full))))
+      let j = accepted sight floor steps sheet z .0 in
+      (sym z, (rw z e, λ q. subst (LegPlannedBy sight floor (stepsOf steps) sheet) (sym e) (leg-planned sight floor steps sheet (ready j) (j .sheet-full))))

@@ -16,7 +16,7 @@ use lib.ListN.{length, take, drop, length-append, length-take, length-drop, drop
 use lib.Seq.{take-at, drop-at, length-take-le, take-length, take-add, drop-drop, take-take}
 use borrow.Author.Tests.{ltb-true, ltb-false, eqb-false}
 use Rattle.route.specs.Step.{sectorOf, portalOf}
-use Rattle.route.specs.Target.{targetOf}
+use Rattle.route.specs.Target.{bySight, targetOf}
 use Rattle.sector.specs.Sector.{sectorField, sectorBytes}
 use Rattle.sector.proofs.Planned.{bytes-hundred, none-read}
 use Rattle.counting.specs.Counting.{legTarget}
@@ -84,16 +84,16 @@ pub record Fits (ss : List (List ℕ)) (sheet : List ℕ) : Type 0 where
   pub in-floor : (k : ℕ) → k < length ss → sectorAt ss k < 64
   pub full : length sheet ≡ 6400
 
-module _ (floor : List ℕ) where
+module _ (sight : Bool) (floor : List ℕ) where
   -- the first step has no previous field, so that what stands in its place plays no part
-  pub from-none : (ss : List (List ℕ)) (previous other sheet : List ℕ) → plannedFrom floor ss false previous sheet ≡ plannedFrom floor ss false other sheet
+  pub from-none : (ss : List (List ℕ)) (previous other sheet : List ℕ) → plannedFrom sight floor ss false previous sheet ≡ plannedFrom sight floor ss false other sheet
   unfolding plannedFrom
   from-none [] previous other sheet = refl
   from-none (s ∷ ss) previous other sheet =
-      ap (λ (b : List ℕ). plannedFrom floor ss true (stepField floor false previous s) (withPart sheet (sectorOf s) b))
-      (none-read (part floor (sectorOf s)) (targetOf s) (portalOf s) previous other)
+      ap (λ (b : List ℕ). plannedFrom sight floor ss true (stepField sight floor false previous s) (withPart sheet (sectorOf s) b))
+      (none-read (part floor (sectorOf s)) (bySight sight (targetOf s)) (portalOf s) previous other)
 
-  pub closed-from-none : (ss : List (List ℕ)) (previous other : List ℕ) → closedFrom floor ss false previous ≡ closedFrom floor ss false other
+  pub closed-from-none : (ss : List (List ℕ)) (previous other : List ℕ) → closedFrom sight floor ss false previous ≡ closedFrom sight floor ss false other
   unfolding closedFrom
   closed-from-none [] previous other = refl
   closed-from-none (s ∷ ss) previous other = refl
@@ -101,10 +101,10 @@ module _ (floor : List ℕ) where
   -- one step: what fits still fits, its own part is written, and every other one is as it was
   module _ {s : List ℕ} {ss : List (List ℕ)} {sheet : List ℕ} (fits : Fits (s ∷ ss) sheet) (has : Bool) (previous : List ℕ) where
     abbrev bytes : List ℕ
-    bytes = stepBytes floor has previous s
+    bytes = stepBytes sight floor has previous s
 
     hundred : length bytes ≡ 100
-    hundred = bytes-hundred (part floor (sectorOf s)) (legTarget has previous s) (portalOf s) has previous
+    hundred = bytes-hundred (part floor (sectorOf s)) (legTarget sight has previous s) (portalOf s) has previous
 
     in-sheet : sectorOf s * 100 + 100 ≤ length sheet
     in-sheet = let h : sectorOf s < 64 = fits .in-floor zero (omega arith) in omega (arith, fits .full)
@@ -119,19 +119,19 @@ module _ (floor : List ℕ) where
     other n e = part-other sheet bytes (sectorOf s) in-sheet hundred n (eqb-false (sectorOf s) n e)
 
   pub full-after : (ss : List (List ℕ)) (has : Bool) (previous : List ℕ) {sheet : List ℕ}
-      → Fits ss sheet → length (plannedFrom floor ss has previous sheet) ≡ 6400
+      → Fits ss sheet → length (plannedFrom sight floor ss has previous sheet) ≡ 6400
   unfolding plannedFrom
   full-after [] has previous fits = fits .full
-  full-after (s ∷ ss) has previous fits = full-after ss true (stepField floor has previous s) (rest fits has previous)
+  full-after (s ∷ ss) has previous fits = full-after ss true (stepField sight floor has previous s) (rest fits has previous)
 
   -- a sector that no step names keeps its bytes
   pub kept : (ss : List (List ℕ)) (has : Bool) (previous : List ℕ) {sheet : List ℕ} → Fits ss sheet
-      → (n : ℕ) → names n ss ≡ false → part (plannedFrom floor ss has previous sheet) n ≡ part sheet n
+      → (n : ℕ) → names n ss ≡ false → part (plannedFrom sight floor ss has previous sheet) n ≡ part sheet n
   unfolding plannedFrom
   kept [] has previous fits n e = refl
   kept (s ∷ ss) has previous fits n e =
       let none = neither (eqb (sectorOf s) n) (names n ss) e in
-      kept ss true (stepField floor has previous s) (rest fits has previous) n (none .1) ∙ other fits has previous n (none .0)
+      kept ss true (stepField sight floor has previous s) (rest fits has previous) n (none .1) ∙ other fits has previous n (none .0)
 
   -- ---- what the step at a place writes
 
@@ -143,7 +143,7 @@ module _ (floor : List ℕ) where
   fieldFrom : List (List ℕ) → Bool → List ℕ → ℕ → List ℕ
   fieldFrom [] has previous k = previous
   fieldFrom (s ∷ ss) has previous zero = previous
-  fieldFrom (s ∷ ss) has previous (suc k) = fieldFrom ss true (stepField floor has previous s) k
+  fieldFrom (s ∷ ss) has previous (suc k) = fieldFrom ss true (stepField sight floor has previous s) k
 
   field-here : (ss : List (List ℕ)) (has : Bool) (previous : List ℕ) → fieldFrom ss has previous zero ≡ previous
   unfolding fieldFrom
@@ -152,69 +152,69 @@ module _ (floor : List ℕ) where
 
   -- the built field behind the step at a place
   field-next : (ss : List (List ℕ)) (has : Bool) (previous : List ℕ) (k : ℕ) → k < length ss
-      → fieldFrom ss has previous (suc k) ≡ stepField floor (hasFrom has k) (fieldFrom ss has previous k) (stepOf ss k)
+      → fieldFrom ss has previous (suc k) ≡ stepField sight floor (hasFrom has k) (fieldFrom ss has previous k) (stepOf ss k)
   unfolding fieldFrom
   field-next [] has previous k h = absurd (omega arith)
-  field-next (s ∷ ss) has previous zero h = field-here ss true (stepField floor has previous s)
-  field-next (s ∷ ss) has previous (suc zero) h = field-next ss true (stepField floor has previous s) zero (omega arith)
-  field-next (s ∷ ss) has previous (suc (suc k)) h = field-next ss true (stepField floor has previous s) (suc k) (omega arith)
+  field-next (s ∷ ss) has previous zero h = field-here ss true (stepField sight floor has previous s)
+  field-next (s ∷ ss) has previous (suc zero) h = field-next ss true (stepField sight floor has previous s) zero (omega arith)
+  field-next (s ∷ ss) has previous (suc (suc k)) h = field-next ss true (stepField sight floor has previous s) (suc k) (omega arith)
 
   -- the sector of the step at place k holds what that step wrote, since no later one names it
   written-from : (ss : List (List ℕ)) (has : Bool) (previous : List ℕ) {sheet : List ℕ} → Fits ss sheet → namesTwice ss ≡ false → (k : ℕ) → k < length ss
-      → part (plannedFrom floor ss has previous sheet) (sectorAt ss k) ≡ stepBytes floor (hasFrom has k) (fieldFrom ss has previous k) (stepOf ss k)
+      → part (plannedFrom sight floor ss has previous sheet) (sectorAt ss k) ≡ stepBytes sight floor (hasFrom has k) (fieldFrom ss has previous k) (stepOf ss k)
   unfolding plannedFrom fieldFrom
   written-from [] has previous fits once k h = absurd (omega arith)
   written-from (s ∷ ss) has previous fits once zero h =
       let later = neither (names (sectorOf s) ss) (namesTwice ss) once in
-      kept ss true (stepField floor has previous s) (rest fits has previous) (sectorOf s) (later .0) ∙ own fits has previous
+      kept ss true (stepField sight floor has previous s) (rest fits has previous) (sectorOf s) (later .0) ∙ own fits has previous
   written-from (s ∷ ss) has previous fits once (suc zero) h =
       let later = neither (names (sectorOf s) ss) (namesTwice ss) once in
-      written-from ss true (stepField floor has previous s) (rest fits has previous) (later .1) zero (omega arith)
+      written-from ss true (stepField sight floor has previous s) (rest fits has previous) (later .1) zero (omega arith)
   written-from (s ∷ ss) has previous fits once (suc (suc k)) h =
       let later = neither (names (sectorOf s) ss) (namesTwice ss) once in
-      written-from ss true (stepField floor has previous s) (rest fits has previous) (later .1) (suc k) (omega arith)
+      written-from ss true (stepField sight floor has previous s) (rest fits has previous) (later .1) (suc k) (omega arith)
 
   -- from the first step of a leg on, that is the built field of the step before
-  field-at : (ss : List (List ℕ)) (k : ℕ) → k < length ss → fieldFrom ss false [] (suc k) ≡ builtAt floor ss k
+  field-at : (ss : List (List ℕ)) (k : ℕ) → k < length ss → fieldFrom ss false [] (suc k) ≡ builtAt sight floor ss k
   unfolding builtAt
-  field-at ss zero h = field-next ss false [] zero h ∙ ap (λ (f : List ℕ). stepField floor false f (stepOf ss zero)) (field-here ss false [])
-  field-at ss (suc k) h = field-next ss false [] (suc k) h ∙ ap (λ (f : List ℕ). stepField floor true f (stepOf ss (suc k))) (field-at ss k (omega arith))
+  field-at ss zero h = field-next ss false [] zero h ∙ ap (λ (f : List ℕ). stepField sight floor false f (stepOf ss zero)) (field-here ss false [])
+  field-at ss (suc k) h = field-next ss false [] (suc k) h ∙ ap (λ (f : List ℕ). stepField sight floor true f (stepOf ss (suc k))) (field-at ss k (omega arith))
 
   pub written : (ss : List (List ℕ)) {sheet : List ℕ} → Fits ss sheet → namesTwice ss ≡ false → (k : ℕ) → k < length ss
-      → part (plannedFrom floor ss false [] sheet) (sectorAt ss k)
-      ≡ sectorBytes (costsAt floor ss k) (targetAt floor ss k) (portalAt ss k) (hasBefore k) (builtBefore floor ss k)
+      → part (plannedFrom sight floor ss false [] sheet) (sectorAt ss k)
+      ≡ sectorBytes (costsAt floor ss k) (targetAt sight floor ss k) (portalAt ss k) (hasBefore k) (builtBefore sight floor ss k)
   written ss fits once zero h =
-      written-from ss false [] fits once zero h ∙ ap (λ (f : List ℕ). stepBytes floor false f (stepOf ss zero)) (field-here ss false [])
+      written-from ss false [] fits once zero h ∙ ap (λ (f : List ℕ). stepBytes sight floor false f (stepOf ss zero)) (field-here ss false [])
   written ss fits once (suc k) h =
-      written-from ss false [] fits once (suc k) h ∙ ap (λ (f : List ℕ). stepBytes floor true f (stepOf ss (suc k))) (field-at ss k (omega arith))
+      written-from ss false [] fits once (suc k) h ∙ ap (λ (f : List ℕ). stepBytes sight floor true f (stepOf ss (suc k))) (field-at ss k (omega arith))
 
   -- ---- copied: the parts of one planned sheet make another
 
   abbrev Holds : List (List ℕ) → Bool → List ℕ → List ℕ → Type 0
   Holds ss has previous from =
-      (k : ℕ) → k < length ss → part from (sectorAt ss k) ≡ stepBytes floor (hasFrom has k) (fieldFrom ss has previous k) (stepOf ss k)
+      (k : ℕ) → k < length ss → part from (sectorAt ss k) ≡ stepBytes sight floor (hasFrom has k) (fieldFrom ss has previous k) (stepOf ss k)
 
   holds-on : (s : List ℕ) (ss : List (List ℕ)) (has : Bool) (previous from : List ℕ)
-      → Holds (s ∷ ss) has previous from → Holds ss true (stepField floor has previous s) from
+      → Holds (s ∷ ss) has previous from → Holds ss true (stepField sight floor has previous s) from
   unfolding fieldFrom
   holds-on s ss has previous from h zero l = h 1 (omega arith)
   holds-on s ss has previous from h (suc k) l = h (suc (suc k)) (omega arith)
 
   copied-from : (ss : List (List ℕ)) (has : Bool) (previous from sheet : List ℕ) → Holds ss has previous from
-      → copied ss from sheet ≡ plannedFrom floor ss has previous sheet
+      → copied ss from sheet ≡ plannedFrom sight floor ss has previous sheet
   unfolding copied plannedFrom fieldFrom
   copied-from [] has previous from sheet h = refl
   copied-from (s ∷ ss) has previous from sheet h =
       ap (λ (b : List ℕ). copied ss from (withPart sheet (sectorOf s) b)) (h zero (omega arith))
-      ∙ copied-from ss true (stepField floor has previous s) from (withPart sheet (sectorOf s) (stepBytes floor has previous s))
+      ∙ copied-from ss true (stepField sight floor has previous s) from (withPart sheet (sectorOf s) (stepBytes sight floor has previous s))
       (holds-on s ss has previous from h)
 
   pub copied-planned : (ss : List (List ℕ)) (scratch sheet : List ℕ) → Fits ss scratch → namesTwice ss ≡ false
-      → copied ss (plannedFrom floor ss false [] scratch) sheet ≡ plannedFrom floor ss false [] sheet
-  copied-planned ss scratch sheet fits once = copied-from ss false [] (plannedFrom floor ss false [] scratch) sheet (written-from ss false [] fits once)
+      → copied ss (plannedFrom sight floor ss false [] scratch) sheet ≡ plannedFrom sight floor ss false [] sheet
+  copied-planned ss scratch sheet fits once = copied-from ss false [] (plannedFrom sight floor ss false [] scratch) sheet (written-from ss false [] fits once)
 
   -- its built costs are those of its target
-  pub built-is : (ss : List (List ℕ)) (k : ℕ) → builtAt floor ss k ≡ sectorField (costsAt floor ss k) (targetAt floor ss k) .field
+  pub built-is : (ss : List (List ℕ)) (k : ℕ) → builtAt sight floor ss k ≡ sectorField (costsAt floor ss k) (targetAt sight floor ss k) .field
   unfolding builtAt
   built-is ss zero = refl
   built-is ss (suc k) = refl

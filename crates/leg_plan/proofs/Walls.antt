@@ -20,7 +20,7 @@ use Rattle.route.specs.Target.{StepGoal, StepOnWall}
 use Rattle.route.proofs.Accepted.{accepted-goal}
 use Rattle.route.proofs.Walls.{each-step-on, sixteen-told}
 use Rattle.step_list.specs.Steps.{stepsOf}
-use Rattle.leg_plan.specs.Leg.{part, floorNumber, eachRows, outOfOrder, apart, someClosed, judgedRows, legNumber}
+use Rattle.leg_plan.specs.Leg.{part, floorNumber, eachRows, outOfOrder, apart, someClosed, judgedRows, legNumberBy}
 use Rattle.leg_plan.specs.Walls.{FloorWall, goal-on, window-on, LegOnWall}
 use Rattle.step_list.proofs.Steps.{steps-count, step-of, step-long}
 
@@ -80,14 +80,14 @@ found floor rest [] k h e before = absurd (omega arith)
 found floor rest (s ∷ ss) zero h e before = rw e
 found floor rest (s ∷ ss) (suc k) h e before = rw (before 0 (omega arith)) (found floor rest ss k (omega arith) e (λ j g. before (suc j) (omega arith)))
 
-module _ (floor steps sheet : List ℕ) where
+module _ (sight : Bool) (floor steps sheet : List ℕ) where
   -- what comes below the steps' numbers, none of it 16
   rest : List Row
-  rest = row 9 (outOfOrder (stepsOf steps)) ∷ row 10 (apart (stepsOf steps)) ∷ row 15 (someClosed floor (stepsOf steps)) ∷ []
+  rest = row 9 (outOfOrder (stepsOf steps)) ∷ row 10 (apart (stepsOf steps)) ∷ row 15 (someClosed sight floor (stepsOf steps)) ∷ []
 
   other : firstNumber rest ≡ 16 → ⊥
   unfolding rest
-  other = go (outOfOrder (stepsOf steps)) (apart (stepsOf steps)) (someClosed floor (stepsOf steps))
+  other = go (outOfOrder (stepsOf steps)) (apart (stepsOf steps)) (someClosed sight floor (stepsOf steps))
     where
       go : (a b c : Bool) → _≡_ {A = ℕ} (cond a 9 (cond b 10 (cond c 15 0))) 16 → ⊥
       go true b c e = omega arith
@@ -96,7 +96,7 @@ module _ (floor steps sheet : List ℕ) where
       go false false false e = omega arith
 
   below : firstNumber ((eachRows floor (stepsOf steps) ++ (row 9 (outOfOrder (stepsOf steps)) ∷ row 10 (apart (stepsOf steps)) ∷ []))
-      ++ (row 15 (someClosed floor (stepsOf steps)) ∷ [])) ≡ firstNumber (eachRows floor (stepsOf steps) ++ rest)
+      ++ (row 15 (someClosed sight floor (stepsOf steps)) ∷ [])) ≡ firstNumber (eachRows floor (stepsOf steps) ++ rest)
   unfolding rest
   below = ap firstNumber (append-assoc (eachRows floor (stepsOf steps)) _ _)
 
@@ -105,13 +105,13 @@ module _ (floor steps sheet : List ℕ) where
       let g : k < length steps / 8 = omega (arith, steps-count steps) in
       ap length (step-of steps k g) ∙ step-long steps k g
 
-  pub leg-told : (legNumber floor steps sheet ≡ 16) ↔ LegOnWall floor steps sheet
-  unfolding legNumber judgedRows
+  pub leg-told : (legNumberBy sight floor steps sheet ≡ 16) ↔ LegOnWall floor steps sheet
+  unfolding legNumberBy judgedRows
   leg-told = (to (eqb (length floor) 6400) (eqb (length sheet) 6400) (noStepList steps) refl refl refl, so)
     where
       to : (a b c : Bool) → eqb (length floor) 6400 ≡ a → eqb (length sheet) 6400 ≡ b → noStepList steps ≡ c
           → cond (not a) 1 (cond (not b) 2 (cond c 3 (firstNumber ((eachRows floor (stepsOf steps)
-          ++ (row 9 (outOfOrder (stepsOf steps)) ∷ row 10 (apart (stepsOf steps)) ∷ [])) ++ (row 15 (someClosed floor (stepsOf steps)) ∷ []))))) ≡ 16
+          ++ (row 9 (outOfOrder (stepsOf steps)) ∷ row 10 (apart (stepsOf steps)) ∷ [])) ++ (row 15 (someClosed sight floor (stepsOf steps)) ∷ []))))) ≡ 16
           → LegOnWall floor steps sheet
       to false b c p q r e = absurd (omega arith)
       to true false c p q r e = absurd (omega arith)
@@ -130,7 +130,7 @@ module _ (floor steps sheet : List ℕ) where
             before = f .before;
           }
 
-      so : LegOnWall floor steps sheet → legNumber floor steps sheet ≡ 16
+      so : LegOnWall floor steps sheet → legNumberBy sight floor steps sheet ≡ 16
       so w =
           let here = floor-told floor _ (long (w .place) (w .inside)) .1 (w .taken, w .wall) in
           rw (eq-eqb (length floor) 6400 (w .floor-full), eq-eqb (length sheet) 6400 (w .sheet-full), w .list)

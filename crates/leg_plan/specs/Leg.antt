@@ -64,24 +64,24 @@ abbrev pub apart : List (List ℕ) → Bool
 apart [] = false
 apart (s ∷ ss) = apartFrom s ss
 
--- ---- planning, step after step
+-- ---- planning, step after step; `sight` says whether the first step's goal is planned with the sight of it
 
 -- the built field of a step, on its own sector's costs
-abbrev pub stepField : List ℕ → Bool → List ℕ → List ℕ → List ℕ
-stepField floor has previous step = sectorField (part floor (sectorOf step)) (legTarget has previous step) .field
+abbrev pub stepField : Bool → List ℕ → Bool → List ℕ → List ℕ → List ℕ
+stepField sight floor has previous step = sectorField (part floor (sectorOf step)) (legTarget sight has previous step) .field
 
 -- the bytes of its sector
-abbrev pub stepBytes : List ℕ → Bool → List ℕ → List ℕ → List ℕ
-stepBytes floor has previous step = sectorBytes (part floor (sectorOf step)) (legTarget has previous step) (portalOf step) has previous
+abbrev pub stepBytes : Bool → List ℕ → Bool → List ℕ → List ℕ → List ℕ
+stepBytes sight floor has previous step = sectorBytes (part floor (sectorOf step)) (legTarget sight has previous step) (portalOf step) has previous
 
 -- 15 (02, "Job 2"): a step of the list has a window with no counting cell. `has` and `previous` tell of the step before the list.
-unfoldable pub closedFrom : List ℕ → List (List ℕ) → Bool → List ℕ → Bool
-closedFrom floor [] has previous = false
-closedFrom floor (s ∷ ss) has previous = isClosed (legTarget has previous s) || closedFrom floor ss true (stepField floor has previous s)
+unfoldable pub closedFrom : Bool → List ℕ → List (List ℕ) → Bool → List ℕ → Bool
+closedFrom sight floor [] has previous = false
+closedFrom sight floor (s ∷ ss) has previous = isClosed (legTarget sight has previous s) || closedFrom sight floor ss true (stepField sight floor has previous s)
 
 -- the first step has no previous field
-unfoldable pub someClosed : List ℕ → List (List ℕ) → Bool
-someClosed floor steps = closedFrom floor steps false []
+unfoldable pub someClosed : Bool → List ℕ → List (List ℕ) → Bool
+someClosed sight floor steps = closedFrom sight floor steps false []
 
 -- ---- its number
 
@@ -94,8 +94,8 @@ judgedRows floor steps sheet =
     ∷ (eachRows floor (stepsOf steps) ++ (row 9 (outOfOrder (stepsOf steps)) ∷ row 10 (apart (stepsOf steps)) ∷ []))
 
 -- and 15 after 10
-unfoldable pub legNumber : List ℕ → List ℕ → List ℕ → ℕ
-legNumber floor steps sheet = firstNumber (judgedRows floor steps sheet ++ (row 15 (someClosed floor (stepsOf steps)) ∷ []))
+unfoldable pub legNumberBy : Bool → List ℕ → List ℕ → List ℕ → ℕ
+legNumberBy sight floor steps sheet = firstNumber (judgedRows floor steps sheet ++ (row 15 (someClosed sight floor (stepsOf steps)) ∷ []))
 
 -- ---- the sheet
 
@@ -105,15 +105,22 @@ withPart sheet sector bytes = take (sector * 100) sheet ++ (bytes ++ drop (secto
 
 -- The sheet after these steps: each runs the sector call over its target, the built field of the step before serving as previous field, and
 -- writes its sector's own 100 bytes. `has` and `previous` tell of the step before the list.
-unfoldable pub plannedFrom : List ℕ → List (List ℕ) → Bool → List ℕ → List ℕ → List ℕ
-plannedFrom floor [] has previous sheet = sheet
-plannedFrom floor (s ∷ ss) has previous sheet =
-    plannedFrom floor ss true (stepField floor has previous s) (withPart sheet (sectorOf s) (stepBytes floor has previous s))
+unfoldable pub plannedFrom : Bool → List ℕ → List (List ℕ) → Bool → List ℕ → List ℕ → List ℕ
+plannedFrom sight floor [] has previous sheet = sheet
+plannedFrom sight floor (s ∷ ss) has previous sheet =
+    plannedFrom sight floor ss true (stepField sight floor has previous s) (withPart sheet (sectorOf s) (stepBytes sight floor has previous s))
 
 -- the sheet of a planned leg: the first step has no previous field
-unfoldable pub planned : List ℕ → List (List ℕ) → List ℕ → List ℕ
-planned floor steps sheet = plannedFrom floor steps false [] sheet
+unfoldable pub planned : Bool → List ℕ → List (List ℕ) → List ℕ → List ℕ
+planned sight floor steps sheet = plannedFrom sight floor steps false [] sheet
 
 -- what a leg leaves of the sheet: a refusal writes nothing
+abbrev pub legSheetBy : Bool → List ℕ → List ℕ → List ℕ → List ℕ
+legSheetBy sight floor steps sheet = cond (eqb (legNumberBy sight floor steps sheet) 0) (planned sight floor (stepsOf steps) sheet) sheet
+
+-- the leg of the documents: with the sight of its goal
+abbrev pub legNumber : List ℕ → List ℕ → List ℕ → ℕ
+legNumber floor steps sheet = legNumberBy true floor steps sheet
+
 abbrev pub legSheet : List ℕ → List ℕ → List ℕ → List ℕ
-legSheet floor steps sheet = cond (eqb (legNumber floor steps sheet) 0) (planned floor (stepsOf steps) sheet) sheet
+legSheet floor steps sheet = legSheetBy true floor steps sheet

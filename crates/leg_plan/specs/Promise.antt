@@ -34,10 +34,11 @@ module _ (floor : List ℕ) (steps : List (List ℕ)) where
   abbrev pub costsAt : ℕ → List ℕ
   costsAt k = part floor (sectorAt steps k)
 
+module _ (sight : Bool) (floor : List ℕ) (steps : List (List ℕ)) where
   -- its sector's built costs: those that the sector call's definition gives, the counting cells alone being its window cells
   unfoldable pub builtAt : ℕ → List ℕ
-  builtAt zero = sectorField (costsAt zero) (legTarget false [] (stepOf steps zero)) .field
-  builtAt (suc k) = sectorField (costsAt (suc k)) (legTarget true (builtAt k) (stepOf steps (suc k))) .field
+  builtAt zero = sectorField (costsAt floor steps zero) (legTarget sight false [] (stepOf steps zero)) .field
+  builtAt (suc k) = sectorField (costsAt floor steps (suc k)) (legTarget sight true (builtAt k) (stepOf steps (suc k))) .field
 
   -- the built field of the step before; none for the first
   abbrev pub builtBefore : ℕ → List ℕ
@@ -46,17 +47,21 @@ module _ (floor : List ℕ) (steps : List (List ℕ)) where
 
   -- its target: the goal, or the window cells that count
   abbrev pub targetAt : ℕ → Target
-  targetAt k = legTarget (hasBefore k) (builtBefore k) (stepOf steps k)
+  targetAt k = legTarget sight (hasBefore k) (builtBefore k) (stepOf steps k)
 
   -- `before` and `after` are the sheet at entry and at exit
-  pub record LegPlanned (before after : List ℕ) : Type 0 where
+  pub record LegPlannedBy (before after : List ℕ) : Type 0 where
     -- each named sector's 100 bytes are what the sector call's definition gives for that sector's costs, that step's target and window, and as
     -- previous field the built field that the definition gives for the step before (none for the first)
     pub written : (k : ℕ) → k < length steps
-        → part after (sectorAt steps k) ≡ sectorBytes (costsAt k) (targetAt k) (portalAt steps k) (hasBefore k) (builtBefore k)
+        → part after (sectorAt steps k) ≡ sectorBytes (costsAt floor steps k) (targetAt k) (portalAt steps k) (hasBefore k) (builtBefore k)
     -- every other byte is as it was
     pub kept : (sector : ℕ) → names sector steps ≡ false → part after sector ≡ part before sector
     pub same-length : length after ≡ length before
     -- demand 3, and arrows clear of walls (02, Job 7), for every sector that is written
     pub demand3 : (k : ℕ) → k < length steps
-        → Planned (costsAt k) (targetAt k) (builtAt k) (waveCount (costsAt k) (started (costsAt k) (targetAt k))) (part after (sectorAt steps k))
+        → Planned (costsAt floor steps k) (targetAt k) (builtAt k) (waveCount (costsAt floor steps k) (started (costsAt floor steps k) (targetAt k))) (part after (sectorAt steps k))
+
+-- of the leg of the documents, with the sight of its goal
+abbrev pub LegPlanned : List ℕ → List (List ℕ) → List ℕ → List ℕ → Type 0
+LegPlanned floor steps before after = LegPlannedBy true floor steps before after

@@ -74,7 +74,7 @@ module _ (sheet : List ℕ) where
       on-floor : goalIn < 64
       cell : ℕ
       cell-in : cell < 100
-      reached : Reached (builtAt floor steps 0) cell
+      reached : Reached (builtAt true floor steps 0) cell
       walk : FloorWalk sheet n p (placeOf goalIn cell)
 
     further-in : {n : ℕ} {p q : Place} → FloorMove sheet p q → Entered n q → Entered (suc n) p
@@ -83,8 +83,8 @@ module _ (sheet : List ℕ) where
     landed : {p q : Place} → FloorMove sheet p q → OnFloor q
     landed f = record { row-on = f .row-on; column-on = f .column-on }
 
-    entered : {n k : ℕ} {p : Place} → Journey floor steps sheet n k p → (k ≡ zero → OnFloor p) → Entered n p
-    entered {p = p} (ends r) on =
+    entered : {n k : ℕ} {p : Place} → Journey true floor steps sheet n k p → (k ≡ zero → OnFloor p) → Entered n p
+    entered {p = p} (ends r a) on =
         let o = on refl in
         let at : p ≡ placeOf goalIn (cellIn p) = whole-place p o ∙ ap (λ (s : ℕ). placeOf s (cellIn p)) (r .in-sector) in
         record {

@@ -9,7 +9,7 @@ use lib.ListN.{length, getD}
 use Rattle.route.specs.declared.PortalWindow.{PortalWindow}
 use Rattle.route.specs.Target.{Target}
 use Rattle.arrows.specs.Arrows.{Reached}
-use Rattle.arrows.specs.Promise.{WindowSector, builtCells}
+use Rattle.arrows.specs.Promise.{WindowSector, SightlessSector, builtCells}
 use Rattle.sector.specs.Sector.{sectorBytes}
 use Rattle.leg_plan.specs.Leg.{part}
 use Rattle.leg_plan.specs.Promise.{sectorAt, builtAt}
@@ -17,11 +17,17 @@ use Rattle.journey.specs.Place.{Place, placeOf, FloorMove}
 use Rattle.journey.specs.Journey.{NoZero, LegArrives}
 use Rattle.arrivals.specs.Following.{isArrival, Comes}
 
--- Where the sheet is what the sector call's definition gives for a sector left by a window, with no cost 0, no reached cell holds 255: its arrows
--- arrive in at most 99 moves.
-pub record WindowArrives (bytes moves : List ℕ) : Type 0 where
-  pub arrives : (costs : List ℕ) (target : Target) (portal : PortalWindow) (has : Bool) (previous : List ℕ) → WindowSector costs target
+-- Where the sheet is what the sector call's definition gives for a sector of some kind, no reached cell holds 255: its arrows arrive in at most 99 moves.
+pub record SectorArrives (Kind : List ℕ → Target → Type 0) (bytes moves : List ℕ) : Type 0 where
+  pub arrives : (costs : List ℕ) (target : Target) (portal : PortalWindow) (has : Bool) (previous : List ℕ) → Kind costs target
       → bytes ≡ sectorBytes costs target portal has previous → (x : ℕ) → x < 100 → Reached (builtCells costs target) x → getD moves x 0 ≤ 99
+
+-- of a sector left by a window, with no cost 0; and of one planned without sight, with the goal in it too, with no cost 0
+abbrev pub WindowArrives : List ℕ → List ℕ → Type 0
+WindowArrives = SectorArrives WindowSector
+
+abbrev pub SightlessArrives : List ℕ → List ℕ → Type 0
+SightlessArrives = SectorArrives SightlessSector
 
 -- so many moves by the arrows of a floor's sheet, from place to place, crossings counted
 pub data FloorWalk (sheet : List ℕ) : ℕ → Place → Place → Type 0 where
@@ -46,7 +52,7 @@ module _ (floor : List ℕ) (steps : List (List ℕ)) (sheet : List ℕ) where
     pub few : crossed ≤ 1500
     pub entry : ℕ
     pub inside : entry < 100
-    pub reached : Reached (builtAt floor steps 0) entry
+    pub reached : Reached (builtAt true floor steps 0) entry
     pub walk : FloorWalk sheet crossed p (placeOf goalSector entry)
     -- a number below 255 in the cell where the cart comes in: after so many moves more it has arrived
     pub arrives : (n : ℕ) → n < 255 → getD moves entry 0 ≡ n → StandsThere (crossed + n) p
@@ -57,5 +63,5 @@ module _ (floor : List ℕ) (steps : List (List ℕ)) (sheet : List ℕ) where
 -- tells the whole way, from every reached cell of every other sector of the leg, with no cost 0 in the sectors that are walked through.
 pub record LegTold (bytes moves : List ℕ) : Type 0 where
   pub whole-way : (floor : List ℕ) (steps : List (List ℕ)) (sheet : List ℕ) → LegArrives floor steps sheet → bytes ≡ part sheet (sectorAt steps 0)
-      → (k : ℕ) → 1 ≤ k → k < length steps → NoZero floor steps k → (x : ℕ) → x < 100 → Reached (builtAt floor steps k) x
+      → (k : ℕ) → 1 ≤ k → k < length steps → NoZero floor steps k → (x : ℕ) → x < 100 → Reached (builtAt true floor steps k) x
       → WholeWay floor steps sheet moves (placeOf (sectorAt steps k) x)

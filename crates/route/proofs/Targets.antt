@@ -6,12 +6,13 @@
 --     goal-told, window-told        and its cells are those that the step's bytes say by rows and columns
 --     held-listed, listed-held      in the program: what a target becomes there stands for that target
 --     made-target .. made-held      and what a step's target becomes there
+--     listed-sight .. goal-end      with sight or without
 --     held-in .. held-inside        what the program holds stands for one inside the sector, cell by cell
 -- Assumes nothing.
 use mathlib.Core.Path.{_≡_, refl, sym, ap, subst, _∙_}
 use mathlib.Core.Bool.{Bool, true, false, true≢false}
-use mathlib.Core.Logic.{_↔_}
-use mathlib.Core.List.{List, [], _∷_, List·Memᴰ, List·Memᴰ·head, List·Memᴰ·tail, List·Memᴰ·not-nil}
+use mathlib.Core.Logic.{_↔_, ⊎-elim}
+use mathlib.Core.List.{List, [], _∷_, List·Memᴰ, List·Memᴰ·head, List·Memᴰ·tail, List·Memᴰ·cases-cons, List·Memᴰ·not-nil}
 use Prim.Native.Nat.{ℕ, zero, suc, _/_, _%_, _<_}
 use native.Mathlib.Omega.{arith}
 use lib.ListN.{length, getD}
@@ -28,9 +29,14 @@ use Rattle.route.specs.Target.{
   Target,
   to-goal,
   to-window,
+  to-corner,
+  isSightless,
+  withoutSight,
+  bySight,
   windowOf,
   GoalCell,
   WindowCell,
+  EndCell,
   WindowIn,
   TargetIn,
   targetOf,
@@ -42,7 +48,7 @@ use Rattle.route.specs.Target.{
   west,
   StepWindow,
 }
-use Rattle.route.specs.Inner.{routeTarget, listedTarget, heldCells, heldTarget, WindowHeld, TargetHeld}
+use Rattle.route.specs.Inner.{routeTarget, listedTarget, unsighted, sightedBy, heldCells, heldTarget, WindowHeld, TargetHeld}
 use Rattle.route.proofs.Accepted.{Window, accepted-step, accepted-goal, accepted-window}
 use Rattle.route.proofs.Cells.{cells-in}
 use Rattle.route.proofs.Windows.{window-at, window-all}
@@ -136,10 +142,51 @@ cells-listed cells = take-append-seam cells _
 pub held-listed : (target : Target) → heldTarget (listedTarget target) ≡ target
 held-listed (to-goal n) = refl
 held-listed (to-window cells) = ap to-window (cells-listed cells)
+held-listed (to-corner n) = refl
+
+listed-without : (target : Target) → unsighted (listedTarget target) ≡ listedTarget (withoutSight target)
+listed-without (to-goal n) = refl
+listed-without (to-window cells) = refl
+listed-without (to-corner n) = refl
+
+pub listed-sight : (sight : Bool) (target : Target) → sightedBy sight (listedTarget target) ≡ listedTarget (bySight sight target)
+listed-sight true target = refl
+listed-sight false target = listed-without target
+
+without-in : (target : Target) → TargetIn target → TargetIn (withoutSight target)
+without-in (to-goal n) h = h
+without-in (to-window cells) h = h
+without-in (to-corner n) h = h
+
+pub sight-in : (sight : Bool) (target : Target) → TargetIn target → TargetIn (bySight sight target)
+sight-in true target h = h
+sight-in false target h = without-in target h
+
+without-window : (target : Target) → windowOf (withoutSight target) ≡ windowOf target
+without-window (to-goal n) = refl
+without-window (to-window cells) = refl
+without-window (to-corner n) = refl
+
+pub sight-window : (sight : Bool) (target : Target) → windowOf (bySight sight target) ≡ windowOf target
+sight-window true target = refl
+sight-window false target = without-window target
+
+pub without-sightless : (target : Target) → isSightless (withoutSight target) ≡ true
+without-sightless (to-goal n) = refl
+without-sightless (to-window cells) = refl
+without-sightless (to-corner n) = refl
+
+-- where arrows end without sight, with a goal: in the goal alone
+pub goal-end : (step : List ℕ) → isWindow step ≡ false → (x : ℕ) → EndCell (withoutSight (targetOf step)) x ↔ (x ≡ goalOf step)
+goal-end step e x = rw (target-goal step e) (
+  λ m. ⊎-elim (λ q. q) (λ n. absurd (List·Memᴰ·not-nil n)) (List·Memᴰ·cases-cons m),
+  λ q. List·Memᴰ·head q,
+)
 
 listed-window : (target : Target) → heldCells (listedTarget target .window) ≡ windowOf target
 listed-window (to-goal n) = refl
 listed-window (to-window cells) = cells-listed cells
+listed-window (to-corner n) = refl
 
 window-listed : (cells : List ℕ) → WindowIn cells → WindowHeld (listed cells)
 window-listed cells w = record {
@@ -154,13 +201,15 @@ none-in = record { inside = λ i h. absurd (omega arith); once = λ i j h k q. o
 pub listed-held : (target : Target) → TargetIn target → TargetHeld (listedTarget target)
 listed-held (to-goal n) h = record { window-held = window-listed [] none-in; goal-in = λ e. h; no-window = λ e. refl }
 listed-held (to-window cells) w = record { window-held = window-listed cells w; goal-in = λ e. absurd (true≢false e); no-window = λ e. absurd (true≢false e) }
+listed-held (to-corner n) h = record { window-held = window-listed [] none-in; goal-in = λ e. h; no-window = λ e. refl }
 
 pub held-in : (t : program.Target) → TargetHeld t → TargetIn (heldTarget t)
-held-in t h = go (t .«has_window») refl
+held-in t h = go (t .«has_window») (t .sight) refl refl
   where
-    go : (b : Bool) → t .«has_window» ≡ b → TargetIn (heldTarget t)
-    go true e = rw e (h .window-held .window-in)
-    go false e = rw e (h .goal-in e)
+    go : (b s : Bool) → t .«has_window» ≡ b → t .sight ≡ s → TargetIn (heldTarget t)
+    go true s e q = rw e (h .window-held .window-in)
+    go false true e q = rw (e, q) (h .goal-in e)
+    go false false e q = rw (e, q) (h .goal-in e)
 
 -- as it is made of a step
 module _ (step : List ℕ) (s : RouteStep) (t : program.Target) (apart : s ≡ routeStep step) (made : t ≡ listedTarget (routeTarget s)) where
@@ -171,6 +220,17 @@ module _ (step : List ℕ) (s : RouteStep) (t : program.Target) (apart : s ≡ r
   pub made-target : heldTarget t ≡ targetOf step
   made-target = ap heldTarget is ∙ held-listed (targetOf step)
 
+  -- with sight or without
+  module _ (sight : Bool) (u : program.Target) (seen : u ≡ sightedBy sight t) where
+    seen-is : u ≡ listedTarget (bySight sight (targetOf step))
+    seen-is = seen ∙ ap (sightedBy sight) is ∙ listed-sight sight (targetOf step)
+
+    pub seen-target : heldTarget u ≡ bySight sight (targetOf step)
+    seen-target = ap heldTarget seen-is ∙ held-listed (bySight sight (targetOf step))
+
+    pub seen-held : stepNumber step ≡ 0 → TargetHeld u
+    seen-held good = subst TargetHeld (sym seen-is) (listed-held (bySight sight (targetOf step)) (sight-in sight (targetOf step) (target-in step good)))
+
   pub made-window : heldCells (t .window) ≡ windowOf (targetOf step)
   made-window = ap (λ (u : program.Target). heldCells (u .window)) is ∙ listed-window (targetOf step)
 
@@ -179,11 +239,12 @@ module _ (step : List ℕ) (s : RouteStep) (t : program.Target) (apart : s ≡ r
 
 -- the window cells of what it stands for are those that it holds
 pub held-window : (t : program.Target) → TargetHeld t → windowOf (heldTarget t) ≡ heldCells (t .window)
-held-window t h = go (t .«has_window») refl
+held-window t h = go (t .«has_window») (t .sight) refl refl
   where
-    go : (b : Bool) → t .«has_window» ≡ b → windowOf (heldTarget t) ≡ heldCells (t .window)
-    go true e = rw e
-    go false e = rw (e, h .no-window e)
+    go : (b s : Bool) → t .«has_window» ≡ b → t .sight ≡ s → windowOf (heldTarget t) ≡ heldCells (t .window)
+    go true s e q = rw e
+    go false true e q = rw (e, q, h .no-window e)
+    go false false e q = rw (e, q, h .no-window e)
 
 module _ (w : WindowCells) (h : WindowHeld w) where
   pub held-length : length (heldCells w) ≡ w .count

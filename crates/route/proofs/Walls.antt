@@ -33,7 +33,7 @@ use Rattle.route.specs.Step.{
   eachStepOn,
   stepNumberOn,
 }
-use Rattle.route.specs.Target.{Target, to-goal, to-window, GoalCell, WindowCell, targetOf, StepOnWall, goal-on, window-on}
+use Rattle.route.specs.Target.{Target, to-goal, to-window, to-corner, GoalCell, WindowCell, targetOf, StepOnWall, goal-on, window-on}
 use Rattle.route.specs.Inner.{isWallTarget}
 use Rattle.route.proofs.Accepted.{accepted-step}
 use Rattle.route.proofs.Targets.{target-goal, target-window, goal-told, window-told}
@@ -116,14 +116,17 @@ module _ (costs : List ℕ) where
       → ((x : ℕ) → WindowCell t x → getD costs x 0 ≡ 255 → A) → A
   wall-at (to-goal n) e g w = g n refl (eqb-true (getD costs n 0) 255 e)
   wall-at (to-window cells) e g w = some-at cells e w
+  wall-at (to-corner n) e g w = g n refl (eqb-true (getD costs n 0) 255 e)
 
   goal-wall : (t : Target) (x : ℕ) → GoalCell t x → getD costs x 0 ≡ 255 → isWallTarget costs t ≡ true
   goal-wall (to-goal n) x q e = eq-eqb (getD costs n 0) 255 (rw (← q) e)
   goal-wall (to-window cells) x q e = absurd q
+  goal-wall (to-corner n) x q e = eq-eqb (getD costs n 0) 255 (rw (← q) e)
 
   window-wall : (t : Target) (x : ℕ) → WindowCell t x → getD costs x 0 ≡ 255 → isWallTarget costs t ≡ true
   window-wall (to-goal n) x m e = absurd (List·Memᴰ·not-nil m)
   window-wall (to-window cells) x m e = at-some cells x m e
+  window-wall (to-corner n) x m e = absurd (List·Memᴰ·not-nil m)
 
 module _ (costs s : List ℕ) where
   pub wall-target : stepNumber s ≡ 0 → targetsWall costs s ≡ isWallTarget costs (targetOf s)

@@ -10,7 +10,7 @@ use Rattle.route.specs.declared.WindowCells.{WindowCells}
 use Rattle.route.specs.declared.Target as program
 use Rattle.route.specs.Window.{cellsBetween, listed}
 use Rattle.route.specs.Step.{isWallCost, someWallCost}
-use Rattle.route.specs.Target.{Target, to-goal, to-window, WindowIn}
+use Rattle.route.specs.Target.{Target, to-goal, to-window, to-corner, WindowIn}
 
 -- the target of a step taken apart
 abbrev pub routeTarget : RouteStep → Target
@@ -18,20 +18,30 @@ routeTarget s = cond (s .«has_portal») (to-window (cellsBetween (s .portal .bo
 
 -- a target in the program: window cells in an array, with their count
 abbrev pub listedTarget : Target → program.Target
-listedTarget (to-goal n) = record { «has_window» = false; goal = n; window = listed [] }
-listedTarget (to-window cells) = record { «has_window» = true; goal = 0; window = listed cells }
+listedTarget (to-goal n) = record { «has_window» = false; sight = true; goal = n; window = listed [] }
+listedTarget (to-window cells) = record { «has_window» = true; sight = true; goal = 0; window = listed cells }
+listedTarget (to-corner n) = record { «has_window» = false; sight = false; goal = n; window = listed [] }
+
+-- the same without sight: of a window nothing changes
+abbrev pub unsighted : program.Target → program.Target
+unsighted t = record { «has_window» = t .«has_window»; sight = t .«has_window»; goal = t .goal; window = t .window }
+
+abbrev pub sightedBy : Bool → program.Target → program.Target
+sightedBy true t = t
+sightedBy false t = unsighted t
 
 -- and what it stands for
 abbrev pub heldCells : WindowCells → List ℕ
 heldCells w = take (w .count) (w .cells)
 
 abbrev pub heldTarget : program.Target → Target
-heldTarget t = cond (t .«has_window») (to-window (heldCells (t .window))) (to-goal (t .goal))
+heldTarget t = cond (t .«has_window») (to-window (heldCells (t .window))) (cond (t .sight) (to-goal (t .goal)) (to-corner (t .goal)))
 
 -- number 16's condition, by the target
 abbrev pub isWallTarget : List ℕ → Target → Bool
 isWallTarget costs (to-goal n) = isWallCost costs n
 isWallTarget costs (to-window cells) = someWallCost costs cells
+isWallTarget costs (to-corner n) = isWallCost costs n
 
 -- it stands for a target inside the sector
 pub record WindowHeld (w : WindowCells) : Type 0 where

@@ -1,35 +1,65 @@
--- A target: the goal cell, or the window cells, that a sector's field starts from (01, "Integration: init"). Starting, walks, arrows and flow
+-- A target: the goal cell, or the window cells, that a sector's field starts from (01, "Integration: init"); or the goal as the one listed corner. Starting, walks, arrows and flow
 -- bytes are told by it, and a step by its target.
 -- Assumes nothing.
 use mathlib.Core.Path.{_≡_}
 use mathlib.Core.Bool.{Bool, true, false, cond}
-use mathlib.Core.List.{List, [], List·Memᴰ}
+use mathlib.Core.List.{List, [], _∷_, List·Memᴰ}
 use Prim.Native.Nat.{ℕ, _/_, _%_, _<_, _≤_}
 use lib.ListN.{length, getD}
 use Rattle.route.specs.Step.{goalOf, markOf, firstOf, lastOf, boundaryByte, isWindow, windowCells}
 
--- a goal cell; or window cells in order, which need not lie side by side
+-- a goal cell; or window cells in order, which need not lie side by side; or a goal cell without sight, which is listed as the one corner
 pub data Target : Type 0 where
   to-goal : ℕ → Target
   to-window : List ℕ → Target
+  to-corner : ℕ → Target
 
 -- the window cells; beside a goal there are none
 abbrev pub windowOf : Target → List ℕ
 windowOf (to-goal n) = []
 windowOf (to-window cells) = cells
+windowOf (to-corner n) = []
 
 -- the sector is left by a window
 abbrev pub byWindow : Target → Bool
 byWindow (to-goal n) = false
 byWindow (to-window cells) = true
+byWindow (to-corner n) = false
 
 -- a cell is the goal; a cell is a window cell
 abbrev pub GoalCell : Target → ℕ → Type 0
 GoalCell (to-goal n) x = x ≡ n
 GoalCell (to-window cells) x = ⊥
+GoalCell (to-corner n) x = x ≡ n
 
 abbrev pub WindowCell : Target → ℕ → Type 0
 WindowCell target x = List·Memᴰ x (windowOf target)
+
+-- the cells that arrows lead to, where they are promised to lead: the window's; without sight the goal; with sight none is promised
+abbrev pub endsOf : Target → List ℕ
+endsOf (to-goal n) = []
+endsOf (to-window cells) = cells
+endsOf (to-corner n) = n ∷ []
+
+abbrev pub EndCell : Target → ℕ → Type 0
+EndCell target x = List·Memᴰ x (endsOf target)
+
+-- no sight is spread from it: a window, or a goal without sight
+abbrev pub isSightless : Target → Bool
+isSightless (to-goal n) = false
+isSightless (to-window cells) = true
+isSightless (to-corner n) = true
+
+-- the same target without sight: a goal is listed as the one corner, a window stays
+abbrev pub withoutSight : Target → Target
+withoutSight (to-goal n) = to-corner n
+withoutSight (to-window cells) = to-window cells
+withoutSight (to-corner n) = to-corner n
+
+-- with the sight of a goal, or without
+abbrev pub bySight : Bool → Target → Target
+bySight true target = target
+bySight false target = withoutSight target
 
 -- cells of the sector, no cell twice, at most 10
 pub record WindowIn (cells : List ℕ) : Type 0 where
@@ -41,6 +71,7 @@ pub record WindowIn (cells : List ℕ) : Type 0 where
 abbrev pub TargetIn : Target → Type 0
 TargetIn (to-goal n) = n < 100
 TargetIn (to-window cells) = WindowIn cells
+TargetIn (to-corner n) = n < 100
 
 -- a step's target (01, "A leg"): with mark 1 the cells of its window, else its goal
 unfoldable pub targetOf : List ℕ → Target

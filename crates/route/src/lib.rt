@@ -6,7 +6,7 @@ ghost use Prim.Native.Nat.{_+_, _*_, _%_, _<_};
 ghost use lib.ListN.{length, getD};
 ghost use Rattle.route.specs.Window.{edge, stride, between, cellsBetween, listed, facing};
 ghost use Rattle.route.specs.Step.{routeStep};
-ghost use Rattle.route.specs.Inner.{routeTarget, listedTarget};
+ghost use Rattle.route.specs.Inner.{routeTarget, listedTarget, unsighted, sightedBy};
 
 // The start and end index of a portal, and the side of the sector that it sits on.
 pub struct PortalWindow {
@@ -30,9 +30,10 @@ pub struct WindowCells {
     pub count: usize,
 }
 
-// What a sector's field starts from: the cells of a window, or the goal cell. Beside a goal there are no window cells.
+// What a sector's field starts from: the cells of a window, or the goal cell, with the sight of it or without. Beside a goal there are no window cells.
 pub struct Target {
     pub has_window: bool,
+    pub sight: bool,
     pub goal: usize,
     pub window: WindowCells,
 }
@@ -131,6 +132,7 @@ impl RouteStep {
             let window = portal.get_all_window_cells();
             return Target {
                 has_window,
+                sight: true,
                 goal: 0,
                 window,
             };
@@ -141,9 +143,37 @@ impl RouteStep {
         };
         Target {
             has_window,
+            sight: true,
             goal: self.goal,
             window,
         }
+    }
+}
+
+impl Target {
+    // This target without sight: a goal is to be the one listed corner; of a window nothing changes.
+    fn without_sight(self) -> Target
+        ensures { λ r. ⌜ r ≡ unsighted self ⌝ }
+    {
+        let has_window = self.has_window;
+        let goal = self.goal;
+        let window = self.window;
+        Target {
+            has_window,
+            sight: has_window,
+            goal,
+            window,
+        }
+    }
+
+    // The target with the sight of a goal, or without.
+    pub fn by_sight(self, sight: bool) -> Target
+        ensures { λ r. ⌜ r ≡ sightedBy sight self ⌝ }
+    {
+        if sight {
+            return self;
+        }
+        self.without_sight()
     }
 }
 

@@ -9,7 +9,7 @@ use lib.ListN.{length}
 use Rattle.route.specs.Table.{row, firstNumber}
 use Rattle.route.specs.declared.PortalWindow.{PortalWindow}
 use Rattle.route.specs.Step.{isWindow, portalOf, stepNumberOn}
-use Rattle.route.specs.Target.{Target, windowOf, targetOf}
+use Rattle.route.specs.Target.{Target, windowOf, bySight, targetOf}
 use Rattle.integration_field.specs.declared.IntegrationField.{IntegrationField}
 use Rattle.integration_field.specs.declared.BuildAnswer.{BuildAnswer}
 use Rattle.integration_field.specs.Built.{builtField}
@@ -52,3 +52,13 @@ sectorAnswer costs step has previous sheet = answerOf (sectorNumber costs step h
 abbrev pub sectorSheet : List ℕ → List ℕ → Bool → List ℕ → List ℕ → List ℕ
 sectorSheet costs step has previous sheet =
     cond (eqb (sectorNumber costs step has previous sheet) 0) (sectorBytes costs (targetOf step) (portalOf step) has previous) sheet
+
+-- ---- with the sight of a goal, or without: its number is the same, since no field decides it
+
+abbrev pub sectorAnswerBy : Bool → List ℕ → List ℕ → Bool → List ℕ → List ℕ → BuildAnswer
+sectorAnswerBy sight costs step has previous sheet =
+    answerOf (sectorNumber costs step has previous sheet) costs (started costs (bySight sight (targetOf step)))
+
+abbrev pub sectorSheetBy : Bool → List ℕ → List ℕ → Bool → List ℕ → List ℕ → List ℕ
+sectorSheetBy sight costs step has previous sheet =
+    cond (eqb (sectorNumber costs step has previous sheet) 0) (sectorBytes costs (bySight sight (targetOf step)) (portalOf step) has previous) sheet

@@ -4,18 +4,20 @@ use route::PortalWindow;
 use route::RouteStep;
 use route::Target;
 ghost use mathlib.Core.Path.{_≡_};
+ghost use mathlib.Core.Bool.{true, false};
 ghost use mathlib.Core.List.{List};
 ghost use Prim.Native.Nat.{ℕ};
 ghost use lib.ListN.{length};
-ghost use Rattle.route.specs.Target.{targetOf};
+ghost use Rattle.route.specs.Step.{isWindow};
+ghost use Rattle.route.specs.Target.{targetOf, withoutSight, bySight};
 ghost use Rattle.route.specs.Inner.{heldTarget};
 ghost use Rattle.integration_field.specs.Answer.{answerOf};
 ghost use Rattle.started_field.specs.Started.{started};
 ghost use Rattle.least_walks.specs.Promise.{StartedPositions};
 ghost use Rattle.arrows.specs.Promise.{builtCells};
-ghost use Rattle.sector.specs.Sector.{lacksPrevious, sectorNumber, sectorBytes, sectorAnswer, sectorSheet};
+ghost use Rattle.sector.specs.Sector.{lacksPrevious, sectorNumber, sectorBytes, sectorAnswer, sectorSheet, sectorAnswerBy, sectorSheetBy};
 ghost use Rattle.sector.specs.Inner.{RunReady};
-ghost use Rattle.sector.specs.Promise.{Planned};
+ghost use Rattle.sector.specs.Promise.{Planned, PlannedWithout};
 
 // Number 17's condition: a window without a previous field.
 fn lacks_previous(step: &[u8], has_previous: bool) -> bool
@@ -101,6 +103,40 @@ pub fn run_cells(
     cells
 }
 
+// The sector call, with the sight of a goal or without: a refused one writes nothing.
+fn plan_by_sight(
+    costs: &[u8],
+    step: &[u8],
+    sight: bool,
+    has_previous: bool,
+    previous: &[u32],
+    sheet: &mut [u8],
+) -> BuildAnswer
+    ensures answer { λ r. ⌜ r ≡ sectorAnswerBy sight (now (costs .entry)) (now (step .entry)) «has_previous» (now (previous .entry)) (now (sheet .entry)) ⌝ }
+    ensures sheet { λ _. ⌜ now (sheet .exit)
+        ≡ sectorSheetBy sight (now (costs .entry)) (now (step .entry)) «has_previous» (now (previous .entry)) (now (sheet .entry)) ⌝ }
+    ensures planned { λ r. ⌜ (r .number ≡ 0
+        → Planned (now (costs .entry)) (bySight sight (targetOf (now (step .entry)))) (r .field .field) (r .waves) (now (sheet .exit))) ⌝ }
+    ensures positions { λ r. ⌜ (r .number ≡ 0
+        → StartedPositions (now (costs .entry)) (bySight sight (targetOf (now (step .entry)))) (r .field .field) (r .field .positions)) ⌝ }
+{
+    let number = sector_number(costs, step, has_previous, previous, sheet.len());
+    if number != 0 {
+        return integration_field::refused(number);
+    }
+    let route_step = RouteStep::new(step);
+    let whole = route_step.as_target();
+    let target = whole.by_sight(sight);
+    run(
+        costs,
+        target,
+        route_step.portal,
+        has_previous,
+        previous,
+        sheet,
+    )
+}
+
 // The sector call: a refused one writes nothing.
 pub fn plan_sector(
     costs: &[u8],
@@ -116,18 +152,30 @@ pub fn plan_sector(
     ensures positions { λ r. ⌜ (r .number ≡ 0
         → StartedPositions (now (costs .entry)) (targetOf (now (step .entry))) (r .field .field) (r .field .positions)) ⌝ }
 {
-    let number = sector_number(costs, step, has_previous, previous, sheet.len());
-    if number != 0 {
-        return integration_field::refused(number);
-    }
-    let route_step = RouteStep::new(step);
-    let target = route_step.as_target();
-    run(
-        costs,
-        target,
-        route_step.portal,
-        has_previous,
-        previous,
-        sheet,
-    )
+    plan_by_sight(costs, step, true, has_previous, previous, sheet)
+}
+
+// The sector call without sight: a goal is the one listed corner, so that every arrow leads to it; a step with a window is planned as it is with
+// sight. A refused call writes nothing.
+pub fn plan_sector_without_sight(
+    costs: &[u8],
+    step: &[u8],
+    has_previous: bool,
+    previous: &[u32],
+    sheet: &mut [u8],
+) -> BuildAnswer
+    ensures answer { λ r. ⌜ r
+        ≡ sectorAnswerBy false (now (costs .entry)) (now (step .entry)) «has_previous» (now (previous .entry)) (now (sheet .entry)) ⌝ }
+    ensures sheet { λ _. ⌜ now (sheet .exit)
+        ≡ sectorSheetBy false (now (costs .entry)) (now (step .entry)) «has_previous» (now (previous .entry)) (now (sheet .entry)) ⌝ }
+    ensures planned { λ r. ⌜ (r .number ≡ 0
+        → Planned (now (costs .entry)) (withoutSight (targetOf (now (step .entry)))) (r .field .field) (r .waves) (now (sheet .exit))) ⌝ }
+    ensures positions { λ r. ⌜ (r .number ≡ 0
+        → StartedPositions (now (costs .entry)) (withoutSight (targetOf (now (step .entry)))) (r .field .field) (r .field .positions)) ⌝ }
+    ensures without { λ r. ⌜ (r .number ≡ 0 → PlannedWithout (now (costs .entry)) (now (step .entry)) (r .field) (now (sheet .exit))) ⌝ }
+    ensures window { λ r. ⌜ (isWindow (now (step .entry)) ≡ true
+        → (r ≡ sectorAnswer (now (costs .entry)) (now (step .entry)) «has_previous» (now (previous .entry)) (now (sheet .entry)))
+        × (now (sheet .exit) ≡ sectorSheet (now (costs .entry)) (now (step .entry)) «has_previous» (now (previous .entry)) (now (sheet .entry)))) ⌝ }
+{
+    plan_by_sight(costs, step, false, has_previous, previous, sheet)
 }

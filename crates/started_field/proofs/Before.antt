@@ -3,6 +3,7 @@
 --     chosen-word, wall-word, other-word    its word, by what it is
 --     only-wall                             only walls have the flag
 --     fails                                 a flag that none of the three words has
+--     only-chosen                           a flag that neither of the other two has
 -- Assumes nothing.
 use mathlib.Core.Path.{_≡_, refl, sym, ap, _∙_}
 use mathlib.Core.Bool.{Bool, true, false, cond, true≢false}
@@ -60,3 +61,8 @@ module _ (costs : List ℕ) (Chosen : ℕ → Type 0) (word : ℕ) where
   fails f p q r i x (chosen _ e) = ap f e ∙ p
   fails f p q r i x (a-wall _ _ e) = ap f e ∙ q
   fails f p q r i x (an-other _ _ e) = ap f e ∙ r
+
+  pub only-chosen : (f : ℕ → Bool) → f 0x200FFFF ≡ false → f 65535 ≡ false → (i x : ℕ) → Before i x → f x ≡ true → Chosen i
+  only-chosen f q r i x (chosen c e) t = c
+  only-chosen f q r i x (a-wall _ _ e) t = absurd (true≢false (sym t ∙ ap f e ∙ q))
+  only-chosen f q r i x (an-other _ _ e) t = absurd (true≢false (sym t ∙ ap f e ∙ r))

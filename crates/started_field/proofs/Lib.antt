@@ -9,5 +9,6 @@ pub mod FirstWave
 pub mod Waves
 pub mod Whole
 pub mod Window
+pub mod Corner
 pub mod Lines
 pub mod Started

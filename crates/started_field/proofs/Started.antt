@@ -6,14 +6,14 @@
 -- Assumes nothing.
 use mathlib.Core.Path.{_≡_, refl, sym, _∙_, ap}
 use mathlib.Core.Bool.{Bool, true, false, cond, not, true≢false}
-use mathlib.Core.List.{List}
+use mathlib.Core.List.{List, [], _∷_}
 use Prim.Native.Nat.{ℕ, _<_, _≤_}
 use native.Mathlib.Omega.{arith}
 use lib.Dec.{eqb}
 use lib.ListN.{length}
 use borrow.Author.Tests.{eqb-true, eqb-false}
 use Rattle.route.specs.Step.{stepNumber, stepNumberOn}
-use Rattle.route.specs.Target.{Target, to-goal, to-window, byWindow, TargetIn, targetOf}
+use Rattle.route.specs.Target.{Target, to-goal, to-window, to-corner, isSightless, TargetIn, targetOf}
 use Rattle.route.proofs.Targets.{target-in}
 use Rattle.route.proofs.Walls.{accepted-on}
 use Rattle.integration_field.specs.declared.IntegrationField.{IntegrationField}
@@ -26,6 +26,7 @@ use Rattle.started_field.specs.Started.{
   sightFrom,
   startedFrom,
   startedAt,
+  startedWithout,
   started,
   initNumber,
   initRefused,
@@ -37,19 +38,21 @@ use Rattle.started_field.specs.Started.{
 use Rattle.started_field.specs.declared.InitAnswer.{InitAnswer}
 use Rattle.started_field.proofs.Waves.{sizes, goal-started}
 use Rattle.started_field.proofs.Window.{window-started}
+use Rattle.started_field.proofs.Corner.{corner-started}
 use Rattle.started_field.proofs.Lines.{corner-lines}
 
 -- a target has one goal, and beside a window none
 goalIn : Target → ℕ
 goalIn (to-goal n) = n
 goalIn (to-window cells) = 0
+goalIn (to-corner n) = 0
 
 same-goal : {a b : ℕ} → to-goal a ≡ to-goal b → a ≡ b
 unfolding goalIn
 same-goal e = ap goalIn e
 
-no-goal : {l : List ℕ} {g : ℕ} → to-window l ≡ to-goal g → ⊥
-no-goal e = true≢false (ap byWindow e)
+no-sight : {t : Target} {g : ℕ} → isSightless t ≡ true → t ≡ to-goal g → ⊥
+no-sight s e = true≢false (sym s ∙ ap isSightless e)
 
 module _ (costs : List ℕ) (hundred : length costs ≡ 100) where
   pub started-sizes : (goal : ℕ) → goal < 100 → Sizes (cornerLine goal) (walls costs) goal
@@ -73,7 +76,7 @@ module _ (costs : List ℕ) (hundred : length costs ≡ 100) where
   }
 
   pub started-field : (target : Target) → TargetIn target → StartedField costs target (started costs target)
-  unfolding started startedFrom startedAt sightFrom
+  unfolding started startedFrom startedAt startedWithout sightFrom
   started-field (to-goal goal) h =
       made (to-goal goal) _ (sightFrom costs goal .corners) (started-sizes goal h .corners-fit _)
       (goal-started goal h costs hundred (cornerLine goal) (corner-lines goal) _)
@@ -84,7 +87,9 @@ module _ (costs : List ℕ) (hundred : length costs ≡ 100) where
           withCorners (sightFrom costs goal .cells) (sightFrom costs goal .corners) ≡ withCorners (s .cells) (s .corners)
       over g n e m = rw (← e) (ap (λ (s : Sight). withCorners (s .cells) (s .corners)) (sym (any-number goal h n m)))
   started-field (to-window window) w =
-      made (to-window window) _ window (omega (arith, w .few)) (window-started costs hundred window (w .inside) (w .once)) (λ g n e m. absurd (no-goal e))
+      made (to-window window) _ window (omega (arith, w .few)) (window-started costs hundred window (w .inside) (w .once)) (λ g n e m. absurd (no-sight refl e))
+  started-field (to-corner goal) h =
+      made (to-corner goal) _ (goal ∷ []) (omega arith) (corner-started goal h costs hundred) (λ g n e m. absurd (no-sight refl e))
 
 -- what an accepted `init` is given
 pub accepted : (costs step : List ℕ) → initNumber costs step ≡ 0 → (length costs ≡ 100) × (stepNumber step ≡ 0)

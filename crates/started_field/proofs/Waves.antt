@@ -65,7 +65,7 @@ module _ (goal : ℕ) (goal-in : goal < 100) (costs : List ℕ) (hundred : lengt
   abbrev Is : ℕ → ℕ → Type 0
   Is = Before costs (λ i. i ≡ goal) 0x20000
 
-  before : (i : ℕ) → i < 100 → Is i (getD (withGoal goal (walls costs)) i 0)
+  pub before : (i : ℕ) → i < 100 → Is i (getD (withGoal goal (walls costs)) i 0)
   unfolding withGoal
   before i h =
       at-set (Is i) (walls costs) goal 0x20000 i (omega (arith, walls-length costs)) (λ q. chosen q refl)
@@ -74,11 +74,11 @@ module _ (goal : ℕ) (goal-in : goal < 100) (costs : List ℕ) (hundred : lengt
   abbrev start : Sight
   start = record { cells = withGoal goal (walls costs); corners = []; queue = [] }
 
-  start-length : length (withGoal goal (walls costs)) ≡ 100
+  pub start-length : length (withGoal goal (walls costs)) ≡ 100
   unfolding withGoal
   start-length = length-set (walls costs) goal 0x20000 ∙ walls-length costs ∙ hundred
 
-  start-goal : getD (withGoal goal (walls costs)) goal 0 ≡ 0x20000
+  pub start-goal : getD (withGoal goal (walls costs)) goal 0 ≡ 0x20000
   unfolding withGoal
   start-goal = getD-set-same (walls costs) goal 0x20000 0 (omega (arith, walls-length costs))
 

@@ -2,18 +2,18 @@
 -- Assumes nothing.
 use mathlib.Core.Path.{_≡_}
 use mathlib.Core.Bool.{cond, not}
-use mathlib.Core.List.{List}
+use mathlib.Core.List.{List, [], _∷_}
 use Prim.Native.Nat.{ℕ, _≤_}
 use lib.Dec.{eqb}
 use lib.ListN.{length, getD}
 use Rattle.route.specs.Step.{stepNumberOn}
-use Rattle.route.specs.Target.{Target, to-goal, to-window, targetOf}
+use Rattle.route.specs.Target.{Target, to-goal, to-window, to-corner, targetOf}
 use Rattle.integration_field.specs.declared.IntegrationField.{IntegrationField}
 use Rattle.integration_field.specs.Listed.{listOf, withCorners, zeroField}
 use Rattle.started_field.specs.declared.InitAnswer.{InitAnswer}
-use Rattle.started_field.specs.Sight.{walls, withPortals, Sight, sightAfter}
+use Rattle.started_field.specs.Sight.{walls, withPortals, withGoal, Sight, sightAfter}
 use Rattle.started_field.specs.CornerLine.{cornerLine}
-use Rattle.started_field.specs.StartedCell.{GoalStarted, WindowStarted}
+use Rattle.started_field.specs.StartedCell.{GoalStarted, WindowStarted, CornerStarted}
 
 -- Sight from a goal, after wave 100: no cell is left to look from, and every later wave leaves the same (`StartedField`, `sight-over`).
 unfoldable pub sightFrom : List ℕ → ℕ → Sight
@@ -27,10 +27,15 @@ startedFrom costs goal = withCorners (sightFrom costs goal .cells) (sightFrom co
 unfoldable pub startedAt : List ℕ → List ℕ → IntegrationField
 startedAt costs window = withCorners (withPortals window (walls costs)) window
 
+-- the field started with a goal and without sight: the goal is the one listed corner
+unfoldable pub startedWithout : List ℕ → ℕ → IntegrationField
+startedWithout costs goal = withCorners (withGoal goal (walls costs)) (goal ∷ [])
+
 -- the started field of costs and a target
 unfoldable pub started : List ℕ → Target → IntegrationField
 started costs (to-goal goal) = startedFrom costs goal
 started costs (to-window window) = startedAt costs window
+started costs (to-corner goal) = startedWithout costs goal
 
 -- 1 for cost bytes that are not 100, else the step's number on them: 3, 4 to 8, 16 (02, "Job 3"), or 0
 unfoldable pub initNumber : List ℕ → List ℕ → ℕ
@@ -50,6 +55,7 @@ initAnswer costs step = cond (eqb (initNumber costs step) 0) (initAccepted (star
 abbrev pub StartedCells : List ℕ → Target → List ℕ → List ℕ → Type 0
 StartedCells costs (to-goal goal) cells corners = GoalStarted costs goal cells corners
 StartedCells costs (to-window window) cells corners = WindowStarted costs window cells corners
+StartedCells costs (to-corner goal) cells corners = CornerStarted costs goal cells corners
 
 -- .. and its list of 100 places, which hold 0 beyond the count.
 pub record StartedField (costs : List ℕ) (target : Target) (f : IntegrationField) : Type 0 where

@@ -3,7 +3,7 @@
 -- Assumes nothing.
 use mathlib.Core.Path.{_≡_}
 use mathlib.Core.Bool.{true, false}
-use mathlib.Core.List.{List}
+use mathlib.Core.List.{List, [], _∷_}
 use Prim.Native.Nat.{ℕ, _+_, _<_, _≤_}
 use lib.ListN.{length, getD}
 use Rattle.integration_field.specs.Word.{isLos, isGoal, isBlocked, isImpassable}
@@ -52,3 +52,17 @@ pub record WindowStarted (costs window : List ℕ) (cells corners : List ℕ) : 
   -- no cell is in sight, and none is a goal
   pub no-sight : (i : ℕ) → i < 100 → isLos (getD cells i 0) ≡ false
   pub no-goal : (i : ℕ) → i < 100 → isGoal (getD cells i 0) ≡ false
+
+-- a field started with a goal and without sight
+pub record CornerStarted (costs : List ℕ) (goal : ℕ) (cells corners : List ℕ) : Type 0 where
+  pub full : length cells ≡ 100
+  -- the list: the goal alone, below 100
+  pub list : corners ≡ goal ∷ []
+  pub corner-in : (i : ℕ) → i < length corners → getD corners i 0 < 100
+  pub goal-stays : GoalStays goal cells
+  -- walls: exactly the cells of cost 255 but the goal
+  pub wall-cell : (i : ℕ) → i < 100 → getD costs i 0 ≡ 255 → (i ≡ goal → ⊥) → getD cells i 0 ≡ 0x200FFFF
+  pub wall-only : (i : ℕ) → i < 100 → isImpassable (getD cells i 0) ≡ true → (getD costs i 0 ≡ 255) × (i ≡ goal → ⊥)
+  pub other-cell : (i : ℕ) → i < 100 → (getD costs i 0 ≡ 255 → ⊥) → (i ≡ goal → ⊥) → getD cells i 0 ≡ 65535
+  -- no cell is in sight
+  pub no-sight : (i : ℕ) → i < 100 → isLos (getD cells i 0) ≡ false

@@ -1,7 +1,10 @@
 -- `counting::leg_target` meets its contract: the step's own target, or the window cells that count.
 -- Assumes nothing.
+use mathlib.Core.Path.{ap, _∙_}
 use borrow.Author.Needs.{needs}
 use borrow.Author.Tests.{not-true, not-false}
+use Rattle.route.specs.Inner.{sightedBy}
+use Rattle.route.proofs.Targets.{listed-sight}
 use Rattle.counting.proofs.leg_target.Statement.{statement}
 use Rattle.counting.proofs.leg_target.Tie as tie
 
@@ -9,7 +12,10 @@ as-target-requires : tie.Need-as-target-requires
 as-target-requires c κs = search needs
 
 returns : tie.Need-returns
-returns c = rw (not-true (c .before .before .args .has-previous) (c .before .if1 .taken)) (c .as-target .ensures)
+returns c =
+    let a = c .before in
+    rw (not-true (a .before .before .args .has-previous) (a .before .if1 .taken))
+    (c .by-sight .ensures ∙ ap (sightedBy (a .before .before .args .sight)) (a .as-target .ensures) ∙ listed-sight (a .before .before .args .sight) _)
 
 counting-cells-requires : tie.Need-counting-cells-requires
 counting-cells-requires c κs = search needs
@@ -20,4 +26,4 @@ returns-2 c =
     rw (not-false (later .before .args .has-previous) (later .if1 .left), c .counting-cells .ensures)
 
 pub leg-target-spec : {M : Type 1} → statement M
-leg-target-spec = tie.close (tie.spec as-target-requires returns counting-cells-requires returns-2)
+leg-target-spec = tie.close (tie.spec as-target-requires (λ c κs. search needs) returns counting-cells-requires returns-2)

@@ -1,4 +1,4 @@
--- `integration_init::start` meets its contract: at window cells or from a goal, as the target says.
+-- `integration_init::start` meets its contract: at window cells, from a goal, or from a goal without sight, as the target says.
 -- Assumes nothing.
 use mathlib.Core.Path.{sym, _∙_}
 use Rattle.started_field.specs.Started.{started}
@@ -13,11 +13,18 @@ unfolding started
 returns c = c .start-at .ensures ∙ sym (rw (c .before .if1 .taken))
 
 start-from-requires : tie.Need-start-from-requires
-start-from-requires c κs = let s = c .before .before in (s .pre .0, s .pre .1 .goal-in (c .if1 .left))
+start-from-requires c κs = let s = c .before .before .before in (s .pre .0, s .pre .1 .goal-in (c .before .if1 .left))
 
 returns-2 : tie.Need-returns-2
 unfolding started
-returns-2 c = c .start-from .ensures ∙ sym (rw (c .before .if1 .left))
+returns-2 c = c .start-from .ensures ∙ sym (rw (c .before .before .if1 .left, c .before .if2 .taken))
+
+start-without-requires : tie.Need-start-without-requires
+start-without-requires c κs = let s = c .before .before .before in (s .pre .0, s .pre .1 .goal-in (c .before .if1 .left))
+
+returns-3 : tie.Need-returns-3
+unfolding started
+returns-3 c = c .start-without .ensures ∙ sym (rw (c .before .before .if1 .left, c .before .if2 .left))
 
 pub start-spec : {M : Type 1} → statement M
-start-spec = tie.close (tie.spec start-at-requires returns start-from-requires returns-2)
+start-spec = tie.close (tie.spec start-at-requires returns start-from-requires returns-2 start-without-requires returns-3)

@@ -42,7 +42,7 @@ is-closed-requires c κs = search needs
 returns : tie.Need-returns
 returns c =
     let t = targeted (c .before .before) in
-    closes-step (start t .pre) (start t .args .has-previous) (now (start t .args .previous)) (t .before .before .new .ensures) (t .leg-target .ensures)
+    closes-step (start t .pre) (start t .args .sight) (start t .args .has-previous) (now (start t .args .previous)) (t .before .before .new .ensures) (t .leg-target .ensures)
     (c .before .is-closed .result) (c .before .is-closed .ensures) (c .if1 .taken) _ refl
 
 sub-costs : tie.Need-sub-costs
@@ -74,7 +74,7 @@ run-cells-requires c κs =
     record {
       costs-hundred = simp (length-take, length-drop) (omega (arith, in-floor pre, pre .floor-full));
       sheet-hundred = simp (length-take, length-drop) (omega (arith, in-floor pre, pre .sheet-full));
-      target-held = held pre (a .has-previous) (now (a .previous)) (t .before .before .new .ensures) (t .leg-target .ensures);
+      target-held = held pre (a .sight) (a .has-previous) (now (a .previous)) (t .before .before .new .ensures) (t .leg-target .ensures);
       previous-fits = λ h. search needs;
     }
 
@@ -88,7 +88,7 @@ returns-2 c =
     let w = else1 .before .before in
     let t = targeted w in
     let wide = w .wide .result in
-    plans-step (start t .pre) (start t .args .has-previous) (now (start t .args .previous)) (t .before .before .new .ensures) (t .leg-target .ensures)
+    plans-step (start t .pre) (start t .args .sight) (start t .args .has-previous) (now (start t .args .previous)) (t .before .before .new .ensures) (t .leg-target .ensures)
     wide (w .wide .ensures) (wide * 100 + 100 - wide * 100) (omega arith)
     (else1 .before .is-closed .result) (else1 .before .is-closed .ensures) (else1 .if1 .left)
     (ran .run-cells .result) _ (ran .run-cells .ensures .0) (ran .run-cells .ensures .1)

@@ -19,14 +19,14 @@ use Rattle.leg.proofs.plan_steps.Statement.{statement}
 use Rattle.leg.proofs.plan_steps.Tie as tie
 
 abbrev Inv-loop : tie.InvT-loop
-Inv-loop floor steps sheet₀ count previous₀ k₀ sheet previous k =
+Inv-loop floor steps sight sheet₀ count previous₀ k₀ sheet previous k =
     (k ≤ length steps / 8)
     × ((length sheet ≡ 6400)
-    × ((planned floor (stepsOf steps) sheet₀ ≡ plannedFrom floor (stepsFrom steps k) (ltb 0 k) previous sheet)
-    × (someClosed floor (stepsOf steps) ≡ closedFrom floor (stepsFrom steps k) (ltb 0 k) previous)))
+    × ((planned sight floor (stepsOf steps) sheet₀ ≡ plannedFrom sight floor (stepsFrom steps k) (ltb 0 k) previous sheet)
+    × (someClosed sight floor (stepsOf steps) ≡ closedFrom sight floor (stepsFrom steps k) (ltb 0 k) previous)))
 
 abbrev μ-loop : tie.MeasureT-loop
-μ-loop floor steps sheet₀ count previous₀ k₀ sheet previous k = length steps / 8 - k
+μ-loop floor steps sight sheet₀ count previous₀ k₀ sheet previous k = length steps / 8 - k
 
 -- from where a step is planned: the loop's head, the start, the place k is below the count, and what planning the step did
 abbrev Done : Type 0
@@ -45,8 +45,8 @@ below : (p : Done) → place p < length (steps p) / 8
 below p = p .before .before .before .before .loop-test .taken
 
 run : (p : Done) → let at = p .before .before .before .before .before .loop in
-    StepPlanned (now (start p .args .floor)) (take (place p * 8 + 8 - place p * 8) (drop (place p * 8) (steps p))) (ltb 0 (place p)) (at .previous) (at .sheet)
-    (p .plan-step .result) (p .plan-step .last .1 .1 .1 .1 .0)
+    StepPlanned (start p .args .sight) (now (start p .args .floor)) (take (place p * 8 + 8 - place p * 8) (drop (place p * 8) (steps p))) (ltb 0 (place p)) (at .previous) (at .sheet)
+    (p .plan-step .result) (p .plan-step .last .1 .1 .1 .1 .1 .0)
 run p = p .plan-step .ensures
 
 loop-holds : tie.Need-loop-holds Inv-loop μ-loop
@@ -54,7 +54,7 @@ loop-holds c =
     let start = c .before .before .before in
     let floor = now (start .args .floor) in
     let steps = now (start .args .steps) in
-    (omega arith, (start .pre .1, (from-first floor steps _ (now (start .args .sheet)), shut-first floor steps _)))
+    (omega arith, (start .pre .1, (from-first (start .args .sight) floor steps _ (now (start .args .sheet)), shut-first (start .args .sight) floor steps _)))
 
 mul-at : tie.Need-mul-at Inv-loop μ-loop
 mul-at c = omega arith
@@ -93,7 +93,7 @@ returns c =
     let p = c .before .before .before in
     let at = p .before .before .before .before .before .loop in
     record {
-      closed-is = sym (at .inv .1 .1 .1 ∙ shut-here (now (start p .args .floor)) (steps p) (below p) (lent-step (steps p) (place p)) (run p) (c .if1 .taken));
+      closed-is = sym (at .inv .1 .1 .1 ∙ shut-here (start p .args .sight) (now (start p .args .floor)) (steps p) (below p) (lent-step (steps p) (place p)) (run p) (c .if1 .taken));
       wrote = λ z. absurd (true≢false z);
     }
 
@@ -113,7 +113,7 @@ loop-again c =
       omega (arith, below p),
       (
         omega arith,
-        (at .inv .1 .1 .0 ∙ from-more floor (steps p) (below p) here (run p) still, at .inv .1 .1 .1 ∙ shut-more floor (steps p) (below p) here (run p) still),
+        (at .inv .1 .1 .0 ∙ from-more (start p .args .sight) floor (steps p) (below p) here (run p) still, at .inv .1 .1 .1 ∙ shut-more (start p .args .sight) floor (steps p) (below p) here (run p) still),
       ),
     )
 
@@ -128,8 +128,8 @@ returns-2 c =
     let steps = now (start .args .steps) in
     let done : length steps / 8 ≤ at .k = omega arith in
     record {
-      closed-is = sym (at .inv .1 .1 .1 ∙ shut-last floor steps (at .k) done (ltb 0 (at .k)) (at .previous));
-      wrote = λ z. sym (at .inv .1 .1 .0 ∙ from-last floor steps (at .k) done (ltb 0 (at .k)) (at .previous) (at .sheet));
+      closed-is = sym (at .inv .1 .1 .1 ∙ shut-last (start .args .sight) floor steps (at .k) done (ltb 0 (at .k)) (at .previous));
+      wrote = λ z. sym (at .inv .1 .1 .0 ∙ from-last (start .args .sight) floor steps (at .k) done (ltb 0 (at .k)) (at .previous) (at .sheet));
     }
 
 pub plan-steps-spec : {M : Type 1} → statement M
