@@ -4,7 +4,8 @@
 --     settles-still    a wave that changes no cell is the last
 --     settles-more     a wave that changes a cell, and then the waves from those cells
 --     built-cells      any number of waves from 99 on gives the definition's cells and count
---     built-is         and the record with them is the definition's answer
+--     built-is         and the record with them is the field built without positions
+--     built-from, positions-are   to which positions are added, and then it is the definition's answer
 -- Assumes nothing.
 use mathlib.Core.Path.{_≡_, refl, sym, ap, ap₂, subst, _∙_}
 use mathlib.Core.Bool.{false}
@@ -23,7 +24,6 @@ use Rattle.integration_field.specs.declared.IntegrationField.{IntegrationField}
 use Rattle.integration_field.specs.Listed.{padded, Indexes, listOf}
 use Rattle.integration_field.specs.Wave.{offeredBy, changedFrom, next}
 use Rattle.integration_field.specs.Build.{Built, isEmpty, build}
-use Rattle.integration_field.specs.Position.{positions as positionsOf}
 use Rattle.integration_field.specs.Answer.{answerOf, Accepted}
 use Rattle.integration_field.proofs.Lists.{corners-length}
 use Rattle.integration_field.proofs.Settled.{settle-none, settle-more, settle-any, settle-build}
@@ -31,6 +31,7 @@ use Rattle.integration_field.proofs.Least.{rests-within}
 use Rattle.integration_field.proofs.Answers.{all-cells, all-below}
 use Rattle.integration_build.proofs.Changed.{changed-member, member-changed, changed-first-member}
 use Rattle.integration_build.proofs.Members.{settles-same}
+use Rattle.integration_build.specs.Without.{builtWithout, answerWithout, withPositions, BuiltFrom}
 use Rattle.integration_build.specs.Wavefront.{Settles}
 use Rattle.integration_build.specs.Inner.{ChangedCells}
 
@@ -116,18 +117,33 @@ module _ (costs : List ℕ) (f : IntegrationField) (long : length (f .«los_corn
         t .settled enough ∙ settle-build costs (f .field) (listOf f) m enough
 
   -- the record that comes out
-  pub built-is : (places : List ℕ) → places ≡ padded (listOf f) → {left found : List ℕ} {waves : ℕ}
+  pub built-is : (places : List ℕ) → places ≡ padded (listOf f) → {left : List ℕ} {waves : ℕ}
       → record { cells = left; waves = waves } ≡ build costs (f .field) (listOf f)
-      → found ≡ positionsOf costs (f .field) (listOf f)
-      → record { number = 0; field = record { field = left; «los_corners» = places; count = f .count; positions = found }; waves = waves } ≡ answerOf 0 costs f
-  built-is places e {left} {found} {waves} b p =
+      → record { number = 0; field = record { field = left; «los_corners» = places; count = f .count; positions = f .positions }; waves = waves }
+      ≡ answerWithout costs f
+  built-is places e {left} {waves} b =
       ap₂ (λ (l : List ℕ) (n : ℕ). record {
         number = 0;
-        field = record { field = left; «los_corners» = l; count = n; positions = found };
+        field = record { field = left; «los_corners» = l; count = n; positions = f .positions };
         waves = waves;
       }) e (sym many)
-      ∙ ap₂ (λ (x : Built) (q : List ℕ). record {
+      ∙ ap (λ (x : Built). record {
         number = 0;
-        field = record { field = x .cells; «los_corners» = padded (listOf f); count = length (listOf f); positions = q };
+        field = record { field = x .cells; «los_corners» = padded (listOf f); count = length (listOf f); positions = f .positions };
         waves = x .waves;
-      }) b p
+      }) b
+
+  -- its list is the one that the field had
+  same-list : listOf (builtWithout costs f) ≡ listOf f
+  same-list = take-append-seam (listOf f) (replicate (100 - length (listOf f)) 0)
+
+  -- so that its positions can be sought, and are the definition's
+  pub built-from : length (f .field) ≡ 100 → BuiltFrom costs (f .field) (answerWithout costs f)
+  built-from full = record {
+    full = full;
+    cells-are = ap (λ (l : List ℕ). build costs (f .field) l .cells) (sym same-list);
+    list-in = corners-indexes 100 (omega arith) _ refl (length (listOf f)) (omega (arith, many));
+  }
+
+  pub positions-are : withPositions costs (f .field) (answerWithout costs f) ≡ answerOf 0 costs f
+  positions-are = rw same-list

@@ -1,2 +1,3 @@
+pub mod Without
 pub mod Wavefront
 pub mod Inner

@@ -13,10 +13,10 @@ ghost use Rattle.utilities.specs.Compass.{orthogonal};
 ghost use Rattle.fields.specs.Cell.{cellAt, stepped};
 ghost use Rattle.integration_field.specs.Listed.{listOf, padded, Indexes};
 ghost use Rattle.integration_field.specs.Wave.{isWritten, relaxed, offered, offeredAround, offeredBy};
-ghost use Rattle.integration_field.specs.Built.{builtField};
 ghost use Rattle.integration_field.specs.Answer.{answerOf, allCells, Accepted, buildAnswer};
 ghost use Rattle.integration_field.specs.Promise.{LeastWalks, Counted, EarliestCorners};
 ghost use Rattle.least_walks.specs.Promise.{BuildsStarted};
+ghost use Rattle.integration_build.specs.Without.{answerWithout, withPositions, BuiltFrom};
 ghost use Rattle.integration_build.specs.Wavefront.{Settles};
 ghost use Rattle.integration_build.specs.Inner.{NotBelowAll, ChangedCells};
 
@@ -222,14 +222,13 @@ fn put(positions: &mut [u8; 100], found: [u8; 100])
     *positions = found;
 }
 
-// A field whose corners are cells, built: its cells are lent to the waves, and no number of waves from 99 on gives another answer than 100.
-// It is built where it is answered from, so that it is not copied once more.
-pub fn built(costs: &[u8], given: IntegrationField) -> BuildAnswer
+// A field whose corners are cells, built, but for its positions, which stay as they were given: its cells are lent to the waves, and no number of
+// waves from 99 on gives another answer than 100. It is built where it is answered from, so that it is not copied once more.
+pub fn build_without_positions(costs: &[u8], given: IntegrationField) -> BuildAnswer
     requires { ⌜ Accepted (now costs) given ⌝ }
-    ensures { λ r. ⌜ r ≡ answerOf 0 (now (costs .entry)) given ⌝ }
+    ensures { λ r. ⌜ r ≡ answerWithout (now (costs .entry)) given ⌝ }
 {
     let count = given.count;
-    let before = given.field;
     let mut answer = BuildAnswer {
         number: 0,
         field: given,
@@ -238,28 +237,36 @@ pub fn built(costs: &[u8], given: IntegrationField) -> BuildAnswer
     clear_beyond(&mut answer.field.los_corners, count);
     let first = corner_wave(&answer.field.los_corners, count);
     let waves = propagate_integrated_wavefront(costs, &mut answer.field.field, &first, count, 100);
+    answer.waves = waves;
+    answer
+}
+
+// A field built without positions, and its positions: `before` are its cells before building.
+pub fn add_positions(costs: &[u8], before: &[u32; 100], built: BuildAnswer) -> BuildAnswer
+    requires { ⌜ (length (now costs) ≡ 100) × BuiltFrom (now costs) (now before) built ⌝ }
+    ensures { λ r. ⌜ r ≡ withPositions (now (costs .entry)) (now (before .entry)) built ⌝ }
+{
+    let mut answer = built;
+    let count = answer.field.count;
     let positions = corner_positions::corner_positions(
         costs,
-        &before,
+        before,
         &answer.field.field,
         &answer.field.los_corners,
         count,
     );
-    answer.waves = waves;
     put(&mut answer.field.positions, positions);
     answer
 }
 
-// The cells of the same alone, for who answers no field: the corners that they belong to are not sought.
-pub fn build_cells(costs: &[u8], given: IntegrationField) -> [u32; 100]
+// A field whose corners are cells, built, its positions among it: for who answers the field.
+pub fn built(costs: &[u8], given: IntegrationField) -> BuildAnswer
     requires { ⌜ Accepted (now costs) given ⌝ }
-    ensures { λ r. ⌜ r ≡ builtField (now (costs .entry)) given .field ⌝ }
+    ensures { λ r. ⌜ r ≡ answerOf 0 (now (costs .entry)) given ⌝ }
 {
-    let mut cells = given.field;
-    let count = given.count;
-    let wavefront = corner_wave(&given.los_corners, count);
-    propagate_integrated_wavefront(costs, &mut cells, &wavefront, count, 100);
-    cells
+    let before = given.field;
+    let answer = build_without_positions(costs, given);
+    add_positions(costs, &before, answer)
 }
 
 // A field given by hand, built on these costs.

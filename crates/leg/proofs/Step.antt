@@ -1,15 +1,14 @@
--- One step of a leg.
+-- One step of a leg, and step after step.
 --     in-floor                 its sector is one of the floor's
---     held, held-is            the target that the program makes of a step is the step's, and is inside the sector
---     closed-is                the program finds a window closed exactly where it is
---     closes-step, plans-step  what planning the step answers and leaves: where its window is closed, and where the run is lent the sector's part
+--     made-target              the target that the program makes of a step is the step's, is inside the sector, and is closed where it is
+--     lent-part                the part of the floor that is lent is the sector's own
+--     wrote-step               what writing the step leaves, where its sector's part is lent
 --     from-first, from-more, from-last    planning step after step: before the first, a step more, and behind the last
 --     shut-first, shut-here, shut-more, shut-last    whether a window from a place on is closed: before the first step, at a closed one, behind an
 --                              open one, and behind the last
---     copy-ready, copies       what copying is given, and what it leaves
 -- Assumes nothing.
 use mathlib.Core.Path.{_≡_, sym, ap, ap₂, subst, _∙_}
-use mathlib.Core.Bool.{Bool, true, false, true≢false, _&&_, _||_}
+use mathlib.Core.Bool.{Bool, true, false, _&&_, _||_}
 use mathlib.Core.List.{List, [], _++_}
 use Prim.Native.Nat.{ℕ, _+_, _*_, _/_, _<_, _≤_}
 use native.Mathlib.Omega.{arith}
@@ -20,75 +19,52 @@ use borrow.Author.Tests.{lt-ltb}
 use Rattle.route.specs.declared.PortalWindow.{PortalWindow}
 use Rattle.route.specs.declared.RouteStep.{RouteStep}
 use Rattle.route.specs.declared.Target as program
-use Rattle.route.specs.Step.{sectorOf, routeStep}
+use Rattle.route.specs.Step.{sectorOf, stepNumber, routeStep}
 use Rattle.route.specs.Target.{Target}
-use Rattle.route.specs.Inner.{listedTarget, heldTarget, TargetHeld}
+use Rattle.route.specs.Inner.{listedTarget, heldCells, heldTarget, TargetHeld}
 use Rattle.route.proofs.Accepted.{accepted-step}
-use Rattle.route.proofs.Targets.{held-listed, listed-held}
+use Rattle.route.proofs.Targets.{held-listed, listed-held, held-window}
 use Rattle.sector.specs.Sector.{sectorField, sectorBytes}
+use Rattle.sector.specs.Inner.{flowBytes}
+use Rattle.sector.proofs.Planned.{run-bytes}
 use Rattle.counting.specs.Counting.{legTarget, isClosed}
 use Rattle.counting.specs.Inner.{routeLegTarget}
-use Rattle.step_list.specs.Steps.{stepsOf}
-use Rattle.leg_plan.specs.Leg.{part, stepField, stepBytes, closedFrom, someClosed, withPart, plannedFrom, planned}
-use Rattle.step_list.specs.Inner.{stepAt}
-use Rattle.leg_plan.specs.Inner.{LegReady, copied}
-use Rattle.step_list.proofs.Steps.{stepsFrom, from-start, from-here, from-done}
-use Rattle.leg_plan.proofs.Sheet.{from-none, closed-from-none, copied-planned}
-use Rattle.leg_plan.proofs.Planned.{fits}
 use Rattle.counting.proofs.Counting.{leg-target-in, made-is, closed-listed}
-use Rattle.leg.specs.declared.PlannedStep.{PlannedStep}
-use Rattle.leg.specs.Inner.{StepReady, StepPlanned, CopyReady}
+use Rattle.step_list.specs.Steps.{stepsOf}
+use Rattle.step_list.specs.Inner.{stepAt}
+use Rattle.step_list.proofs.Steps.{stepsFrom, from-start, from-here, from-done}
+use Rattle.leg_plan.specs.Leg.{part, stepField, stepBytes, closedFrom, someClosed, withPart, plannedFrom, planned}
+use Rattle.leg_plan.proofs.Sheet.{from-none, closed-from-none}
+use Rattle.leg.specs.Inner.{StepTarget}
 
-module _ {floor step sheet : List ℕ} (ready : StepReady floor step sheet) where
-  pub in-floor : sectorOf step < 64
-  in-floor = accepted-step step (ready .accepted) .sector-in
+pub in-floor : (step : List ℕ) → stepNumber step ≡ 0 → sectorOf step < 64
+in-floor step accepted = accepted-step step accepted .sector-in
 
-  module _ (sight has : Bool) (previous : List ℕ) {s : RouteStep} {t : program.Target}
-      (apart : s ≡ routeStep step) (made : t ≡ listedTarget (routeLegTarget s sight has previous)) where
-    is : t ≡ listedTarget (legTarget sight has previous step)
-    is = made-is step sight has previous apart made
-
-    pub held-is : heldTarget t ≡ legTarget sight has previous step
-    held-is = ap heldTarget is ∙ held-listed (legTarget sight has previous step)
-
-    pub held : TargetHeld t
-    held = subst TargetHeld (sym is) (listed-held (legTarget sight has previous step) (leg-target-in sight has previous step (ready .accepted)))
-
-    pub closed-is : (t .«has_window» && eqb (t .window .count) 0) ≡ isClosed (legTarget sight has previous step)
-    closed-is = ap (λ (u : program.Target). u .«has_window» && eqb (u .window .count) 0) is ∙ closed-listed (legTarget sight has previous step)
-
-    pub closes-step : (b : Bool) → b ≡ (t .«has_window» && eqb (t .window .count) 0) → b ≡ true → (r : PlannedStep) → r .closed ≡ true
-        → StepPlanned sight floor step has previous sheet r sheet
-    closes-step b e h r q = record {
-      closed-is = q ∙ sym h ∙ e ∙ closed-is;
-      answered = λ z. absurd (true≢false (sym q ∙ z));
-      wrote = λ z. absurd (true≢false (sym q ∙ z));
+pub made-target : (sight : Bool) (step : List ℕ) → stepNumber step ≡ 0 → (has : Bool) (previous : List ℕ) {s : RouteStep} {t : program.Target}
+    → s ≡ routeStep step → t ≡ listedTarget (routeLegTarget s sight has previous) → StepTarget sight step has previous t
+made-target sight step accepted has previous {s} {t} apart made =
+    let target = legTarget sight has previous step in
+    let is : t ≡ listedTarget target = made-is step sight has previous apart made in
+    record {
+      is = ap heldTarget is ∙ held-listed target;
+      held = subst TargetHeld (sym is) (listed-held target (leg-target-in sight has previous step accepted));
+      closed-is = ap (λ (u : program.Target). u .«has_window» && eqb (u .window .count) 0) is ∙ closed-listed target;
     }
 
-    at-sector : (b : Bool) → b ≡ (t .«has_window» && eqb (t .window .count) 0) → b ≡ false → (cells bytes : List ℕ)
-        → cells ≡ sectorField (part floor (sectorOf step)) (heldTarget t) .field
-        → bytes ≡ sectorBytes (part floor (sectorOf step)) (heldTarget t) (s .portal) has previous
-        → StepPlanned sight floor step has previous sheet (record { closed = false; cells = cells })
-        (take (sectorOf step * 100) sheet ++ (bytes ++ drop 100 (drop (sectorOf step * 100) sheet)))
-    at-sector b e h cells bytes p q =
-        record {
-          closed-is = sym h ∙ e ∙ closed-is;
-          answered = λ z. (p ∙ ap (λ (u : Target). sectorField (part floor (sectorOf step)) u .field) held-is);
-          wrote = λ z. (ap₂ (λ (x y : List ℕ). take (sectorOf step * 100) sheet ++ (x ++ y))
-              (q
-              ∙ ap₂ (λ (u : Target) (w : PortalWindow). sectorBytes (part floor (sectorOf step)) u w has previous) held-is
-              (ap (λ (r : RouteStep). r .portal) apart))
-              (drop-drop 100 (sectorOf step * 100) sheet));
-        }
+-- as parts are lent: by the sector's number as it was read, and by a length as it was worked out
+pub lent-part : (floor : List ℕ) (sector w : ℕ) → w ≡ sector → (n : ℕ) → n ≡ 100 → take n (drop (w * 100) floor) ≡ part floor sector
+lent-part floor sector w e n f = rw (e, f)
 
-    -- as the part is lent: by the sector's number as it was read, and by its length as it was worked out
-    pub plans-step : (w : ℕ) → w ≡ sectorOf step → (n : ℕ) → n ≡ 100
-        → (b : Bool) → b ≡ (t .«has_window» && eqb (t .window .count) 0) → b ≡ false → (cells bytes : List ℕ)
-        → cells ≡ sectorField (take n (drop (w * 100) floor)) (heldTarget t) .field
-        → bytes ≡ sectorBytes (take n (drop (w * 100) floor)) (heldTarget t) (s .portal) has previous
-        → StepPlanned sight floor step has previous sheet (record { closed = false; cells = cells })
-        (take (w * 100) sheet ++ (bytes ++ drop n (drop (w * 100) sheet)))
-    plans-step w e n f = rw (e, f) at-sector
+pub wrote-step : (sight : Bool) (floor step : List ℕ) (has : Bool) (previous sheet : List ℕ) {t : program.Target} → StepTarget sight step has previous t
+    → {s : RouteStep} → s ≡ routeStep step → (cells bytes : List ℕ) → cells ≡ sectorField (part floor (sectorOf step)) (heldTarget t) .field
+    → bytes ≡ flowBytes (s .portal) (heldCells (t .window)) cells has previous
+    → (w : ℕ) → w ≡ sectorOf step → (n : ℕ) → n ≡ 100
+    → take (w * 100) sheet ++ (bytes ++ drop n (drop (w * 100) sheet)) ≡ withPart sheet (sectorOf step) (stepBytes sight floor has previous step)
+wrote-step sight floor step has previous sheet {t} target {s} apart cells bytes p q w e n f =
+    let costs = part floor (sectorOf step) in
+    let written = run-bytes costs (heldTarget t) (s .portal) has previous cells (heldCells (t .window)) bytes p (sym (held-window t (target .held))) q
+    ∙ ap₂ (λ (u : Target) (v : PortalWindow). sectorBytes costs u v has previous) (target .is) (ap (λ (r : RouteStep). r .portal) apart) in
+    rw (e, f) (ap₂ (λ (x y : List ℕ). take (sectorOf step * 100) sheet ++ (x ++ y)) written (drop-drop 100 (sectorOf step * 100) sheet))
 
 -- ---- step after step
 
@@ -102,25 +78,28 @@ module _ (sight : Bool) (floor steps : List ℕ) where
   unfolding someClosed
   shut-first previous = rw (from-start steps) (closed-from-none sight floor (stepsOf steps) [] previous)
 
-  -- a step is planned, lent as this part of the bytes
-  module _ {k : ℕ} (h : k < length steps / 8) {step : List ℕ} (e : step ≡ stepAt steps k) {previous sheet after : List ℕ} {r : PlannedStep}
-      (p : StepPlanned sight floor step (ltb 0 k) previous sheet r after) where
-    pub from-more : r .closed ≡ false
-        → plannedFrom sight floor (stepsFrom steps k) (ltb 0 k) previous sheet ≡ plannedFrom sight floor (stepsFrom steps (k + 1)) (ltb 0 (k + 1)) (r .cells) after
+  -- a step, lent as this part of the bytes, and its built cells
+  module _ {k : ℕ} (h : k < length steps / 8) {step : List ℕ} (e : step ≡ stepAt steps k) (previous : List ℕ) where
+    pub from-more : {cells : List ℕ} (sheet : List ℕ) {after : List ℕ} → cells ≡ stepField sight floor (ltb 0 k) previous step
+        → after ≡ withPart sheet (sectorOf step) (stepBytes sight floor (ltb 0 k) previous step)
+        → plannedFrom sight floor (stepsFrom steps k) (ltb 0 k) previous sheet ≡ plannedFrom sight floor (stepsFrom steps (k + 1)) (ltb 0 (k + 1)) cells after
     unfolding plannedFrom
-    from-more z = rw (from-here steps k h, p .answered z, p .wrote z, e, lt-ltb 0 (k + 1) (omega arith))
+    from-more sheet p q = rw (from-here steps k h, p, q, e, lt-ltb 0 (k + 1) (omega arith))
 
-    shut-at : closedFrom sight floor (stepsFrom steps k) (ltb 0 k) previous
-        ≡ (r .closed || closedFrom sight floor (stepsFrom steps (k + 1)) true (stepField sight floor (ltb 0 k) previous step))
+    shut-at : {t : program.Target} → StepTarget sight step (ltb 0 k) previous t → {b : Bool} → b ≡ (t .«has_window» && eqb (t .window .count) 0)
+        → closedFrom sight floor (stepsFrom steps k) (ltb 0 k) previous
+        ≡ (b || closedFrom sight floor (stepsFrom steps (k + 1)) true (stepField sight floor (ltb 0 k) previous step))
     unfolding closedFrom
-    shut-at = rw (from-here steps k h, p .closed-is, e)
+    shut-at p c = rw (from-here steps k h, c, p .closed-is, e)
 
-    pub shut-here : r .closed ≡ true → closedFrom sight floor (stepsFrom steps k) (ltb 0 k) previous ≡ true
-    shut-here z = shut-at ∙ rw z
+    pub shut-here : {t : program.Target} → StepTarget sight step (ltb 0 k) previous t → {b : Bool} → b ≡ (t .«has_window» && eqb (t .window .count) 0)
+        → b ≡ true → closedFrom sight floor (stepsFrom steps k) (ltb 0 k) previous ≡ true
+    shut-here p c z = shut-at p c ∙ rw z
 
-    pub shut-more : r .closed ≡ false
-        → closedFrom sight floor (stepsFrom steps k) (ltb 0 k) previous ≡ closedFrom sight floor (stepsFrom steps (k + 1)) (ltb 0 (k + 1)) (r .cells)
-    shut-more z = shut-at ∙ rw (z, p .answered z, lt-ltb 0 (k + 1) (omega arith))
+    pub shut-more : {t : program.Target} → StepTarget sight step (ltb 0 k) previous t → {b : Bool} → b ≡ (t .«has_window» && eqb (t .window .count) 0)
+        → b ≡ false → {cells : List ℕ} → cells ≡ stepField sight floor (ltb 0 k) previous step
+        → closedFrom sight floor (stepsFrom steps k) (ltb 0 k) previous ≡ closedFrom sight floor (stepsFrom steps (k + 1)) (ltb 0 (k + 1)) cells
+    shut-more p c z q = shut-at p c ∙ rw (z, q, lt-ltb 0 (k + 1) (omega arith))
 
   -- behind the last step
   pub from-last : (k : ℕ) → length steps / 8 ≤ k → (has : Bool) (previous sheet : List ℕ) → plannedFrom sight floor (stepsFrom steps k) has previous sheet ≡ sheet
@@ -130,17 +109,3 @@ module _ (sight : Bool) (floor steps : List ℕ) where
   pub shut-last : (k : ℕ) → length steps / 8 ≤ k → (has : Bool) (previous : List ℕ) → closedFrom sight floor (stepsFrom steps k) has previous ≡ false
   unfolding closedFrom
   shut-last k h has previous = rw (from-done steps k h)
-
--- ---- the parts of the named sectors
-
--- what copying is given, from a sheet of 64 sectors to another
-pub copy-ready : {floor steps : List ℕ} → LegReady floor steps → {from sheet : List ℕ} → length from ≡ 6400 → length sheet ≡ 6400 → CopyReady steps from sheet
-copy-ready {steps = steps} ready f g =
-    record { in-floor = λ k h. accepted-step (stepAt steps k) (ready .accepted k h) .sector-in; from-full = f; sheet-full = g }
-
--- the parts of a planned sheet, copied, make the sheet of the planned leg
-pub copies : (sight : Bool) {floor steps : List ℕ} → LegReady floor steps → (scratch sheet : List ℕ) → length scratch ≡ 6400
-    → copied (stepsOf steps) (planned sight floor (stepsOf steps) scratch) sheet ≡ planned sight floor (stepsOf steps) sheet
-unfolding planned
-copies sight {floor = floor} {steps = steps} ready scratch sheet f =
-    copied-planned sight floor (stepsOf steps) scratch sheet (fits sight floor steps scratch ready f) (ready .named-once)

@@ -1,6 +1,8 @@
-// A leg: what is refused by its bytes is refused first; then each step is planned, onto its own sector's part of a sheet of the leg's own;
-// and where all are planned, the named sectors' parts are copied to the sheet that is lent.
+// A leg: what is refused by its bytes is refused first; then each step is started and built, and where none is refused, once more and written, onto
+// its own sector's part of the sheet that is lent.
+use integration_field::IntegrationField;
 use route::RouteStep;
+use route::Target;
 use sectors::Across;
 use utilities::CompassDir;
 ghost use mathlib.Core.Path.{_≡_};
@@ -10,13 +12,17 @@ ghost use Prim.Native.Nat.{ℕ, _≤_};
 ghost use lib.ListN.{length};
 ghost use Rattle.utilities.specs.Compass.{sideOf};
 ghost use Rattle.route.specs.Table.{firstNumber};
+ghost use Rattle.route.specs.Step.{sectorOf, stepNumber};
+ghost use Rattle.route.specs.Inner.{heldTarget, TargetHeld};
+ghost use Rattle.sector.specs.Sector.{sectorField};
 ghost use Rattle.sectors.specs.Floor.{across};
 ghost use Rattle.step_list.specs.Steps.{stepsOf};
-ghost use Rattle.leg_plan.specs.Leg.{names, namesTwice, someGoal, outOfOrder, isSector, apart, floorNumber, eachRows, judgedRows, legNumber, legSheet, legNumberBy, legSheetBy};
-ghost use Rattle.leg_plan.specs.Inner.{LegReady, copied};
+ghost use Rattle.leg_plan.specs.Leg.{names, namesTwice, someGoal, outOfOrder, isSector, apart, floorNumber, eachRows, judgedRows};
+ghost use Rattle.leg_plan.specs.Leg.{part, stepField, stepBytes, someClosed, withPart, planned, legNumber, legSheet, legNumberBy, legSheetBy};
+ghost use Rattle.leg_plan.specs.Inner.{LegReady};
 ghost use Rattle.leg_plan.specs.Promise.{LegPlanned, LegPlannedBy};
 ghost use Rattle.journey.specs.Journey.{LegArrives, LegArrivesAtGoal, Arrives};
-ghost use Rattle.leg.specs.Inner.{StepPlanned, StepReady, StepsPlanned, CopyReady};
+ghost use Rattle.leg.specs.Inner.{StepReady, StepTarget};
 
 fn wide(byte: u8) -> usize
     ensures { λ r. ⌜ r ≡ byte ⌝ }
@@ -170,87 +176,94 @@ fn leg_number(floor: &[u8], steps: &[u8], sheet_length: usize) -> u8
     0
 }
 
-// What planning a step comes to: that no cell of its window counts; or the built cells.
-struct PlannedStep {
-    closed: bool,
-    cells: [u32; 100],
+// What a step's field starts from, in a leg: of its window the cells that count.
+fn target_of(step: &[u8], sight: bool, has_previous: bool, previous: &[u32; 100]) -> Target
+    requires { ⌜ stepNumber (now step) ≡ 0 ⌝ }
+    ensures { λ r. ⌜ StepTarget sight (now (step .entry)) «has_previous» (now (previous .entry)) r ⌝ }
+{
+    counting::leg_target(RouteStep::new(step), sight, has_previous, previous)
 }
 
-// Plans a step onto its sector's part of the sheet, and answers the built cells; where no cell of its window counts, nothing is written.
-fn plan_step(
-    floor: &[u8],
-    step: &[u8],
-    sight: bool,
-    has_previous: bool,
-    previous: &[u32; 100],
-    sheet: &mut [u8],
-) -> PlannedStep
-    requires { ⌜ StepReady (now floor) (now step) (now sheet) ⌝ }
-    ensures { λ r. ⌜ StepPlanned sight (now (floor .entry)) (now (step .entry)) «has_previous» (now (previous .entry)) (now (sheet .entry)) r (now (sheet .exit)) ⌝ }
+// A step's field on its own sector's costs, started and built, without positions.
+fn build_step(floor: &[u8], step: &[u8], target: Target) -> IntegrationField
+    requires { ⌜ StepReady (now floor) (now step) × TargetHeld target ⌝ }
+    ensures { λ r. ⌜ r .field ≡ sectorField (part (now (floor .entry)) (sectorOf (now (step .entry)))) (heldTarget target) .field ⌝ }
 {
-    let route_step = RouteStep::new(step);
-    let portal = route_step.portal;
-    let target = counting::leg_target(route_step, sight, has_previous, previous);
     let at = wide(step[0]) * 100;
     let end = at + 100;
-    if counting::is_closed(target) {
-        return PlannedStep {
-            closed: true,
-            cells: [0; 100],
-        };
-    }
-    let costs = &floor[at..end];
-    let cells = sector::run_cells(
-        costs,
-        target,
-        portal,
-        has_previous,
-        previous,
-        &mut sheet[at..end],
-    );
-    PlannedStep {
-        closed: false,
-        cells,
-    }
+    target_field::build_target(&floor[at..end], target)
 }
 
-// Plans the steps in order, each with the built field of the step before, up to one with a window that has no counting cell; whether there is one.
-fn plan_steps(floor: &[u8], steps: &[u8], sight: bool, sheet: &mut [u8]) -> bool
-    requires { ⌜ (LegReady (now floor) (now steps)) × (length (now sheet) ≡ 6400) ⌝ }
-    ensures { λ r. ⌜ StepsPlanned sight (now (floor .entry)) (now (steps .entry)) (now (sheet .entry)) r (now (sheet .exit)) ⌝ }
+// Whether a window of the leg has no counting cell: the steps are started and built in order, each with the built cells of the step before.
+fn is_some_closed(floor: &[u8], steps: &[u8], sight: bool) -> bool
+    requires { ⌜ LegReady (now floor) (now steps) ⌝ }
+    ensures { λ r. ⌜ r ≡ someClosed sight (now (floor .entry)) (stepsOf (now (steps .entry))) ⌝ }
 {
     let count = steps.len() / 8;
     let mut previous = [0u32; 100];
     let mut k = 0;
     while k < count {
         let at = k * 8;
-        let planned = plan_step(floor, &steps[at..at + 8], sight, 0 < k, &previous, sheet);
-        if planned.closed {
+        let step = &steps[at..at + 8];
+        let target = target_of(step, sight, 0 < k, &previous);
+        if counting::is_closed(target) {
             return true;
         }
-        previous = planned.cells;
+        let built = build_step(floor, step, target);
+        previous = built.field;
         k += 1;
     }
     false
 }
 
-// Copies the parts of the named sectors from one sheet to another.
-fn copy_parts(steps: &[u8], from: &[u8], sheet: &mut [u8])
-    requires { ⌜ CopyReady (now steps) (now from) (now sheet) ⌝ }
-    ensures { λ _. ⌜ now (sheet .exit) ≡ copied (stepsOf (now (steps .entry))) (now (from .entry)) (now (sheet .entry)) ⌝ }
+// Writes a step: its field is started and built once more, and written to its sector's own part of the sheet. Answers the built cells.
+fn write_step(
+    floor: &[u8],
+    step: &[u8],
+    sight: bool,
+    has_previous: bool,
+    previous: &[u32; 100],
+    sheet: &mut [u8],
+) -> [u32; 100]
+    requires { ⌜ StepReady (now floor) (now step) × (length (now sheet) ≡ 6400) ⌝ }
+    ensures cells { λ r. ⌜ r ≡ stepField sight (now (floor .entry)) «has_previous» (now (previous .entry)) (now (step .entry)) ⌝ }
+    ensures wrote { λ _. ⌜ now (sheet .exit) ≡ withPart (now (sheet .entry)) (sectorOf (now (step .entry)))
+        (stepBytes sight (now (floor .entry)) «has_previous» (now (previous .entry)) (now (step .entry))) ⌝ }
+{
+    let target = target_of(step, sight, has_previous, previous);
+    let built = build_step(floor, step, target);
+    let portal = RouteStep::new(step).portal;
+    let at = wide(step[0]) * 100;
+    let end = at + 100;
+    sector::write(
+        portal,
+        target.window,
+        built,
+        has_previous,
+        previous,
+        &mut sheet[at..end],
+    );
+    built.field
+}
+
+// Writes the steps in order, each with the built cells of the step before.
+fn write_steps(floor: &[u8], steps: &[u8], sight: bool, sheet: &mut [u8])
+    requires { ⌜ (LegReady (now floor) (now steps)) × (length (now sheet) ≡ 6400) ⌝ }
+    ensures { λ _. ⌜ now (sheet .exit) ≡ planned sight (now (floor .entry)) (stepsOf (now (steps .entry))) (now (sheet .entry)) ⌝ }
 {
     let count = steps.len() / 8;
+    let mut previous = [0u32; 100];
     let mut k = 0;
     while k < count {
-        let at = wide(steps[k * 8]) * 100;
-        let end = at + 100;
-        bytes::copy(&from[at..end], &mut sheet[at..end]);
+        let at = k * 8;
+        let cells = write_step(floor, &steps[at..at + 8], sight, 0 < k, &previous, sheet);
+        previous = cells;
         k += 1;
     }
 }
 
-// The leg, with the sight of the goal or without: 0 where it is planned, else the number with which it is refused. All steps are planned before the
-// sheet is written.
+// The leg, with the sight of the goal or without: 0 where it is planned, else the number with which it is refused. It goes over its steps twice, so
+// that all steps are planned before the sheet is written: first they are started and built, which finds 15, then also written.
 fn plan_by_sight(floor: &[u8], steps: &[u8], sight: bool, sheet: &mut [u8]) -> u8
     ensures number { λ r. ⌜ r ≡ legNumberBy sight (now (floor .entry)) (now (steps .entry)) (now (sheet .entry)) ⌝ }
     ensures sheet { λ _. ⌜ now (sheet .exit) ≡ legSheetBy sight (now (floor .entry)) (now (steps .entry)) (now (sheet .entry)) ⌝ }
@@ -261,11 +274,10 @@ fn plan_by_sight(floor: &[u8], steps: &[u8], sight: bool, sheet: &mut [u8]) -> u
     if number != 0 {
         return number;
     }
-    let mut scratch = [0u8; 6400];
-    if plan_steps(floor, steps, sight, &mut scratch) {
+    if is_some_closed(floor, steps, sight) {
         return 15;
     }
-    copy_parts(steps, &scratch, sheet);
+    write_steps(floor, steps, sight, sheet);
     0
 }
 

@@ -3,17 +3,15 @@
 --     from-none                what stands in the place of a previous field before the first step plays no part
 --     full-after, kept         the sheet keeps its length, and a sector that no step names its bytes
 --     written, built-is        the sector of the step at a place, and its built costs
---     copied-planned           the parts of the named sectors, copied from one planned sheet, make another
---     copied-more              one of the parts, as it is copied
 -- Assumes nothing.
 use mathlib.Core.Path.{_≡_, refl, sym, ap, _∙_}
 use mathlib.Core.Bool.{Bool, true, false}
-use mathlib.Core.List.{List, [], _∷_, _++_, append-nil}
-use Prim.Native.Nat.{ℕ, zero, suc, _+_, _-_, _*_, _/_, _<_, _≤_}
+use mathlib.Core.List.{List, [], _∷_, _++_}
+use Prim.Native.Nat.{ℕ, zero, suc, _+_, _-_, _*_, _<_, _≤_}
 use native.Mathlib.Omega.{arith}
 use lib.Dec.{eqb, ltb}
-use lib.ListN.{length, take, drop, length-append, length-take, length-drop, drop-of-length-le}
-use lib.Seq.{take-at, drop-at, length-take-le, take-length, take-add, drop-drop, take-take}
+use lib.ListN.{length, take, drop, length-append, length-drop}
+use lib.Seq.{take-at, drop-at, length-take-le, take-add, drop-drop, take-take}
 use borrow.Author.Tests.{ltb-true, ltb-false, eqb-false}
 use Rattle.route.specs.Step.{sectorOf, portalOf}
 use Rattle.route.specs.Target.{bySight, targetOf}
@@ -21,9 +19,7 @@ use Rattle.sector.specs.Sector.{sectorField, sectorBytes}
 use Rattle.sector.proofs.Planned.{bytes-hundred, none-read}
 use Rattle.counting.specs.Counting.{legTarget}
 use Rattle.leg_plan.specs.Leg.{part, names, namesTwice, stepField, stepBytes, closedFrom, withPart, plannedFrom}
-use Rattle.step_list.specs.Inner.{stepAt}
-use Rattle.leg_plan.specs.Inner.{copied}
-use Rattle.step_list.proofs.Steps.{neither, stepsFrom, from-here}
+use Rattle.step_list.proofs.Steps.{neither}
 use Rattle.step_list.specs.Steps.{stepOf}
 use Rattle.leg_plan.specs.Promise.{sectorAt, targetAt, portalAt, costsAt, builtAt, hasBefore, builtBefore}
 
@@ -188,55 +184,8 @@ module _ (sight : Bool) (floor : List ℕ) where
   written ss fits once (suc k) h =
       written-from ss false [] fits once (suc k) h ∙ ap (λ (f : List ℕ). stepBytes sight floor true f (stepOf ss (suc k))) (field-at ss k (omega arith))
 
-  -- ---- copied: the parts of one planned sheet make another
-
-  abbrev Holds : List (List ℕ) → Bool → List ℕ → List ℕ → Type 0
-  Holds ss has previous from =
-      (k : ℕ) → k < length ss → part from (sectorAt ss k) ≡ stepBytes sight floor (hasFrom has k) (fieldFrom ss has previous k) (stepOf ss k)
-
-  holds-on : (s : List ℕ) (ss : List (List ℕ)) (has : Bool) (previous from : List ℕ)
-      → Holds (s ∷ ss) has previous from → Holds ss true (stepField sight floor has previous s) from
-  unfolding fieldFrom
-  holds-on s ss has previous from h zero l = h 1 (omega arith)
-  holds-on s ss has previous from h (suc k) l = h (suc (suc k)) (omega arith)
-
-  copied-from : (ss : List (List ℕ)) (has : Bool) (previous from sheet : List ℕ) → Holds ss has previous from
-      → copied ss from sheet ≡ plannedFrom sight floor ss has previous sheet
-  unfolding copied plannedFrom fieldFrom
-  copied-from [] has previous from sheet h = refl
-  copied-from (s ∷ ss) has previous from sheet h =
-      ap (λ (b : List ℕ). copied ss from (withPart sheet (sectorOf s) b)) (h zero (omega arith))
-      ∙ copied-from ss true (stepField sight floor has previous s) from (withPart sheet (sectorOf s) (stepBytes sight floor has previous s))
-      (holds-on s ss has previous from h)
-
-  pub copied-planned : (ss : List (List ℕ)) (scratch sheet : List ℕ) → Fits ss scratch → namesTwice ss ≡ false
-      → copied ss (plannedFrom sight floor ss false [] scratch) sheet ≡ plannedFrom sight floor ss false [] sheet
-  copied-planned ss scratch sheet fits once = copied-from ss false [] (plannedFrom sight floor ss false [] scratch) sheet (written-from ss false [] fits once)
-
   -- its built costs are those of its target
   pub built-is : (ss : List (List ℕ)) (k : ℕ) → builtAt sight floor ss k ≡ sectorField (costsAt floor ss k) (targetAt sight floor ss k) .field
   unfolding builtAt
   built-is ss zero = refl
   built-is ss (suc k) = refl
-
--- ---- copied: one of the parts
-
-module _ (from sheet : List ℕ) (w : ℕ) (from-fits : w * 100 + 100 ≤ length from) (sheet-fits : w * 100 + 100 ≤ length sheet) where
-  part-copied :
-      take (w * 100) sheet ++ ((take (length (part from w)) (part from w) ++ drop (length (part from w)) (part sheet w)) ++ drop 100 (drop (w * 100) sheet))
-      ≡ withPart sheet w (part from w)
-  part-copied =
-      let all : length (part sheet w) ≤ length (part from w) = simp (length-take, length-drop) (omega arith) in
-      rw (take-length (part from w), drop-of-length-le (part sheet w) all, append-nil (part from w), drop-drop 100 (w * 100) sheet)
-
-  -- that of the step at place k, with the lengths as they are worked out where the two parts are lent
-  pub copied-more : (steps : List ℕ) (k : ℕ) → k < length steps / 8 → w ≡ sectorOf (stepAt steps k)
-      → let n = w * 100 + 100 - w * 100 in
-      let lent = take n (drop (w * 100) from) in
-      copied (stepsFrom steps k) from sheet
-      ≡ copied (stepsFrom steps (k + 1)) from
-      (take (w * 100) sheet ++ ((take (length lent) lent ++ drop (length lent) (take n (drop (w * 100) sheet))) ++ drop n (drop (w * 100) sheet)))
-  unfolding copied
-  copied-more steps k h e =
-      let n : w * 100 + 100 - w * 100 ≡ 100 = omega arith in
-      rw (from-here steps k h, n, part-copied, e)

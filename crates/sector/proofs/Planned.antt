@@ -1,8 +1,9 @@
 -- What is promised of a sector's run, and of the sector call.
 --     bytes-hundred      100 bytes are written
 --     none-read          without a previous field, what is lent in its place plays no part
+--     written            what is written of a built field
 --     run-bytes          the bytes that a run leaves, by its cells
---     runs               what the run's four calls leave
+--     runs               what the run's three parts leave
 --     sector-planned     demand 3, and arrows clear of walls, of the definitions
 --     refuses, accepts   all that is promised of a refused call, and of an accepted one by its run
 --     planned-without    what is promised besides of a sector planned without sight, of the definitions
@@ -38,8 +39,15 @@ use Rattle.arrows.proofs.Bytes.{new-length}
 use Rattle.arrows.proofs.Clear.{OnEdge, arrows-clear, target-on}
 use Rattle.arrows.proofs.Lead.{arrows-led, marked-told, arrows-lead}
 use Rattle.sector.specs.Sector.{sectorNumber, sectorField, sectorBytes, sectorAnswer, sectorSheet, sectorAnswerBy, sectorSheetBy}
+use Rattle.sector.specs.Inner.{flowBytes}
 use Rattle.sector.specs.Promise.{Planned, PlannedWithout}
 use Rattle.sector.proofs.Numbers.{Accepted, accepted}
+
+-- what `new` and `build` leave, one after the other
+pub written : (portal : PortalWindow) (window cells : List ℕ) (has : Bool) (previous new bytes : List ℕ)
+    → new ≡ newBytes portal window cells has previous → bytes ≡ buildSheet cells new → bytes ≡ flowBytes portal window cells has previous
+unfolding buildNumber
+written portal window cells has previous new bytes r t = t ∙ rw (r, eq-eqb _ 100 (new-length portal window cells has previous))
 
 module _ (costs : List ℕ) (target : Target) (portal : PortalWindow) where
   pub bytes-hundred : (has : Bool) (previous : List ℕ) → length (sectorBytes costs target portal has previous) ≡ 100
@@ -53,24 +61,18 @@ module _ (costs : List ℕ) (target : Target) (portal : PortalWindow) where
   unfolding sectorBytes newBytes newByte windowBits
   none-read previous other = refl
 
+  pub run-bytes : (has : Bool) (previous cells window bytes : List ℕ) → cells ≡ sectorField costs target .field → window ≡ windowOf target
+      → bytes ≡ flowBytes portal window cells has previous → bytes ≡ sectorBytes costs target portal has previous
+  unfolding sectorBytes
+  run-bytes has previous cells window bytes e w t = t ∙ rw (e, w)
+
   module _ (full : length costs ≡ 100) (inside : TargetIn target) (has : Bool) (previous : List ℕ) where
-    ends : (cells : List ℕ) → buildSheet cells (newBytes portal (windowOf target) cells has previous)
-        ≡ flowBuild cells (newBytes portal (windowOf target) cells has previous)
-    unfolding buildNumber
-    ends cells = rw (eq-eqb _ 100 (new-length portal (windowOf target) cells has previous))
-
-    pub run-bytes : (cells new bytes : List ℕ) → cells ≡ sectorField costs target .field
-        → new ≡ newBytes portal (windowOf target) cells has previous → bytes ≡ buildSheet cells new
-        → bytes ≡ sectorBytes costs target portal has previous
-    unfolding sectorBytes
-    run-bytes cells new bytes e r t = t ∙ rw (r, e) (ends (sectorField costs target .field))
-
-    pub runs : (f : IntegrationField) (b : BuildAnswer) (new bytes : List ℕ) → f ≡ started costs target → b ≡ answerOf 0 costs f
-        → new ≡ newBytes portal (windowOf target) (b .field .field) has previous → bytes ≡ buildSheet (b .field .field) new
+    pub runs : (f : IntegrationField) (b : BuildAnswer) (window bytes : List ℕ) → f ≡ started costs target → b ≡ answerOf 0 costs f
+        → window ≡ windowOf target → bytes ≡ flowBytes portal window (b .field .field) has previous
         → (b ≡ answerOf 0 costs (started costs target)) × (bytes ≡ sectorBytes costs target portal has previous)
-    runs f b new bytes p q r t =
+    runs f b window bytes p q w t =
         let e : b ≡ answerOf 0 costs (started costs target) = q ∙ ap (answerOf 0 costs) p in
-        (e, run-bytes (b .field .field) new bytes (ap (λ (a : BuildAnswer). a .field .field) e) r t)
+        (e, run-bytes has previous (b .field .field) window bytes (ap (λ (a : BuildAnswer). a .field .field) e) w t)
 
     pub sector-planned : OnEdge portal target
         → Planned costs target (sectorField costs target .field) (waveCount costs (started costs target)) (sectorBytes costs target portal has previous)

@@ -1,8 +1,10 @@
 // The sector call: its number, and the run of its step's target: a field on the sector's costs, started and built, and its flow bytes on the sheet.
 use integration_field::BuildAnswer;
+use integration_field::IntegrationField;
 use route::PortalWindow;
 use route::RouteStep;
 use route::Target;
+use route::WindowCells;
 ghost use mathlib.Core.Path.{_≡_};
 ghost use mathlib.Core.Bool.{true, false};
 ghost use mathlib.Core.List.{List};
@@ -10,13 +12,12 @@ ghost use Prim.Native.Nat.{ℕ};
 ghost use lib.ListN.{length};
 ghost use Rattle.route.specs.Step.{isWindow};
 ghost use Rattle.route.specs.Target.{targetOf, withoutSight, bySight};
-ghost use Rattle.route.specs.Inner.{heldTarget};
+ghost use Rattle.route.specs.Inner.{heldCells, heldTarget, WindowHeld};
 ghost use Rattle.integration_field.specs.Answer.{answerOf};
 ghost use Rattle.started_field.specs.Started.{started};
 ghost use Rattle.least_walks.specs.Promise.{StartedPositions};
-ghost use Rattle.arrows.specs.Promise.{builtCells};
 ghost use Rattle.sector.specs.Sector.{lacksPrevious, sectorNumber, sectorBytes, sectorAnswer, sectorSheet, sectorAnswerBy, sectorSheetBy};
-ghost use Rattle.sector.specs.Inner.{RunReady};
+ghost use Rattle.sector.specs.Inner.{flowBytes, RunReady};
 ghost use Rattle.sector.specs.Promise.{Planned, PlannedWithout};
 
 // Number 17's condition: a window without a previous field.
@@ -61,8 +62,24 @@ fn sector_number(
     0
 }
 
-// A sector's run over a target: its field, started and built, and its flow bytes. `portal` is the step's window, whole.
-pub fn run(
+// Writes a built field: its flow field, new and built, onto 100 lent bytes. `portal` is the step's window, whole, `window` its cells that count.
+pub fn write(
+    portal: PortalWindow,
+    window: WindowCells,
+    built: IntegrationField,
+    has_previous: bool,
+    previous: &[u32],
+    sheet: &mut [u8],
+)
+    requires { ⌜ (WindowHeld window) × ((«has_previous» ≡ true → length (now previous) ≡ 100) × (length (now sheet) ≡ 100)) ⌝ }
+    ensures { λ _. ⌜ now (sheet .exit) ≡ flowBytes portal (heldCells window) (built .field) «has_previous» (now (previous .entry)) ⌝ }
+{
+    flow_new::new_cells(portal, window, built, has_previous, previous, sheet);
+    flow_build::build(built, sheet);
+}
+
+// A sector's run over a target: its field, started and built with its positions, and its flow bytes. `portal` is the step's window, whole.
+fn run(
     costs: &[u8],
     target: Target,
     portal: PortalWindow,
@@ -77,30 +94,8 @@ pub fn run(
     let field = integration_init::start(costs, target);
     let answer = integration_build::built(costs, field);
     let built = answer.field;
-    flow_new::new_cells(portal, target.window, built, has_previous, previous, sheet);
-    flow_build::build(built, sheet);
+    write(portal, target.window, built, has_previous, previous, sheet);
     answer
-}
-
-// The same for who answers no field: its cells alone, and no positions of corners.
-pub fn run_cells(
-    costs: &[u8],
-    target: Target,
-    portal: PortalWindow,
-    has_previous: bool,
-    previous: &[u32],
-    sheet: &mut [u8],
-) -> [u32; 100]
-    requires { ⌜ RunReady (now costs) target «has_previous» (now previous) (now sheet) ⌝ }
-    ensures cells { λ r. ⌜ r ≡ builtCells (now (costs .entry)) (heldTarget target) ⌝ }
-    ensures sheet { λ _. ⌜ now (sheet .exit) ≡ sectorBytes (now (costs .entry)) (heldTarget target) portal «has_previous» (now (previous .entry)) ⌝ }
-{
-    let mut field = integration_init::start(costs, target);
-    let cells = integration_build::build_cells(costs, field);
-    field.field = cells;
-    flow_new::new_cells(portal, target.window, field, has_previous, previous, sheet);
-    flow_build::build(field, sheet);
-    cells
 }
 
 // The sector call, with the sight of a goal or without: a refused one writes nothing.

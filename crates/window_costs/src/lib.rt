@@ -18,8 +18,8 @@ fn column_at(costs: &[u8], steps: &[u8], j: usize) -> [u32; 8]
         return [65535; 8];
     }
     let target = window_columns::target_at(steps, j);
-    let cells = built_cells::built_on(costs, target);
-    window_columns::column_of(&cells, steps)
+    let built = target_field::build_target(costs, target);
+    window_columns::column_of(&built.field, steps)
 }
 
 // The square, filled column by column and turned.

@@ -1,9 +1,11 @@
 -- `bounds::run` meets its contract: what its five calls leave.
 -- Assumes nothing.
+use mathlib.Core.Path.{ap}
 use Prim.Native.Nat.{ℕ, _≤_, _<_}
 use native.Mathlib.Omega.{arith}
 use denote.Ref.{now}
 use lib.ListN.{getD}
+use Rattle.integration_field.specs.declared.IntegrationField.{IntegrationField}
 use Rattle.route.specs.Inner.{heldTarget}
 use Rattle.route.proofs.Targets.{held-in}
 use borrow.Author.Needs.{needs}
@@ -11,14 +13,14 @@ use Rattle.bounds.proofs.Laws.{runs}
 use Rattle.bounds.proofs.run.Statement.{statement}
 use Rattle.bounds.proofs.run.Tie as tie
 
-built-on-requires : tie.Need-built-on-requires
-built-on-requires c κs = search needs
+build-target-requires : tie.Need-build-target-requires
+build-target-requires c κs = search needs
 
 costs-of-requires : tie.Need-costs-of-requires
 costs-of-requires c κs = search needs
 
-built-on-requires-2 : tie.Need-built-on-requires-2
-built-on-requires-2 c κs = search needs
+build-target-requires-2 : tie.Need-build-target-requires-2
+build-target-requires-2 c κs = search needs
 
 costs-of-requires-2 : tie.Need-costs-of-requires-2
 costs-of-requires-2 c κs = search needs
@@ -29,24 +31,24 @@ sure-cells-requires c κs = search needs
 returns : tie.Need-returns
 returns c =
     let counted-2 = c .before .before .before .before in
-    let built-2 = counted-2 .before .before in
+    let built-2 = counted-2 .before .before .before in
     let counted = built-2 .before in
-    let built = counted .before .before in
+    let built = counted .before .before .before in
     let known = built .before .before in
     let s = known .before in
     let low = now (s .args .low) in
     let t = s .args .target in
     let byte : (x : ℕ) → x < 100 → getD low x 0 ≤ 255 = λ x h. omega (arith, known .shared-slice-known .given x) in
     runs low (now (s .args .high)) (heldTarget t) (s .pre .low-hundred) (held-in t (s .pre .target-held)) (s .pre .by-window) byte _ _ _ _ _
-    (built .built-on .ensures) (built-2 .built-on2 .ensures) (counted .costs-of .ensures) (counted-2 .costs-of2 .ensures) (c .sure-cells .ensures)
+    (ap (λ (f : IntegrationField). f .field) (built .build-target .ensures)) (ap (λ (f : IntegrationField). f .field) (built-2 .build-target2 .ensures)) (counted .costs-of .ensures) (counted-2 .costs-of2 .ensures) (c .sure-cells .ensures)
 
 pub run-spec : {M : Type 1} → statement M
 run-spec =
     tie.close
     (tie.spec
-    built-on-requires
+    build-target-requires
     costs-of-requires
-    built-on-requires-2
+    build-target-requires-2
     costs-of-requires-2
     sure-cells-requires
     returns)

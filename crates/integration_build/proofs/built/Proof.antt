@@ -1,94 +1,37 @@
--- `integration_build::built` meets its contract. Any number of waves from 99 on is enough, and the positions are those of the cells so built.
+-- `integration_build::built` meets its contract: built without positions, and then they are added.
 -- Assumes nothing.
-use mathlib.Core.Path.{_≡_, sym, ap, _∙_}
-use mathlib.Core.List.{List}
-use Prim.Native.Nat.{ℕ}
-use native.Mathlib.Omega.{arith}
-use lib.ListN.{length, take}
+use mathlib.Core.Path.{_≡_, ap, _∙_}
+use lib.ListN.{length}
 use denote.Ref.{now}
 use borrow.Author.Needs.{needs}
-use Rattle.integration_field.specs.declared.IntegrationField.{IntegrationField}
-use Rattle.integration_field.specs.Listed.{padded, listOf, Indexes}
-use Rattle.integration_field.specs.Build.{Built, build}
-use Rattle.integration_field.specs.Position.{positions}
-use Rattle.integration_build.specs.Wavefront.{Settles}
-use Rattle.integration_build.proofs.Recursion.{listed, corners-indexes, built-cells, built-is}
+use Rattle.integration_build.specs.Without.{withPositions}
+use Rattle.integration_build.proofs.Recursion.{built-from, positions-are}
 use Rattle.integration_build.proofs.built.Statement.{statement}
 use Rattle.integration_build.proofs.built.Tie as tie
 
--- the places: where the positions are found, the waves have run, the first wave is made, the places beyond the list are cleared; the call
-abbrev ran : tie.After-corner-positions → tie.After-propagate-integrated-wavefront
-ran c = c .before .before .before .before .before
-
-abbrev first : tie.After-propagate-integrated-wavefront → tie.After-corner-wave
-first c = c .before .before .before
-
-abbrev cleared : tie.After-corner-wave → tie.After-clear-beyond
-cleared c = c .before .before .before
-
-abbrev start : tie.After-clear-beyond → tie.Start
-start c = c .before .before .before .before
-
--- what the call is given
-abbrev costs : tie.Start → List ℕ
-costs s = now (s .args .costs)
-
-abbrev given : tie.Start → IntegrationField
-given s = s .args .given
-
-full : (s : tie.Start) → length (given s .field) ≡ 100
+full : (s : tie.Start) → length (s .args .given .field) ≡ 100
 full s = search needs
 
-long : (s : tie.Start) → length (given s .«los_corners») ≡ 100
+long : (s : tie.Start) → length (s .args .given .«los_corners») ≡ 100
 long s = search needs
 
--- places that hold the list, and 0 beyond it: the list before the count, and cells of the sector
-module _ (s : tie.Start) {places : List ℕ} (held : places ≡ padded (listOf (given s))) where
-  same : take (given s .count) places ≡ listOf (given s)
-  same = listed (costs s) (given s) (long s) (s .pre) 100 (omega arith) places held
+-- where it is built without positions, and the call
+abbrev start : tie.After-build-without-positions → tie.Start
+start c = c .before .before .before
 
-  indexes : Indexes 100 places (given s .count)
-  indexes = corners-indexes (costs s) (given s) (long s) (s .pre) 100 (omega arith) places held (given s .count) (omega arith)
-
-  -- and what the waves from there leave
-  left : {cells : List ℕ} {waves : ℕ} → Settles (costs s) (given s .field) (take (given s .count) places) 100 cells waves
-      → record { cells = cells; waves = waves } ≡ build (costs s) (given s .field) (listOf (given s))
-  left settled = built-cells (costs s) (given s) (long s) (s .pre) 100 (omega arith) places held (full s) settled (omega arith)
-
--- the first wave is the list as well
-wave : (c : tie.After-corner-wave) → c .corner-wave .result ≡ padded (listOf (given (start (cleared c))))
-wave c = let m = cleared c in c .corner-wave .ensures ∙ ap padded (same (start m) (m .clear-beyond .ensures))
-
-waves-requires : tie.Need-propagate-integrated-wavefront-requires
-waves-requires c κs =
-    let w = c .before .before in
-    let s = start (cleared w) in
-    (indexes s (wave w), (full s, s .pre .costs-hundred))
-
-positions-requires : tie.Need-corner-positions-requires
-positions-requires c κs =
-    let p = c .before .before .before .before in
-    let m = cleared (first p) in
+add-positions-requires : tie.Need-add-positions-requires
+add-positions-requires c κs =
+    let m = c .before in
     let s = start m in
-    let e = m .clear-beyond .ensures in
-    let done = left s (wave (first p)) (p .propagate-integrated-wavefront .ensures) in
-    let cells = ap (λ (b : Built). b .cells) done ∙ ap (λ (l : List ℕ). build (costs s) (given s .field) l .cells) (sym (same s e)) in
-    (s .pre .costs-hundred, (full s, (indexes s e, cells)))
+    rw (m .build-without-positions .ensures) (s .pre .costs-hundred, built-from (now (s .args .costs)) (s .args .given) (long s) (s .pre) (full s))
 
 returns : tie.Need-returns
 returns c =
-    let found = c .before .before in
-    let p = ran found in
-    let m = cleared (first p) in
+    let m = c .before .before in
     let s = start m in
-    let e = m .clear-beyond .ensures in
-    built-is (costs s) (given s) (long s) (s .pre) _ e (left s (wave (first p)) (p .propagate-integrated-wavefront .ensures))
-    (c .put .ensures ∙ found .corner-positions .ensures ∙ ap (positions (costs s) (given s .field)) (same s e))
+    let costs = now (s .args .costs) in
+    let f = s .args .given in
+    c .add-positions .ensures ∙ ap (withPositions costs (f .field)) (m .build-without-positions .ensures) ∙ positions-are costs f (long s) (s .pre)
 
 pub built-spec : {M : Type 1} → statement M
-built-spec = tie.close (tie.spec
-    (λ c κs. search needs)
-    (λ c κs. let m = c .before .before in indexes (start m) (m .clear-beyond .ensures))
-    waves-requires positions-requires
-    (λ c κs. search needs)
-    returns)
+built-spec = tie.close (tie.spec (λ c κs. search needs) add-positions-requires returns)

@@ -1,22 +1,16 @@
--- `sector::run` meets its contract: what its four calls leave. A started field's corners are cells, so it can be built.
+-- `sector::run` meets its contract: what its three parts leave. A started field's corners are cells, so it can be built.
 -- Assumes nothing.
-use mathlib.Core.Path.{_≡_, sym, ap, _∙_}
-use mathlib.Core.List.{List}
+use mathlib.Core.Path.{sym}
 use denote.Ref.{now}
-use Prim.Native.Nat.{ℕ}
-use Rattle.route.specs.Inner.{heldTarget}
+use Rattle.route.specs.Inner.{heldCells, heldTarget}
 use Rattle.route.proofs.Targets.{held-in, held-window}
 use Rattle.least_walks.proofs.Promise.{accepts-started}
-use Rattle.flow_byte.specs.New.{newBytes}
 use Rattle.sector.proofs.Planned.{runs}
 use borrow.Author.Needs.{needs}
 use Rattle.sector.proofs.run.Statement.{statement}
 use Rattle.sector.proofs.run.Tie as tie
 
--- the places: where the new bytes are written, the field is built, the field is started; the call
-abbrev built : tie.After-new-cells → tie.After-built
-built c = c .before .before .before
-
+-- the places: where the field is built, and started; the call
 abbrev started : tie.After-built → tie.After-start
 started c = c .before
 
@@ -31,22 +25,14 @@ built-requires c κs =
 
 returns : tie.Need-returns
 returns c =
-    let filled = c .before .before in
-    let new = filled .before .before .before .before in
-    let b = built new in
+    let b = c .before .before .before .before .before in
     let f = started b in
     let s = start f in
     let a = s .args in
     let t = a .target in
-    let cells = b .built .result .field .field in
-    let window = ap (λ (w : List ℕ). newBytes (a .portal) w cells (a .has-previous) (now (a .previous))) (sym (held-window t (s .pre .target-held))) in
     runs (now (a .costs)) (heldTarget t) (a .portal) (s .pre .costs-hundred) (held-in t (s .pre .target-held)) (a .has-previous) (now (a .previous))
-    (f .start .result) (b .built .result) _ _
-    (f .start .ensures) (b .built .ensures) (new .new-cells .ensures ∙ window) (filled .build .ensures .1 .0)
+    (f .start .result) (b .built .result) (heldCells (t .window)) _
+    (f .start .ensures) (b .built .ensures) (sym (held-window t (s .pre .target-held))) (c .before .before .write .ensures)
 
 pub run-spec : {M : Type 1} → statement M
-run-spec = tie.close (tie.spec
-    (λ c κs. search needs)
-    built-requires
-    (λ c κs. search needs) (λ c κs. search needs) (λ c. search needs)
-    returns)
+run-spec = tie.close (tie.spec (λ c κs. search needs) built-requires (λ c κs. search needs) (λ c. search needs) returns)

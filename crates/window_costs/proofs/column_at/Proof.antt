@@ -11,6 +11,7 @@ use Rattle.utilities.specs.Lists.{below}
 use Rattle.route.specs.Target.{targetOf}
 use Rattle.step_list.specs.Steps.{stepsOf, stepOf}
 use Rattle.step_list.proofs.Steps.{steps-count, step-of}
+use Rattle.integration_field.specs.declared.IntegrationField.{IntegrationField}
 use Rattle.arrows.specs.Promise.{builtCells}
 use Rattle.cost_square.specs.Inner.{leastFrom}
 use Rattle.cost_square.proofs.Columns.{column-unused, column-used}
@@ -26,26 +27,26 @@ returns c =
 target-at-requires : tie.Need-target-at-requires
 target-at-requires c κs = search needs
 
-built-on-requires : tie.Need-built-on-requires
-built-on-requires c κs = search needs
+build-target-requires : tie.Need-build-target-requires
+build-target-requires c κs = search needs
 
 column-of-requires : tie.Need-column-of-requires
 column-of-requires c κs = search needs
 
 returns-2 : tie.Need-returns-2
 returns-2 c =
-    let b = c .before .before in
+    let b = c .before .before .before in
     let t = b .before in
     let s = t .before .before .before .before in
     let costs = now (s .args .costs) in
     let steps = now (s .args .steps) in
     let j = s .args .j in
     let l : j < length steps / 8 = omega arith in
-    let built : b .built-on .result ≡ builtCells costs (targetOf (stepOf (stepsOf steps) j))
-    = b .built-on .ensures ∙ ap (builtCells costs) (t .target-at .ensures .1 ∙ ap targetOf (sym (step-of steps j l))) in
+    let built : b .build-target .result .field ≡ builtCells costs (targetOf (stepOf (stepsOf steps) j))
+    = ap (λ (f : IntegrationField). f .field) (b .build-target .ensures) ∙ ap (builtCells costs) (t .target-at .ensures .1 ∙ ap targetOf (sym (step-of steps j l))) in
     c .column-of .ensures ∙ ap (λ (cells : List ℕ). map (leastFrom cells (stepsOf steps)) (below 8)) built
     ∙ column-used costs (stepsOf steps) j (omega (arith, steps-count steps))
 
 pub column-at-spec : {M : Type 1} → statement M
 column-at-spec =
-    tie.close (tie.spec returns target-at-requires built-on-requires column-of-requires returns-2)
+    tie.close (tie.spec returns target-at-requires build-target-requires column-of-requires returns-2)
