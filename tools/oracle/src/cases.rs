@@ -130,7 +130,11 @@ impl Case {
             Ask::One(Call::FlowNew) => Outcome::of_number(side.flow_new(steps, self.field, previous, sheet)),
             Ask::One(Call::FlowBuild) => Outcome::of_number(side.flow_build(self.field, sheet)),
             Ask::One(Call::Sector) => Outcome::of_build(side.sector(costs, steps, previous, sheet)),
+            Ask::One(Call::SectorWithoutSight) => {
+                Outcome::of_build(side.sector_without_sight(costs, steps, previous, sheet))
+            }
             Ask::One(Call::Leg) => Outcome::of_number(side.leg(costs, steps, sheet)),
+            Ask::One(Call::LegWithoutSight) => Outcome::of_number(side.leg_without_sight(costs, steps, sheet)),
             Ask::One(Call::LegFileWrite) => Outcome::of_number(side.leg_file_write(steps, sheet)),
             Ask::One(Call::LegFileRead) => {
                 let found = side.leg_file_read(steps);

@@ -94,7 +94,26 @@ unsafe extern "C" {
         sheet: *mut u8,
         sheet_length: usize,
     ) -> BuildAnswer;
+    fn hanjolum_sector_without_sight(
+        costs: *const u8,
+        costs_length: usize,
+        step: *const u8,
+        step_length: usize,
+        has_previous: bool,
+        previous: *const u32,
+        previous_length: usize,
+        sheet: *mut u8,
+        sheet_length: usize,
+    ) -> BuildAnswer;
     fn hanjolum_leg(
+        floor: *const u8,
+        floor_length: usize,
+        steps: *const u8,
+        steps_length: usize,
+        sheet: *mut u8,
+        sheet_length: usize,
+    ) -> u8;
+    fn hanjolum_leg_without_sight(
         floor: *const u8,
         floor_length: usize,
         steps: *const u8,
@@ -150,7 +169,9 @@ impl Subject for Library {
             Call::FlowNew => cfg!(export = "hanjolum_flow_new"),
             Call::FlowBuild => cfg!(export = "hanjolum_flow_build"),
             Call::Sector => cfg!(export = "hanjolum_sector"),
+            Call::SectorWithoutSight => cfg!(export = "hanjolum_sector_without_sight"),
             Call::Leg => cfg!(export = "hanjolum_leg"),
+            Call::LegWithoutSight => cfg!(export = "hanjolum_leg_without_sight"),
             Call::LegFileWrite => cfg!(export = "hanjolum_leg_file_write"),
             Call::LegFileRead => cfg!(export = "hanjolum_leg_file_read"),
             Call::PracticeFloor => cfg!(export = "hanjolum_practice_floor"),
@@ -238,10 +259,42 @@ impl Subject for Library {
         )
     }
 
+    fn sector_without_sight(&self, costs: &[u8], step: &[u8], previous: Previous, sheet: &mut [u8]) -> BuildAnswer {
+        let (numbers, length) = (previous.numbers.as_ptr(), previous.numbers.len());
+        exported!(
+            "hanjolum_sector_without_sight",
+            hanjolum_sector_without_sight(
+                costs.as_ptr(),
+                costs.len(),
+                step.as_ptr(),
+                step.len(),
+                previous.lent,
+                numbers,
+                length,
+                sheet.as_mut_ptr(),
+                sheet.len()
+            )
+        )
+    }
+
     fn leg(&self, floor: &[u8], steps: &[u8], sheet: &mut [u8]) -> u8 {
         exported!(
             "hanjolum_leg",
             hanjolum_leg(floor.as_ptr(), floor.len(), steps.as_ptr(), steps.len(), sheet.as_mut_ptr(), sheet.len())
+        )
+    }
+
+    fn leg_without_sight(&self, floor: &[u8], steps: &[u8], sheet: &mut [u8]) -> u8 {
+        exported!(
+            "hanjolum_leg_without_sight",
+            hanjolum_leg_without_sight(
+                floor.as_ptr(),
+                floor.len(),
+                steps.as_ptr(),
+                steps.len(),
+                sheet.as_mut_ptr(),
+                sheet.len()
+            )
         )
     }
 

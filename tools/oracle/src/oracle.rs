@@ -5,7 +5,9 @@
 //! what did not move is the published Rust's. A step whose goal or some window cell is of cost 255 (02, Job 3) is the table's,
 //! and the Rust, which takes it, is not asked. Wave counts come from the counted copy, whose fields are asserted equal to those
 //! of the copy that decides. Positions (02, Job 10), which the Rust does not have, are the model's, over the cells that the
-//! Rust built. Each judge is noted where it is asked.
+//! Rust built. The two calls without sight are our own addition: the Rust has no such call, and has its parts, which decide
+//! a goal's sector from a field given by hand, the published `build` and `new` and the altered look. Each judge is noted
+//! where it is asked.
 
 use crate::copies::{altered, counted_build, published};
 use crate::judges::{Judge, aside, decides};
@@ -22,7 +24,9 @@ pub fn judges(call: Call) -> &'static [Judge] {
         Call::Init => &[Judge::Altered, Judge::Model],
         Call::Build => &[Judge::Published, Judge::Counted, Judge::Model],
         Call::Sector => &[Judge::Altered, Judge::Counted, Judge::Model],
+        Call::SectorWithoutSight => &[Judge::Published, Judge::Altered, Judge::Counted, Judge::Model],
         Call::Leg => &[Judge::Altered, Judge::Model],
+        Call::LegWithoutSight => &[Judge::Published, Judge::Altered, Judge::Model],
         Call::LegFileWrite | Call::LegFileRead | Call::PracticeFloor => &[Judge::Model],
         Call::Bounds | Call::WindowCosts | Call::WindowTour | Call::Arrivals => &[Judge::Model],
         _ => &[Judge::Published],
@@ -76,31 +80,109 @@ fn waves_of(costs: &[u8], field: &IntegrationField, cells: &[u32; CELLS]) -> usi
     counted.waves
 }
 
+/// A goal's sector as it starts without sight: a wall is 0x200FFFF, the goal 0x20000 and the one listed corner, and every
+/// other cell 65535. The Rust starts no sector so: it is given this field by hand.
+pub fn started_without_sight(costs: &[u8], step: &[u8]) -> IntegrationField {
+    let mut cells = [65535; CELLS];
+    cells.iter_mut().zip(costs).filter(|(_, cost)| **cost == 255).for_each(|(cell, _)| *cell = 0x200FFFF);
+    let goal = usize::from(step[1]);
+    cells[goal] = 0x20000;
+    IntegrationField::new(cells, &[goal])
+}
+
+/// A sector planned by the Rust.
+struct Planned {
+    started: IntegrationField,
+    built: IntegrationField,
+    bytes: [u8; CELLS],
+}
+
+/// A sector planned by the Rust's own parts, one after the other. With the sight of its goal, or left by a window, all are the
+/// altered Rust's; without sight `build` and `new` are the published one's, on the field that is given by hand.
+fn planned(sight: bool, costs: &[u8], step: &[u8], previous: Option<&[u32]>) -> Planned {
+    decides(Judge::Altered);
+    let (started, built, starting);
+    if sight || step[2] == 1 {
+        started = altered::started(costs, step);
+        built = altered::built(costs, &started);
+        starting = altered::flow_new(step, &built.field, previous);
+    } else {
+        decides(Judge::Published);
+        started = started_without_sight(costs, step);
+        built = published::built(costs, &started);
+        starting = published::flow_new(step, &built.field, previous);
+    }
+    Planned { started, built, bytes: altered::flow_build(&built.field, &starting) }
+}
+
+/// The sector call, with the sight of a goal or without.
+fn sector_by(sight: bool, costs: &[u8], step: &[u8], previous: Previous, sheet: &mut [u8]) -> BuildAnswer {
+    let given = Given {
+        costs: Some(costs),
+        sheet: Some(sheet.len()),
+        steps: Some(step),
+        previous: Some(previous),
+        ..Given::default()
+    };
+    let number = number(&given);
+    if number != 0 {
+        return refused::build(number);
+    }
+    let Planned { started, built, bytes } = planned(sight, costs, step, lent(previous));
+    sheet.copy_from_slice(&bytes);
+    decides(Judge::Counted);
+    let waves = waves_of(costs, &started, &built.field);
+    let positions = Model::PLAIN.positions(costs, &started, &built.field);
+    BuildAnswer { number, field: positioned(built, positions), waves }
+}
+
 impl Oracle {
-    /// The built field and the flow bytes of each step of a leg, the calls chained as document 01 says; none where a
-    /// window has a cell that does not count.
-    fn chained(&self, floor: &[u8], steps: &[u8]) -> Option<Vec<(IntegrationField, [u8; CELLS])>> {
+    /// The built field and the flow bytes of each step of a leg, the calls chained as document 01 says, the first with the
+    /// sight of its goal or without; none where a window has a cell that does not count.
+    fn chained(&self, sight: bool, floor: &[u8], steps: &[u8]) -> Option<Vec<(IntegrationField, [u8; CELLS])>> {
         let mut before: Option<IntegrationField> = None;
-        let mut planned = Vec::new();
+        let mut chained = Vec::new();
         for step in steps.chunks(8) {
             if before.is_some_and(|field| !every_cell_counts(step, &field.field)) {
                 return None;
             }
             let previous = before.as_ref().map(|field| &field.field[..]);
-            let (field, bytes) = altered::planned(&floor[part(step)], step, previous);
-            planned.push((field, bytes));
-            before = Some(field);
+            let Planned { built, bytes, .. } = planned(sight, &floor[part(step)], step, previous);
+            chained.push((built, bytes));
+            before = Some(built);
         }
-        Some(planned)
+        Some(chained)
     }
 
     /// The built cells of each step of a planned leg, by the judge that decides the leg.
-    pub fn built_steps(&self, floor: &[u8], steps: &[u8]) -> Vec<[u32; CELLS]> {
-        match aside(|| self.chained(floor, steps)) {
+    pub fn built_steps(&self, sight: bool, floor: &[u8], steps: &[u8]) -> Vec<[u32; CELLS]> {
+        match aside(|| self.chained(sight, floor, steps)) {
             Some(planned) => planned.iter().map(|(field, _)| field.field).collect(),
-            None => Model::PLAIN.plan(floor, steps).steps.iter().map(|step| step.field.field).collect(),
+            None => Model::PLAIN.plan_by(sight, floor, steps).steps.iter().map(|step| step.field.field).collect(),
         }
     }
+}
+
+/// A leg, with the sight of its goal or without.
+fn leg_by(sight: bool, floor: &[u8], steps: &[u8], sheet: &mut [u8]) -> u8 {
+    let given =
+        Given { leg: true, costs: Some(floor), sheet: Some(sheet.len()), steps: Some(steps), ..Given::default() };
+    let number = number(&given);
+    if number != 0 {
+        return number;
+    }
+    let Some(planned) = aside(|| Oracle.chained(sight, floor, steps)) else {
+        decides(Judge::Model);
+        return Model::PLAIN.leg_by(sight, floor, steps, sheet);
+    };
+    decides(Judge::Altered);
+    if !sight {
+        decides(Judge::Published);
+    }
+    for (step, (_, bytes)) in steps.chunks(8).zip(planned) {
+        sheet[part(step)].copy_from_slice(&bytes);
+    }
+    0
 }
 
 /// Where a step's sector stands in a floor and in a sheet.
@@ -197,43 +279,19 @@ impl Subject for Oracle {
     }
 
     fn sector(&self, costs: &[u8], step: &[u8], previous: Previous, sheet: &mut [u8]) -> BuildAnswer {
-        let given = Given {
-            costs: Some(costs),
-            sheet: Some(sheet.len()),
-            steps: Some(step),
-            previous: Some(previous),
-            ..Given::default()
-        };
-        let number = number(&given);
-        if number != 0 {
-            return refused::build(number);
-        }
-        decides(Judge::Altered);
-        let (field, bytes) = altered::planned(costs, step, lent(previous));
-        decides(Judge::Counted);
-        sheet.copy_from_slice(&bytes);
-        let started = altered::started(costs, step);
-        let waves = waves_of(costs, &started, &field.field);
-        let positions = Model::PLAIN.positions(costs, &started, &field.field);
-        BuildAnswer { number, field: positioned(field, positions), waves }
+        sector_by(true, costs, step, previous, sheet)
+    }
+
+    fn sector_without_sight(&self, costs: &[u8], step: &[u8], previous: Previous, sheet: &mut [u8]) -> BuildAnswer {
+        sector_by(false, costs, step, previous, sheet)
     }
 
     fn leg(&self, floor: &[u8], steps: &[u8], sheet: &mut [u8]) -> u8 {
-        let given =
-            Given { leg: true, costs: Some(floor), sheet: Some(sheet.len()), steps: Some(steps), ..Given::default() };
-        let number = number(&given);
-        if number != 0 {
-            return number;
-        }
-        let Some(planned) = aside(|| self.chained(floor, steps)) else {
-            decides(Judge::Model);
-            return Model::PLAIN.leg(floor, steps, sheet);
-        };
-        decides(Judge::Altered);
-        for (step, (_, bytes)) in steps.chunks(8).zip(planned) {
-            sheet[part(step)].copy_from_slice(&bytes);
-        }
-        0
+        leg_by(true, floor, steps, sheet)
+    }
+
+    fn leg_without_sight(&self, floor: &[u8], steps: &[u8], sheet: &mut [u8]) -> u8 {
+        leg_by(false, floor, steps, sheet)
     }
 
     // Leg files, practice floors, bounds, costs from window to window, tours and arrivals have no Rust.

@@ -58,7 +58,7 @@ pub struct InitAnswer {
     pub field: IntegrationField,
 }
 
-/// What `build` and the sector call answer.
+/// What `build` and the sector calls answer.
 #[repr(C)]
 #[derive(Clone, Copy, PartialEq, Eq, Debug)]
 pub struct BuildAnswer {
@@ -202,7 +202,9 @@ pub enum Call {
     FlowNew,
     FlowBuild,
     Sector,
+    SectorWithoutSight,
     Leg,
+    LegWithoutSight,
     LegFileWrite,
     LegFileRead,
     PracticeFloor,
@@ -226,7 +228,11 @@ pub trait Subject {
     fn flow_new(&self, step: &[u8], field: IntegrationField, previous: Previous, sheet: &mut [u8]) -> u8;
     fn flow_build(&self, field: IntegrationField, sheet: &mut [u8]) -> u8;
     fn sector(&self, costs: &[u8], step: &[u8], previous: Previous, sheet: &mut [u8]) -> BuildAnswer;
+    /// The sector call with a goal as the one listed corner, and no sight.
+    fn sector_without_sight(&self, costs: &[u8], step: &[u8], previous: Previous, sheet: &mut [u8]) -> BuildAnswer;
     fn leg(&self, floor: &[u8], steps: &[u8], sheet: &mut [u8]) -> u8;
+    /// A leg whose first step is planned so.
+    fn leg_without_sight(&self, floor: &[u8], steps: &[u8], sheet: &mut [u8]) -> u8;
     fn leg_file_write(&self, steps: &[u8], file: &mut [u8]) -> u8;
     fn leg_file_read(&self, file: &[u8]) -> LegFile;
     fn practice_floor(&self, seed: u32) -> PracticeFloor;

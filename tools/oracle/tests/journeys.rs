@@ -25,7 +25,7 @@ impl Planned {
     fn new(floor: Vec<u8>, steps: Vec<u8>) -> Self {
         let mut sheet = vec![0x55; 6400];
         assert_eq!(Oracle.leg(&floor, &steps, &mut sheet), 0);
-        let built = Oracle.built_steps(&floor, &steps);
+        let built = Oracle.built_steps(true, &floor, &steps);
         Planned { floor, steps, built, sheet }
     }
 

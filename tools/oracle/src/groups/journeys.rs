@@ -82,7 +82,7 @@ pub(super) fn compared(case: &Case, side: &dyn Subject) -> Compared {
     let mut found = due.differences(&Outcome { sheet: due.sheet.clone(), ..outcome.clone() });
     let mut followed = Default::default();
     if due.number == 0 && outcome.number == 0 {
-        let built = Oracle.built_steps(&case.costs, &case.steps);
+        let built = Oracle.built_steps(true, &case.costs, &case.steps);
         let leg = PlannedLeg { floor: &case.costs, steps: &case.steps, built: &built, sheet: &outcome.sheet };
         match leg.journeys() {
             Ok(journeys) => followed = journeys,

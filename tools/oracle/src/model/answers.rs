@@ -26,10 +26,53 @@ impl Model {
         step: &[u8],
         previous: Option<&[u32]>,
     ) -> (IntegrationField, usize, [u8; CELLS]) {
-        let window = window_cells(step);
-        let (field, waves) = self.built(costs, &self.started(costs, step, &window));
-        let starting = self.starting_bytes(step, &window, &field.field, previous);
+        self.planned_from(true, costs, step, previous, &self.started(costs, step, &window_cells(step)))
+    }
+
+    /// The same of a sector that is started already, with the sight of its goal or without.
+    fn planned_from(
+        &self,
+        sight: bool,
+        costs: &[u8],
+        step: &[u8],
+        previous: Option<&[u32]>,
+        started: &IntegrationField,
+    ) -> (IntegrationField, usize, [u8; CELLS]) {
+        let (field, waves) = self.built_by(sight, costs, step, started);
+        let starting = self.starting_bytes(step, &window_cells(step), &field.field, previous);
         (field, waves, self.flow_bytes(&field.field, starting))
+    }
+
+    /// The sector call, with the sight of a goal or without.
+    fn sector_by(&self, sight: bool, costs: &[u8], step: &[u8], previous: Previous, sheet: &mut [u8]) -> BuildAnswer {
+        let given = Given {
+            costs: Some(costs),
+            sheet: Some(sheet.len()),
+            steps: Some(step),
+            previous: Some(previous),
+            ..Given::default()
+        };
+        if let Some(number) = self.turned_away(&given, sheet) {
+            return self.refused_build(number);
+        }
+        let started = self.started_by(sight, costs, step, &window_cells(step));
+        let (field, waves, bytes) = self.planned_from(sight, costs, step, lent(previous), &started);
+        sheet.copy_from_slice(&bytes);
+        let positions = match self.slip {
+            Slip::PositionsOfSectorUnset => started.positions,
+            _ => self.positions(costs, &started, &field.field),
+        };
+        BuildAnswer { number: 0, field: field.with_positions(positions), waves }
+    }
+
+    /// A leg, with the sight of its goal or without.
+    pub(crate) fn leg_by(&self, sight: bool, floor: &[u8], steps: &[u8], sheet: &mut [u8]) -> u8 {
+        let given =
+            Given { leg: true, costs: Some(floor), sheet: Some(sheet.len()), steps: Some(steps), ..Given::default() };
+        match self.turned_away(&given, sheet) {
+            Some(number) => self.refused_leg(number, floor, steps),
+            None => self.plan_and_write(sight, floor, steps, sheet),
+        }
     }
 
     /// What `build` leaves of the starting bytes.
@@ -145,33 +188,19 @@ impl Subject for Model {
     }
 
     fn sector(&self, costs: &[u8], step: &[u8], previous: Previous, sheet: &mut [u8]) -> BuildAnswer {
-        let given = Given {
-            costs: Some(costs),
-            sheet: Some(sheet.len()),
-            steps: Some(step),
-            previous: Some(previous),
-            ..Given::default()
-        };
-        if let Some(number) = self.turned_away(&given, sheet) {
-            return self.refused_build(number);
-        }
-        let (field, waves, bytes) = self.planned(costs, step, lent(previous));
-        sheet.copy_from_slice(&bytes);
-        let started = self.started(costs, step, &window_cells(step));
-        let positions = match self.slip {
-            Slip::PositionsOfSectorUnset => started.positions,
-            _ => self.positions(costs, &started, &field.field),
-        };
-        BuildAnswer { number: 0, field: field.with_positions(positions), waves }
+        self.sector_by(true, costs, step, previous, sheet)
+    }
+
+    fn sector_without_sight(&self, costs: &[u8], step: &[u8], previous: Previous, sheet: &mut [u8]) -> BuildAnswer {
+        self.sector_by(false, costs, step, previous, sheet)
     }
 
     fn leg(&self, floor: &[u8], steps: &[u8], sheet: &mut [u8]) -> u8 {
-        let given =
-            Given { leg: true, costs: Some(floor), sheet: Some(sheet.len()), steps: Some(steps), ..Given::default() };
-        match self.turned_away(&given, sheet) {
-            Some(number) => self.refused_leg(number, floor, steps),
-            None => self.plan_and_write(floor, steps, sheet),
-        }
+        self.leg_by(true, floor, steps, sheet)
+    }
+
+    fn leg_without_sight(&self, floor: &[u8], steps: &[u8], sheet: &mut [u8]) -> u8 {
+        self.leg_by(false, floor, steps, sheet)
     }
 
     fn leg_file_write(&self, steps: &[u8], file: &mut [u8]) -> u8 {

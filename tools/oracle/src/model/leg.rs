@@ -42,6 +42,11 @@ pub(super) fn taken_but_for_walls(floor: &[u8], steps: &[u8]) -> bool {
 impl Model {
     /// Plans the steps of a leg that the table takes, and writes nothing.
     pub fn plan(&self, floor: &[u8], steps: &[u8]) -> Plan {
+        self.plan_by(true, floor, steps)
+    }
+
+    /// The same, with the sight of the goal or without. Later steps go by the field before in either case.
+    pub fn plan_by(&self, sight: bool, floor: &[u8], steps: &[u8]) -> Plan {
         let mut plan = Plan { steps: Vec::new(), closed: false };
         let mut before: Option<IntegrationField> = None;
         for (k, step) in steps.chunks(8).enumerate() {
@@ -54,7 +59,7 @@ impl Model {
                 plan.closed = true;
                 break;
             }
-            let (field, bytes) = self.planned_step(costs, step, &window, &counting, previous);
+            let (field, bytes) = self.planned_step(sight, costs, step, &window, &counting, previous);
             if k == 0 || !self.slips(Slip::FirstPrevious) {
                 before = Some(self.handed_on(costs, step, &window, field));
             }
@@ -109,6 +114,7 @@ impl Model {
     /// The built field and the flow bytes of a step.
     fn planned_step(
         &self,
+        sight: bool,
         costs: &[u8],
         step: &[u8],
         window: &[usize],
@@ -118,12 +124,12 @@ impl Model {
         let left_out: Vec<usize> = window.iter().copied().filter(|cell| !counting.contains(cell)).collect();
         let costs = self.own_costs(costs, &left_out);
         let portals = if self.slips(Slip::LeftOutStarted) { window } else { counting };
-        let mut started = self.started(&costs, step, portals);
+        let mut started = self.started_by(sight, &costs, step, portals);
         if self.slips(Slip::LeftOutListed) {
             left_out.iter().for_each(|cell| started.field[*cell] &= 0xffff_0000);
             started = IntegrationField::new(started.field, &[started.corners(), &left_out].concat());
         }
-        let (field, _) = self.built(&costs, &started);
+        let (field, _) = self.built_by(sight, &costs, step, &started);
         let previous = previous.filter(|_| !self.slips(Slip::PreviousForgotten));
         let mut starting = self.starting_bytes(step, counting, &field.field, previous);
         counting.iter().for_each(|cell| starting[*cell] = self.crossing_byte(starting[*cell], step[5].into()));
@@ -170,8 +176,8 @@ impl Model {
     }
 
     /// Plans a leg that the table takes, and writes it where every step is planned.
-    pub(super) fn plan_and_write(&self, floor: &[u8], steps: &[u8], sheet: &mut [u8]) -> u8 {
-        let plan = self.plan(floor, steps);
+    pub(super) fn plan_and_write(&self, sight: bool, floor: &[u8], steps: &[u8], sheet: &mut [u8]) -> u8 {
+        let plan = self.plan_by(sight, floor, steps);
         if plan.closed && !self.slips(Slip::WrittenStepByStep) {
             return CLOSED;
         }

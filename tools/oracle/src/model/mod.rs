@@ -1,5 +1,5 @@
-//! A model of document 01, and of what document 02 adds, written from those pages and not from the Rust or the library,
-//! and the same model with one slip planted (`Slip`), to see that the groups find it.
+//! A model of document 01, of what document 02 adds, and of our own additions, written from those pages and from the words
+//! that say what is added, not from the Rust or the library, and the same model with one slip planted (`Slip`), to see that the groups find it.
 
 mod answers;
 mod arrivals;
@@ -15,6 +15,7 @@ mod practice;
 mod slips;
 mod window_costs;
 mod window_tour;
+mod without_sight;
 
 pub use arrivals::{Lost, lost_by};
 pub use leg::{CLOSED, Plan, PlannedStep};
