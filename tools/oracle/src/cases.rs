@@ -81,6 +81,25 @@ impl Case {
         }
     }
 
+    /// The same input of the call without sight, where it is one of a sector or a leg, and back.
+    pub fn without_sight(self) -> Self {
+        let ask = match self.ask {
+            Ask::One(Call::Sector) => Ask::One(Call::SectorWithoutSight),
+            Ask::One(Call::Leg) => Ask::One(Call::LegWithoutSight),
+            other => other,
+        };
+        Case { ask, ..self }
+    }
+
+    pub fn with_sight(self) -> Self {
+        let ask = match self.ask {
+            Ask::One(Call::SectorWithoutSight) => Ask::One(Call::Sector),
+            Ask::One(Call::LegWithoutSight) => Ask::One(Call::Leg),
+            other => other,
+        };
+        Case { ask, ..self }
+    }
+
     /// The call on a side, its memory lent from between guards.
     pub fn run(&self, side: &dyn Subject) -> Outcome {
         let (costs, steps) = (Fenced::new(&self.costs), Fenced::new(&self.steps));

@@ -1,6 +1,7 @@
-//! A planned leg's arrows followed over the whole floor (02, Job 4), from that request's words: by the floor's columns and
-//! rows, 80 by 80, and by an arrow's bits, N 1, E 2, S 4, W 8. What finds a facing cell or the sector across a boundary
-//! plays no part here, nor does the model.
+//! A planned leg's arrows followed over the whole floor, to the goal's sector from the words of document 02, Job 4, and to
+//! the goal itself, where the leg is planned without sight, from the words of that addition: by the floor's columns and rows,
+//! 80 by 80, and by an arrow's bits, N 1, E 2, S 4, W 8. What finds a facing cell or the sector across a boundary plays no
+//! part here, nor does the model.
 
 use std::fmt;
 
@@ -8,6 +9,25 @@ use crate::subject::CELLS;
 
 /// In so many moves, crossings counted, the cart must be in the goal's sector.
 pub const MOST_MOVES: usize = 1_500;
+
+/// Where following ends.
+#[derive(Clone, Copy, PartialEq, Eq, Debug)]
+pub enum End {
+    /// In the goal's sector.
+    GoalsSector,
+    /// At the goal itself.
+    Goal,
+}
+
+impl End {
+    /// In so many moves from the sector of step k, from 0, crossings counted, the cart must be there.
+    fn most_moves(self, k: usize) -> usize {
+        match self {
+            End::GoalsSector => MOST_MOVES,
+            End::Goal => 99 * (k + 1) + k,
+        }
+    }
+}
 
 /// A place on the floor; row 0 is north, column 0 is west.
 #[derive(Clone, Copy, PartialEq, Eq)]
@@ -55,12 +75,15 @@ impl Place {
     }
 }
 
-/// A planned leg: its floor and steps, the field that its judge built at each step, and the sheet that is followed.
+/// A planned leg: its floor and steps, the field that its judge built at each step, the sheet that is followed, and where to.
+/// A sector by itself is a leg of one step, in sector 0.
+#[derive(Clone, Copy)]
 pub struct PlannedLeg<'a> {
     pub floor: &'a [u8],
     pub steps: &'a [u8],
     pub built: &'a [[u32; CELLS]],
     pub sheet: &'a [u8],
+    pub end: End,
 }
 
 /// What was followed.
@@ -69,7 +92,7 @@ pub struct Followed {
     pub legs: usize,
     /// Legs followed from the sixteenth of their sectors.
     pub of_sixteen: usize,
-    /// Cells from which arrows were followed, each to the goal's sector.
+    /// Cells from which arrows were followed, each to where following ends.
     pub cells: usize,
     /// Moves that crossed a window straight, or diagonally.
     pub straight: usize,
@@ -137,13 +160,21 @@ impl PlannedLeg<'_> {
         (first.column..=last.column).contains(&place.column) && (first.row..=last.row).contains(&place.row)
     }
 
+    /// Whether following ends at a place of the sector of step k.
+    fn ends(&self, k: usize, at: Place) -> bool {
+        k == 0 && (self.end == End::GoalsSector || at.cell() == usize::from(self.step(0)[1]))
+    }
+
     /// What is wrong with a move inside the sector of a step.
     fn fault_inside(&self, k: usize, from: Place, to: Place) -> Option<&'static str> {
         let beside = [Place { row: from.row, ..to }, Place { column: from.column, ..to }];
+        let walls = beside.into_iter().filter(|place| from.diagonal(to) && self.wall(*place)).count();
         if self.built_cost(k, to) >= self.built_cost(k, from) {
             Some("goes to a cell of no lower cost")
-        } else if from.diagonal(to) && beside.into_iter().all(|place| self.wall(place)) {
+        } else if walls == 2 {
             Some("cuts between two walls")
+        } else if walls == 1 && self.end == End::Goal {
+            Some("passes a wall diagonally")
         } else {
             None
         }
@@ -152,7 +183,9 @@ impl PlannedLeg<'_> {
     /// What is wrong with a move out of the sector of a step. Where no cost is 0, the window cells that count are those
     /// of built cost 0.
     fn fault_crossing(&self, k: usize, from: Place, to: Place) -> Option<&'static str> {
-        if to.sector() != self.sector(k - 1) {
+        if k == 0 {
+            Some("leaves the goal's sector")
+        } else if to.sector() != self.sector(k - 1) {
             Some("crosses into another sector than the one listed before")
         } else if !self.reached(k - 1, to) {
             Some("crosses into a cell that is not reached")
@@ -165,13 +198,13 @@ impl PlannedLeg<'_> {
         }
     }
 
-    /// Follows the arrows from a cell of the sector of step k, from 0, to the goal's sector, that of step 0.
+    /// Follows the arrows from a cell of the sector of step k, from 0, to the goal's sector, that of step 0, or to the goal.
     pub fn journey(&self, k: usize, cell: usize) -> Result<Followed, String> {
-        let start = Place::of(self.sector(k), cell);
+        let (start, most) = (Place::of(self.sector(k), cell), self.end.most_moves(k));
         let (mut k, mut at, mut made) = (k, start, Followed { cells: 1, ..Followed::default() });
-        while k > 0 {
+        while !self.ends(k, at) {
             let fault = |fault: &str| format!("from {start}, move {}, which leaves {at}, {fault}", made.longest + 1);
-            if made.longest == MOST_MOVES {
+            if made.longest == most {
                 return Err(fault("is one too many"));
             }
             let to = at.pointed(self.sheet[at.byte()]).ok_or_else(|| fault("has no place to go to"))?;
@@ -189,15 +222,19 @@ impl PlannedLeg<'_> {
         Ok(made)
     }
 
-    /// Follows the arrows from every reached cell of every sector but the first step's, as far as no sector on the way
-    /// has a cost 0.
+    /// Whether the sector of a step has no cost 0.
+    fn without_zero(&self, k: usize) -> bool {
+        let sector = self.sector(k);
+        !self.floor[sector * CELLS..(sector + 1) * CELLS].contains(&0)
+    }
+
+    /// Follows the arrows from every reached cell of every sector, but the first step's where following ends there, as far as
+    /// no sector on the way has a cost 0.
     pub fn journeys(&self) -> Result<Followed, String> {
         let mut made = Followed { legs: 1, ..Followed::default() };
-        for k in 1..self.built.len() {
+        let first = if self.end == End::Goal { 0 } else { 1 };
+        for k in (first..self.built.len()).take_while(|k| self.without_zero(*k)) {
             let sector = self.sector(k);
-            if self.floor[sector * CELLS..(sector + 1) * CELLS].contains(&0) {
-                break;
-            }
             for cell in (0..CELLS).filter(|cell| self.reached(k, Place::of(sector, *cell))) {
                 made.add(&self.journey(k, cell)?);
             }

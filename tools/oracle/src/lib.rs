@@ -19,3 +19,4 @@ pub mod shrink;
 pub mod squares;
 pub mod subject;
 pub mod tours;
+pub mod without_sight;

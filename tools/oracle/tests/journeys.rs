@@ -3,7 +3,7 @@
 
 use oracle::floors::{goal_step, leg_with_a_gap, straight_leg, window_step};
 use oracle::groups::{Clean, Group, JOURNEY};
-use oracle::journey::{Followed, PlannedLeg};
+use oracle::journey::{End, Followed, PlannedLeg};
 use oracle::model::{Model, Slip};
 use oracle::oracle::Oracle;
 use oracle::subject::*;
@@ -30,7 +30,8 @@ impl Planned {
     }
 
     fn leg(&self) -> PlannedLeg<'_> {
-        PlannedLeg { floor: &self.floor, steps: &self.steps, built: &self.built, sheet: &self.sheet }
+        let (floor, steps, built, sheet) = (&self.floor, &self.steps, &self.built, &self.sheet);
+        PlannedLeg { floor, steps, built, sheet, end: End::GoalsSector }
     }
 
     /// The journey from a cell of sector 1, the second step's, where the cell has another byte.

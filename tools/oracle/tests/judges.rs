@@ -24,6 +24,12 @@ fn groups_name_their_judges() {
     assert_eq!(names("leg, gaps"), ["altered Rust", "model"]);
     assert_eq!(names("leg, on walls"), ["altered Rust", "table of refusals", "model"]);
     assert_eq!(names("journey"), ["altered Rust", "model"]);
+    let all = ["published Rust", "altered Rust", "counted copy", "table of refusals", "model"];
+    assert_eq!(names("sector without sight"), all);
+    assert_eq!(names("sector without sight refusals"), all);
+    assert_eq!(names("leg without sight"), ["published Rust", "altered Rust", "table of refusals", "model"]);
+    assert_eq!(names("leg without sight, gaps"), ["published Rust", "altered Rust", "model"]);
+    assert_eq!(names("journey without sight"), ["published Rust", "altered Rust", "model"]);
     assert_eq!(names("file read"), ["model"]);
     assert_eq!(names("practice"), ["model"]);
     assert_eq!(names("bounds"), ["model"]);
@@ -40,15 +46,21 @@ fn groups_name_their_judges() {
 
 #[test]
 fn the_judges_that_decide_are_those_that_are_named() {
-    let others = ["readers", "init", "sector", "leg", "leg, on walls"];
+    let others = ["readers", "init", "sector", "leg", "leg, on walls", "sector without sight", "leg without sight"];
     for group in GROUPS.iter().filter(|group| group.name.ends_with("refusals") || others.contains(&group.name)) {
         let clean = group.run(&Model::PLAIN, 5, 20_000).unwrap_or_else(|_| panic!("{} differs", group.name));
         assert_eq!(group.unmet(&clean), None);
         // The table, one copy of the Rust or the model decides each input, and never two of them, but for positions, which
-        // are the model's in every field that the Rust answers. 15 is the model's.
+        // are the model's in every field that the Rust answers, and for goal's sectors without sight, in which the published
+        // Rust decides beside the altered one. 15 is the model's.
         let judged = |judge: Judge| clean.judged[judge as usize];
-        let apart = [Judge::Published, Judge::Altered, Judge::Table].map(judged).iter().sum::<usize>();
-        let fields = [Call::Init, Call::Build, Call::Sector].iter().any(|call| group.needs == [*call]);
+        let without_sight = group.name.contains("without sight");
+        let published = if without_sight { 0 } else { judged(Judge::Published) };
+        let apart = published + judged(Judge::Altered) + judged(Judge::Table);
+        let with_field = [Call::Init, Call::Build, Call::Sector, Call::SectorWithoutSight];
+        let fields = with_field.contains(&group.needs[0]);
+        let goals = if fields { clean.without_sight.goals } else { judged(Judge::Altered) };
+        assert!(!without_sight || judged(Judge::Published) == goals);
         let alone = if fields { 0 } else { judged(Judge::Model) };
         assert_eq!(apart + alone, clean.inputs);
         assert!(!fields || judged(Judge::Model) == clean.numbers[0]);

@@ -111,6 +111,9 @@ fn report_clean(group: &Group, clean: &Clean, start: Instant) {
     if clean.toured.inputs > 0 {
         println!("{:<20} held to their words: {}", "", clean.toured);
     }
+    if clean.without_sight.numbers > 0 {
+        println!("{:<20} without sight: {}", "", clean.without_sight);
+    }
 }
 
 /// How many inputs have a goal or a window cell of cost 255, or a window without a previous field.
@@ -195,6 +198,9 @@ fn compare(side: &dyn Subject, chosen: &Arguments) -> Result<(), String> {
     }
     if all.toured.inputs > 0 {
         println!("held to their words: {}", all.toured);
+    }
+    if all.without_sight.numbers > 0 {
+        println!("without sight: {}", all.without_sight);
     }
     Ok(())
 }

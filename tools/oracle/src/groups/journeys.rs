@@ -4,7 +4,7 @@ use super::good::{drawn, leg_sheet};
 use super::{Cases, Compared};
 use crate::cases::{Case, Outcome};
 use crate::floors::{self, Rng, drawn_window};
-use crate::journey::PlannedLeg;
+use crate::journey::{End, PlannedLeg};
 use crate::judges;
 use crate::model::Model;
 use crate::oracle::Oracle;
@@ -83,7 +83,8 @@ pub(super) fn compared(case: &Case, side: &dyn Subject) -> Compared {
     let mut followed = Default::default();
     if due.number == 0 && outcome.number == 0 {
         let built = Oracle.built_steps(true, &case.costs, &case.steps);
-        let leg = PlannedLeg { floor: &case.costs, steps: &case.steps, built: &built, sheet: &outcome.sheet };
+        let (floor, steps, sheet) = (&case.costs, &case.steps, &outcome.sheet);
+        let leg = PlannedLeg { floor, steps, built: &built, sheet, end: End::GoalsSector };
         match leg.journeys() {
             Ok(journeys) => followed = journeys,
             Err(fault) => found.push(fault),

@@ -267,10 +267,15 @@ pub(super) fn all() -> Vec<Met> {
     [Met::EveryCellCounts].into_iter().chain(leg_kinds()).chain(closed).collect()
 }
 
+/// A leg that the table takes, planned with the sight of its goal or without.
+fn planned(case: &Case) -> Plan {
+    Model::PLAIN.plan_by(case.call() != Call::LegWithoutSight, &case.costs, &case.steps)
+}
+
 /// What a leg meets that the table takes.
 pub(super) fn met(case: &Case) -> Vec<Met> {
     let steps = case.steps.len() / 8;
-    let plan = Model::PLAIN.plan(&case.costs, &case.steps);
+    let plan = planned(case);
     if plan.closed {
         let at = plan.steps.len() + 1;
         let step = &case.steps[8 * (at - 1)..8 * at];
@@ -345,7 +350,7 @@ pub fn closed_leg(rng: &mut Rng, steps: usize, at: usize) -> Case {
         if Table::documents().number(&given(&case)) != 0 {
             continue;
         }
-        let plan = Model::PLAIN.plan(&case.costs, &case.steps);
+        let plan = planned(&case);
         if plan.closed && plan.steps.len() + 1 == at {
             return case;
         }
@@ -439,7 +444,7 @@ fn without_walls(case: &Case) -> u8 {
     let mut table = Table::documents();
     table.each_step[5].holds = |_| false;
     match table.number(&given(case)) {
-        0 if Model::PLAIN.plan(&case.costs, &case.steps).closed => CLOSED,
+        0 if planned(case).closed => CLOSED,
         number => number,
     }
 }

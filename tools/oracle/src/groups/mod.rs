@@ -43,6 +43,7 @@ use crate::shrink;
 use crate::squares::{self, Squared};
 use crate::subject::{Call, Subject};
 use crate::tours::{Toured, held as tour_held};
+use crate::without_sight;
 
 /// Inputs of a group, one by one.
 pub type Cases = Box<dyn Iterator<Item = Case>>;
@@ -82,6 +83,42 @@ pub const GROUPS: &[Group] = &[
     Group { name: GAPS, needs: &[Call::Leg], cases: legs::gaps, reaches: &[0, CLOSED] },
     Group { name: ON_WALLS, needs: &[Call::Leg], cases: legs::on_walls, reaches: &[0, 8, CLOSED, ON_WALL] },
     Group { name: JOURNEY, needs: &[Call::Leg], cases: journeys::journeys, reaches: &[0] },
+    Group {
+        name: SECTOR_WITHOUT_SIGHT,
+        needs: SECTORS_WITHOUT_SIGHT,
+        cases: |rng, inputs| asked_without_sight(good::sectors(rng, inputs)),
+        reaches: &[0, ON_WALL, FIELDLESS],
+    },
+    Group {
+        name: "sector without sight, two walls",
+        needs: SECTORS_WITHOUT_SIGHT,
+        cases: |rng, inputs| asked_without_sight(good::two_walls(rng, inputs)),
+        reaches: &[0, ON_WALL],
+    },
+    Group {
+        name: "leg without sight",
+        needs: LEGS_WITHOUT_SIGHT,
+        cases: |rng, inputs| asked_without_sight(good::legs(rng, inputs)),
+        reaches: &[0, CLOSED, ON_WALL],
+    },
+    Group {
+        name: GAPS_WITHOUT_SIGHT,
+        needs: LEGS_WITHOUT_SIGHT,
+        cases: |rng, inputs| asked_without_sight(legs::gaps(rng, inputs)),
+        reaches: &[0, CLOSED],
+    },
+    Group {
+        name: ON_WALLS_WITHOUT_SIGHT,
+        needs: LEGS_WITHOUT_SIGHT,
+        cases: |rng, inputs| asked_without_sight(legs::on_walls(rng, inputs)),
+        reaches: &[0, 8, CLOSED, ON_WALL],
+    },
+    Group {
+        name: JOURNEY_WITHOUT_SIGHT,
+        needs: LEGS_WITHOUT_SIGHT,
+        cases: |rng, inputs| asked_without_sight(journeys::journeys(rng, inputs)),
+        reaches: &[0],
+    },
     Group { name: "file write", needs: &[Call::LegFileWrite], cases: leg_files::writes, reaches: &[0, 2, 3] },
     Group { name: "file read", needs: &[Call::LegFileRead], cases: leg_files::reads, reaches: &[0, 14] },
     Group { name: PRACTICE, needs: &[Call::PracticeFloor], cases: practice::floors, reaches: &[0] },
@@ -117,6 +154,18 @@ pub const GROUPS: &[Group] = &[
         name: "leg refusals",
         needs: &[Call::Leg],
         cases: bad::legs,
+        reaches: &[0, 1, 2, 3, 4, 5, 6, 7, 8, 9, 10, CLOSED, ON_WALL],
+    },
+    Group {
+        name: "sector without sight refusals",
+        needs: SECTORS_WITHOUT_SIGHT,
+        cases: |rng, inputs| asked_without_sight(bad::sectors(rng, inputs)),
+        reaches: &[0, 1, 2, 3, 4, 5, 6, 7, 8, 12, ON_WALL, FIELDLESS],
+    },
+    Group {
+        name: "leg without sight refusals",
+        needs: LEGS_WITHOUT_SIGHT,
+        cases: |rng, inputs| asked_without_sight(bad::legs(rng, inputs)),
         reaches: &[0, 1, 2, 3, 4, 5, 6, 7, 8, 9, 10, CLOSED, ON_WALL],
     },
     Group {
@@ -157,6 +206,31 @@ const FOLLOWED_ALONE: &str = "journey, followed alone";
 /// The same where nothing but following finds a fault.
 pub const FOLLOWED: Group =
     Group { name: FOLLOWED_ALONE, needs: &[Call::Leg], cases: journeys::journeys, reaches: &[0] };
+
+/// The calls that sectors without sight are held to, the one that is asked first, and those of legs.
+const SECTORS_WITHOUT_SIGHT: &[Call] = &[Call::SectorWithoutSight, Call::Sector, Call::Arrivals];
+const LEGS_WITHOUT_SIGHT: &[Call] = &[Call::LegWithoutSight, Call::Leg, Call::Arrivals];
+
+/// The groups of sectors and legs, their inputs planned without sight.
+pub const SECTOR_WITHOUT_SIGHT: &str = "sector without sight";
+const GAPS_WITHOUT_SIGHT: &str = "leg without sight, gaps";
+const ON_WALLS_WITHOUT_SIGHT: &str = "leg without sight, on walls";
+pub const JOURNEY_WITHOUT_SIGHT: &str = "journey without sight";
+
+const TO_GOAL_ALONE: &str = "journey without sight, followed alone";
+
+/// Legs without sight where nothing but following to the goal finds a fault.
+pub const FOLLOWED_TO_GOAL: Group = Group {
+    name: TO_GOAL_ALONE,
+    needs: LEGS_WITHOUT_SIGHT,
+    cases: |rng, inputs| asked_without_sight(journeys::journeys(rng, inputs)),
+    reaches: &[0],
+};
+
+/// The same inputs of the calls without sight.
+fn asked_without_sight(cases: Cases) -> Cases {
+    Box::new(cases.map(Case::without_sight))
+}
 
 /// Practice floors.
 const PRACTICE: &str = "practice";
@@ -200,6 +274,8 @@ pub struct Clean {
     pub squared: Squared,
     /// The tours that were held to their words, of accepted calls.
     pub toured: Toured,
+    /// The calls without sight that were held to what is promised of them.
+    pub without_sight: without_sight::Held,
 }
 
 impl Clean {
@@ -214,6 +290,7 @@ impl Clean {
         self.between.add(&other.between);
         self.squared.add(&other.squared);
         self.toured.add(&other.toured);
+        self.without_sight.add(&other.without_sight);
     }
 }
 
@@ -229,6 +306,7 @@ impl Clean {
         self.between.add(&compared.between);
         self.squared.add(&compared.squared);
         self.toured.add(&compared.toured);
+        self.without_sight.add(&compared.without_sight);
     }
 }
 
@@ -241,8 +319,8 @@ pub struct Difference {
 }
 
 /// What the oracle says of one input, by which judges, and where a side differs from it; what was followed, if anything,
-/// which arrows were looked at, which floors were built between two, which costs were held to built fields, and which tours
-/// to their words.
+/// which arrows were looked at, which floors were built between two, which costs were held to built fields, which tours to
+/// their words, and which calls without sight to what is promised.
 struct Compared {
     due: Outcome,
     outcome: Outcome,
@@ -253,13 +331,37 @@ struct Compared {
     between: Between,
     squared: Squared,
     toured: Toured,
+    without_sight: without_sight::Held,
 }
 
 impl Compared {
     /// What was compared, and nothing looked at besides.
     fn of(due: Outcome, outcome: Outcome, judges: Judges, found: Vec<String>) -> Self {
-        let (followed, cleared, between, squared, toured) = Default::default();
-        Compared { due, outcome, judges, found, followed, cleared, between, squared, toured }
+        let (followed, cleared, between, squared, toured, without_sight) = Default::default();
+        Compared { due, outcome, judges, found, followed, cleared, between, squared, toured, without_sight }
+    }
+
+    /// Holds a call without sight to what is promised of it.
+    fn without_sight(mut self, case: &Case, side: &dyn Subject) -> Self {
+        if [Call::SectorWithoutSight, Call::LegWithoutSight].contains(&case.call()) {
+            match without_sight::held(case, &self.due, &self.outcome, side) {
+                Ok(held) => self.without_sight = held,
+                Err(fault) => self.found.push(fault),
+            }
+        }
+        self
+    }
+
+    /// Follows the arrows of a call without sight that both take to the goal, and finds nothing else.
+    fn followed_to_goal(mut self, case: &Case) -> Self {
+        self.found.clear();
+        if self.due.number == 0 && self.outcome.number == 0 {
+            match without_sight::followed(case, &self.due, &self.outcome) {
+                Ok(followed) => self.followed = followed,
+                Err(fault) => self.found.push(fault),
+            }
+        }
+        self
     }
 
     /// Holds the tour that both answer to its words (02, Job 14).
@@ -301,8 +403,8 @@ impl Compared {
         let sheet = &self.outcome.sheet;
         let looked = match case.ask {
             _ if self.due.number != 0 || self.outcome.number != 0 => Ok(Cleared::default()),
-            Ask::One(Call::Sector) => clear::of_sector(&case.costs, sheet),
-            Ask::One(Call::Leg) => clear::of_leg(&case.costs, &case.steps, sheet),
+            Ask::One(Call::Sector | Call::SectorWithoutSight) => clear::of_sector(&case.costs, sheet),
+            Ask::One(Call::Leg | Call::LegWithoutSight) => clear::of_leg(&case.costs, &case.steps, sheet),
             _ => Ok(Cleared::default()),
         };
         match looked {
@@ -331,9 +433,9 @@ impl Group {
     fn meets(&self) -> Vec<Met> {
         match self.name {
             POSITIONS => positions::position_kinds().to_vec(),
-            GAPS => legs::all(),
-            ON_WALLS => legs::all_on_walls(),
-            JOURNEY => legs::planned_kinds(),
+            GAPS | GAPS_WITHOUT_SIGHT => legs::all(),
+            ON_WALLS | ON_WALLS_WITHOUT_SIGHT => legs::all_on_walls(),
+            JOURNEY | JOURNEY_WITHOUT_SIGHT => legs::planned_kinds(),
             PRACTICE => practice::all(),
             BOUNDS => bounds::all(),
             WINDOW_COSTS => windows::all(),
@@ -347,8 +449,8 @@ impl Group {
     fn met(&self, case: &Case) -> Vec<Met> {
         match self.name {
             POSITIONS => positions::met(case),
-            GAPS | JOURNEY => legs::met(case),
-            ON_WALLS => legs::met_on_walls(case),
+            GAPS | JOURNEY | GAPS_WITHOUT_SIGHT | JOURNEY_WITHOUT_SIGHT => legs::met(case),
+            ON_WALLS | ON_WALLS_WITHOUT_SIGHT => legs::met_on_walls(case),
             PRACTICE => practice::met(case),
             BOUNDS => bounds::met(case),
             WINDOW_COSTS => windows::met(case),
@@ -361,8 +463,8 @@ impl Group {
     /// The judges of the group: those of the calls that it asks, and the table where it must have reached a refusal of the
     /// table's, which has neither 15 nor the numbers of a leg's file.
     pub fn judges(&self) -> Vec<Judge> {
-        // Where another call is asked, the sector call serves to hold its answers to.
-        let asked = if self.needs.len() > 1 && self.needs[1] == Call::Sector { &self.needs[..1] } else { self.needs };
+        // Of several calls the first is asked, and the others serve to hold its answers to; but a flow field is made by two.
+        let asked = if self.needs == [Call::FlowNew, Call::FlowBuild] { self.needs } else { &self.needs[..1] };
         let accepted = asked.iter().filter(|_| self.reaches.contains(&0)).flat_map(|call| oracle::judges(*call));
         let named: Vec<Judge> = accepted.copied().collect();
         let refused = self.reaches.iter().any(|number| ![0, CLOSED].contains(number));
@@ -381,11 +483,15 @@ impl Group {
         match self.name {
             JOURNEY => journeys::compared(case, side).cleared(case),
             FOLLOWED_ALONE => journeys::compared(case, side),
+            TO_GOAL_ALONE => compared(case, side).followed_to_goal(case),
             BUILT_ALONE => {
                 let compared = compared(case, side);
                 Compared { found: Vec::new(), ..compared }.built(case, side)
             }
-            _ => compared(case, side).cleared(case).built(case, side).squared(case, side).toured(case),
+            _ => {
+                let compared = compared(case, side).cleared(case).built(case, side).squared(case, side).toured(case);
+                compared.without_sight(case, side)
+            }
         }
     }
 
@@ -403,6 +509,16 @@ impl Group {
             }
         }
         Ok(clean)
+    }
+
+    /// What calls without sight have to have been held to, and were not.
+    fn lacks_without_sight(&self, held: &without_sight::Held) -> Option<&'static str> {
+        match self.name {
+            SECTOR_WITHOUT_SIGHT => held.lacks_of_sectors(),
+            JOURNEY_WITHOUT_SIGHT => held.lacks_of_legs(),
+            _ if [SECTORS_WITHOUT_SIGHT, LEGS_WITHOUT_SIGHT].contains(&self.needs) => held.lacks(),
+            _ => None,
+        }
     }
 
     /// What the group has to have met and has not: a number, a kind of input, or a judge; or a judge that it does not
@@ -427,6 +543,9 @@ impl Group {
             return Some(format!("`{name}` did not meet {lacking} in {inputs} inputs: ask for more by --inputs"));
         }
         if let Some(lacking) = clean.toured.lacks().filter(|_| self.needs.contains(&Call::WindowTour)) {
+            return Some(format!("`{name}` did not meet {lacking} in {inputs} inputs: ask for more by --inputs"));
+        }
+        if let Some(lacking) = self.lacks_without_sight(&clean.without_sight) {
             return Some(format!("`{name}` did not meet {lacking} in {inputs} inputs: ask for more by --inputs"));
         }
         let has_arrows = self.has_rust() && self.needs.iter().any(|call| [Call::Sector, Call::Leg].contains(call));
