@@ -6,7 +6,9 @@ use std::process::ExitCode;
 use std::time::Instant;
 
 use oracle::command;
-use oracle::groups::{BOUNDS, BUILT, Clean, Difference, FOLLOWED, GROUPS, Group, JOURNEY, Met};
+use oracle::groups::{
+    BOUNDS, BUILT, Clean, Difference, FOLLOWED, FOLLOWED_TO_GOAL, GROUPS, Group, JOURNEY, JOURNEY_WITHOUT_SIGHT, Met,
+};
 use oracle::judges::Judge;
 use oracle::library::Library;
 use oracle::model::{CLOSED, Model, Slip};
@@ -205,11 +207,16 @@ fn compare(side: &dyn Subject, chosen: &Arguments) -> Result<(), String> {
     Ok(())
 }
 
-/// Whether a group is where a slip is likely found, by the first word of what the slip does.
-fn likely(group: &Group, text: &str) -> bool {
-    let word = text.split([':', ' ']).next().unwrap_or(text);
+/// How far back a group is tried for a slip: first where its name begins as the text of the slip does up to the colon, then
+/// where it begins with the text's first word, then the others.
+fn unlikely(group: &Group, text: &str) -> usize {
+    let [words, word] = [&[':'][..], &[':', ' ']].map(|ends| text.split(ends).next().unwrap_or(text));
     let refusals = ["number", "numbers", "refusals"].contains(&word);
-    group.name.starts_with(word) || (refusals && group.name.ends_with("refusals"))
+    match group.name {
+        name if name.starts_with(words) => 0,
+        name if name.starts_with(word) || (refusals && name.ends_with("refusals")) => 1,
+        _ => 2,
+    }
 }
 
 /// Whether one of these groups finds a slip: the first that does, and after how many inputs of it.
@@ -227,24 +234,26 @@ fn found(slip: Slip, groups: &[&Group], chosen: &Arguments) -> bool {
     true
 }
 
-/// Tries every slip, on likely groups first; those that lead a cart astray once more, by following it alone, and those that
-/// floors between two show, by building these alone.
+/// Tries every slip, on likely groups first; those that lead a cart astray once more, by following it alone, to the goal's
+/// sector or to the goal, and those that floors between two show, by building these alone.
 fn try_slips(chosen: &Arguments) -> Result<(), String> {
     let mut missed = 0;
     for (slip, text) in Slip::ALL {
         println!("{text}");
-        let (first, then): (Vec<&Group>, Vec<&Group>) = GROUPS.iter().partition(|group| likely(group, text));
-        let alone = [(Slip::ASTRAY, &FOLLOWED), (Slip::BETWEEN, &BUILT)];
-        let mut missing = !found(*slip, &[first, then].concat(), chosen);
+        let mut groups: Vec<&Group> = GROUPS.iter().collect();
+        groups.sort_by_key(|group| unlikely(group, text));
+        let alone = [(Slip::ASTRAY, &FOLLOWED), (Slip::NOT_TO_GOAL, &FOLLOWED_TO_GOAL), (Slip::BETWEEN, &BUILT)];
+        let mut missing = !found(*slip, &groups, chosen);
         for (_, group) in alone.into_iter().filter(|(slips, _)| slips.contains(slip)) {
             missing |= !found(*slip, &[group], chosen);
         }
         missed += usize::from(missing);
     }
-    let (slips, [astray, between]) = (Slip::ALL.len(), [Slip::ASTRAY, Slip::BETWEEN].map(|slips| slips.len()));
+    let (slips, lists) = (Slip::ALL.len(), [Slip::ASTRAY, Slip::NOT_TO_GOAL, Slip::BETWEEN]);
+    let [astray, not_to_goal, between] = lists.map(|slips| slips.len());
     println!(
-        "{slips} slips, {astray} of them tried by following in `{JOURNEY}` alone too, {between} by the floors between of \
-         `{BOUNDS}` alone, {missed} not found (seed {})",
+        "{slips} slips, {astray} of them tried by following in `{JOURNEY}` alone too, {not_to_goal} in \
+         `{JOURNEY_WITHOUT_SIGHT}` alone, {between} by the floors between of `{BOUNDS}` alone, {missed} not found (seed {})",
         chosen.seed
     );
     if missed == 0 { Ok(()) } else { Err(format!("{missed} slips were not found")) }

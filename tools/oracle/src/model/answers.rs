@@ -52,16 +52,20 @@ impl Model {
             previous: Some(previous),
             ..Given::default()
         };
-        if let Some(number) = self.turned_away(&given, sheet) {
+        let turned = self.turned_away(&given, sheet);
+        if let Some(number) = if sight { turned } else { self.turned_without_sight(turned, &given) } {
             return self.refused_build(number);
         }
-        let started = self.started_by(sight, costs, step, &window_cells(step));
-        let (field, waves, bytes) = self.planned_from(sight, costs, step, lent(previous), &started);
+        let previous = lent(previous).filter(|_| sight || !self.slips(Slip::WindowUnfaced));
+        let seen = sight || self.slips(Slip::SightKept);
+        let started = self.started_by(seen, costs, step, &window_cells(step));
+        let (field, waves, bytes) = self.planned_from(seen, costs, step, previous, &started);
         sheet.copy_from_slice(&bytes);
         let positions = match self.slip {
             Slip::PositionsOfSectorUnset => started.positions,
             _ => self.positions(costs, &started, &field.field),
         };
+        let positions = if sight { positions } else { self.positions_without_sight(step, positions) };
         BuildAnswer { number: 0, field: field.with_positions(positions), waves }
     }
 

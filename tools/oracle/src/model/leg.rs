@@ -49,19 +49,22 @@ impl Model {
     pub fn plan_by(&self, sight: bool, floor: &[u8], steps: &[u8]) -> Plan {
         let mut plan = Plan { steps: Vec::new(), closed: false };
         let mut before: Option<IntegrationField> = None;
+        let wrong = |slip: Slip| !sight && self.slips(slip);
         for (k, step) in steps.chunks(8).enumerate() {
             let sector = usize::from(step[0]);
             let window = window_cells(step);
             let costs = &floor[part(sector)];
-            let previous = before.as_ref().map(|field| &field.field[..]);
-            let counting = previous.map_or(Vec::new(), |field| self.counting_cells(step, &window, field));
-            if k > 0 && counting.is_empty() && self.refuses_closed(k) {
+            let previous = before.as_ref().map(|field| &field.field[..]).filter(|_| !wrong(Slip::LegStepsAlone));
+            let counting = previous.map_or(window.clone(), |field| self.counting_cells(step, &window, field));
+            if k > 0 && counting.is_empty() && self.refuses_closed(k) && !wrong(Slip::LegClosedPlanned) {
                 plan.closed = true;
                 break;
             }
-            let (field, bytes) = self.planned_step(sight, costs, step, &window, &counting, previous);
+            let planned = |seen: bool| self.planned_step(seen, costs, step, &window, &counting, previous);
+            let (field, bytes) = planned(sight || self.slips(Slip::LegSightKept));
+            let bytes = if wrong(Slip::LegWrittenWithSight) { planned(true).1 } else { bytes };
             if k == 0 || !self.slips(Slip::FirstPrevious) {
-                before = Some(self.handed_on(costs, step, &window, field));
+                before = Some(self.handed_on(sight, costs, step, &window, field));
             }
             plan.steps.push(PlannedStep { sector, window, counting, field, bytes });
         }
@@ -168,11 +171,20 @@ impl Model {
     }
 
     /// The field that serves the next step as its previous field.
-    fn handed_on(&self, costs: &[u8], step: &[u8], window: &[usize], field: IntegrationField) -> IntegrationField {
-        if !self.slips(Slip::WholeWindowHandedOn) {
-            return field;
-        }
-        self.built(costs, &self.started(costs, step, window)).0
+    fn handed_on(
+        &self,
+        sight: bool,
+        costs: &[u8],
+        step: &[u8],
+        window: &[usize],
+        field: IntegrationField,
+    ) -> IntegrationField {
+        let other = match self.slip {
+            Slip::WholeWindowHandedOn => true,
+            Slip::LegFacesSight => !sight && step[2] == 0,
+            _ => false,
+        };
+        if other { self.built(costs, &self.started(costs, step, window)).0 } else { field }
     }
 
     /// Plans a leg that the table takes, and writes it where every step is planned.

@@ -385,6 +385,25 @@ slips! {
     ArrivalsDiagonalsRead: "arrivals: of a diagonal only the row followed",
     ArrivalsNeverZero: "arrivals: 0 where the arrows never arrive",
     ArrivalsOfRefusal: "arrivals: a refusal says that no cell arrives",
+    SightKept: "sector without sight: sight kept",
+    GoalNotListed: "sector without sight: the goal not listed",
+    GoalUnflagged: "sector without sight: the goal starts at 0 without its flag",
+    GoalCostPaid: "sector without sight: the goal's own cost paid",
+    GoalEntered: "sector without sight: the goal entered by a walk that comes to 0, its flag lost",
+    WalksPayLeft: "sector without sight: a move costs what the cell that it leaves costs",
+    WalksCountMoves: "sector without sight: moves counted, not costs",
+    WalksDiagonal: "sector without sight: walks go to diagonal neighbours too",
+    WavesOfMoves: "sector without sight: the waves counted are the moves to the farthest cell, whatever they cost",
+    WindowUnfaced: "sector without sight: a window planned without its previous field",
+    GoalsPositionsUnset: "sector without sight: positions 255 in every cell",
+    GoalsPositionZero: "sector without sight: position 0 in the goal too",
+    FieldlessWithoutSight: "sector without sight: 17 for a goal without previous field too",
+    OnWallWithoutSight: "sector without sight: a goal or a window cell of cost 255 taken",
+    LegSightKept: "leg without sight: sight kept",
+    LegWrittenWithSight: "leg without sight: the first step written with sight",
+    LegFacesSight: "leg without sight: the second step faces the field with sight",
+    LegStepsAlone: "leg without sight: later steps started without the field before",
+    LegClosedPlanned: "leg without sight: a window with no counting cell is planned",
 }
 
 impl Slip {
@@ -411,6 +430,17 @@ impl Slip {
         Slip::LeftOutMarked,
         Slip::LeftOutPointed,
         Slip::LeftOutWalled,
+    ];
+
+    /// Those without sight that a comparison of answers finds first, and that following to the goal has to show by itself.
+    pub const NOT_TO_GOAL: &'static [Slip] = &[
+        Slip::GoalNotListed,
+        Slip::WalksPayLeft,
+        Slip::WalksCountMoves,
+        Slip::WalksDiagonal,
+        Slip::LegSightKept,
+        Slip::LegWrittenWithSight,
+        Slip::LegStepsAlone,
     ];
 
     /// Those that a comparison of answers finds first, and that floors between two have to show by themselves.
