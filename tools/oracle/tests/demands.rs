@@ -110,6 +110,35 @@ fn no_walk_by_hand_comes_to_less() {
     }
 }
 
+/// The same of a goal's sector without sight, whose walks begin in the goal at 0 and enter every cell but walls and the goal.
+#[test]
+fn sectors_without_sight_hold_least_walks_from_the_goal() {
+    let mut rng = Rng::new(15);
+    let mut followed = 0;
+    for _ in 0..FLOORS {
+        let (costs, step) = any_open(&mut rng);
+        if step[2] == 1 {
+            continue;
+        }
+        let (goal, mut sheet) = (usize::from(step[1]), [0x55; CELLS]);
+        let answer = Oracle.sector_without_sight(&costs, &step, Previous { lent: false, numbers: &[] }, &mut sheet);
+        let built = &answer.field.field;
+        let wall = |cell: usize| costs[cell] == 255;
+        let from_goal = IntegrationField::new([0; CELLS], &[goal]);
+        let least = least_walks(&from_goal, &costs, |cell, _| !wall(cell) && cell != goal);
+        for cell in 0..CELLS {
+            assert_eq!(low(built[cell]), least[cell].unwrap_or(65535));
+            assert_eq!(sheet[cell] == 0xE0, least[cell].is_none());
+            if least[cell].is_some() && !costs.contains(&0) {
+                follow(cell, &sheet, built, &[goal], wall);
+                followed += 1;
+            }
+        }
+        assert!(answer.waves <= 99);
+    }
+    assert!(followed > FLOORS);
+}
+
 /// The neighbour that the low half of a byte points at.
 fn pointed(cell: usize, byte: u8) -> (i32, i32) {
     let bit = |mask: u8| i32::from(byte & mask != 0);

@@ -182,6 +182,24 @@ fn fifteen_hundred_moves_are_enough_and_one_more_is_too_many() {
     assert_eq!(fault, "from cell 0 of sector 16, move 1501, which leaves cell 0 of sector 1, is one too many");
 }
 
+/// The same arrows on to the goal, cell 0, through every cell of its sector: 99 moves in each of the sixteen, and a crossing
+/// between each two.
+#[test]
+fn moves_to_the_goal_may_be_1599() {
+    let mut planned = winding_leg(16);
+    let cells = winding(3);
+    for (i, cell) in cells.iter().enumerate() {
+        planned.built[0][*cell] = 99 - i as u32;
+        planned.sheet[*cell] = bit(*cell, cells.get(i + 1), 3);
+    }
+    let leg = PlannedLeg { end: End::Goal, ..planned.leg() };
+    assert_eq!(leg.journey(0, 9), made(0, 0, 99));
+    assert_eq!(leg.journey(1, 9), made(1, 0, 2 * 99 + 1));
+    assert_eq!(leg.journey(15, 90), made(15, 0, 1_599));
+    let all = leg.journeys().expect("every way ends");
+    assert_eq!((all.cells, all.longest, all.of_sixteen), (1_600, 1_599, 1));
+}
+
 /// The model's own slips, found by following: Job 2's rule dropped, and a crossing that does not go where the choice says.
 #[test]
 fn slips_lead_the_cart_astray() {

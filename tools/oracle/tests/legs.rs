@@ -99,19 +99,32 @@ fn by_parts(costs: &[u8], step: &[u8], counting: &[usize], before: &[u32; CELLS]
     (built.field, bytes)
 }
 
+/// A goal's sector by the Rust's own calls: with sight the sector call, without the same parts on a field given by hand, in
+/// which the goal is the one corner.
+fn goals_sector(sight: bool, costs: &[u8], step: &[u8]) -> ([u32; CELLS], [u8; CELLS]) {
+    let (none, mut bytes) = (Previous { lent: false, numbers: &[] }, [OLD; CELLS]);
+    if sight {
+        return (Oracle.sector(costs, step, none, &mut bytes).field.field, bytes);
+    }
+    let goal = usize::from(step[1]);
+    let mut cells = [65535; CELLS];
+    (0..CELLS).filter(|cell| costs[*cell] == 255).for_each(|wall| cells[wall] |= IMPASSABLE);
+    cells[goal] = GOAL;
+    let built = Oracle.build(costs, IntegrationField::new(cells, &[goal])).field;
+    Oracle.flow_new(step, built, none, &mut bytes);
+    Oracle.flow_build(built, &mut bytes);
+    (built.field, bytes)
+}
+
 /// The number of a leg that the table takes, and its sheet, by the Rust's own calls.
-fn leg_by_parts(case: &Case) -> (u8, Vec<u8>) {
+fn leg_by_parts(sight: bool, case: &Case) -> (u8, Vec<u8>) {
     let mut sheet = case.sheet.clone();
     let mut before: Option<[u32; CELLS]> = None;
     for step in case.steps.chunks(8) {
         let part = usize::from(step[0]) * CELLS..(usize::from(step[0]) + 1) * CELLS;
         let costs = &case.costs[part.clone()];
         let (built, bytes) = match &before {
-            None => {
-                let mut bytes = [OLD; CELLS];
-                let none = Previous { lent: false, numbers: &[] };
-                (Oracle.sector(costs, step, none, &mut bytes).field.field, bytes)
-            }
+            None => goals_sector(sight, costs, step),
             Some(before) => match counting(step, before) {
                 counting if counting.is_empty() => return (CLOSED, case.sheet.clone()),
                 counting => by_parts(costs, step, &counting, before),
@@ -123,18 +136,24 @@ fn leg_by_parts(case: &Case) -> (u8, Vec<u8>) {
     (0, sheet)
 }
 
+/// With sight, and without.
 #[test]
 fn the_model_plans_what_the_rusts_parts_give() {
-    let (mut planned, mut closed) = (0, 0);
+    let (mut planned, mut closed, mut others) = (0, 0, 0);
     for case in gap_legs(31, 3_000) {
-        let mut sheet = case.sheet.clone();
-        let number = Model::PLAIN.leg(&case.costs, &case.steps, &mut sheet);
-        assert!((number, sheet) == leg_by_parts(&case), "{}", case.pasted());
+        let mut sheets = [case.sheet.clone(), case.sheet.clone()];
+        let [with, without] = &mut sheets;
+        let number = Model::PLAIN.leg(&case.costs, &case.steps, with);
+        assert_eq!(Model::PLAIN.leg_without_sight(&case.costs, &case.steps, without), number);
+        others += usize::from(with != without);
+        for (sight, sheet) in [true, false].into_iter().zip(sheets) {
+            assert!((number, sheet) == leg_by_parts(sight, &case), "{}", case.pasted());
+        }
         planned += usize::from(number == 0);
         closed += usize::from(number == CLOSED);
     }
-    println!("{planned} planned, {closed} refused with 15");
-    assert!(planned > 500 && closed > 500);
+    println!("{planned} planned, {others} of them otherwise without sight, {closed} refused with 15");
+    assert!(planned > 500 && others > 500 && closed > 500);
 }
 
 #[test]
