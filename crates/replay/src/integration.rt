@@ -1,4 +1,4 @@
-// The records of init, build and the sector call.
+// The records of init, build and the sector calls.
 use integration_field::BuildAnswer;
 use records::byte_at;
 use records::field_of;
@@ -34,12 +34,28 @@ pub fn build_agrees(record: &[u8]) -> bool {
     same_build(answer, part(record, 701, 1304))
 }
 
+// The sector call, with the sight of a goal or without.
+fn plan_by_sight(
+    sight: bool,
+    costs: &[u8],
+    step: &[u8],
+    has_previous: bool,
+    previous: &[u32],
+    sheet: &mut [u8],
+) -> BuildAnswer {
+    if sight {
+        return sector::plan_sector(costs, step, has_previous, previous, sheet);
+    }
+    sector::plan_sector_without_sight(costs, step, has_previous, previous, sheet)
+}
+
 // A record: 100 costs, 8 bytes of step, has_previous, 100 previous numbers; number, waves, field, sheet.
-pub fn sector_agrees(record: &[u8]) -> bool {
+pub fn sector_agrees(record: &[u8], sight: bool) -> bool {
     let given = field_of(part(record, 109, 509));
     let previous = given.field;
     let mut sheet = [0x55u8; 100];
-    let answer = sector::plan_sector(
+    let answer = plan_by_sight(
+        sight,
         part(record, 0, 100),
         part(record, 100, 108),
         byte_at(record, 108) == 1,

@@ -27,8 +27,16 @@ fn put_sectors(whole: &mut [u8], steps: &[u8], parts: &[u8]) {
     }
 }
 
+// A leg, with the sight of its goal or without.
+fn plan_by_sight(sight: bool, floor: &[u8], steps: &[u8], sheet: &mut [u8]) -> u8 {
+    if sight {
+        return leg::plan_leg(floor, steps, sheet);
+    }
+    leg::plan_leg_without_sight(floor, steps, sheet)
+}
+
 // A record: step count, 16 steps, 16 times 100 costs; number, 16 times 100 bytes of the sheet.
-pub fn leg_agrees(record: &[u8]) -> bool {
+pub fn leg_agrees(record: &[u8], sight: bool) -> bool {
     let count = size_at(record, 0);
     let steps = part(record, 1, 1 + 8 * count);
     let mut floor = [1u8; 6400];
@@ -36,6 +44,6 @@ pub fn leg_agrees(record: &[u8]) -> bool {
     let mut expected = [0x55u8; 6400];
     put_sectors(&mut expected, steps, part(record, 1730, 1730 + 100 * count));
     let mut sheet = [0x55u8; 6400];
-    let number = leg::plan_leg(&floor, steps, &mut sheet);
+    let number = plan_by_sight(sight, &floor, steps, &mut sheet);
     number == byte_at(record, 1729) && check::same(&sheet, &expected)
 }

@@ -28,8 +28,8 @@ fn agrees(section: u8, record: &[u8]) -> bool {
         4 => integration::build_agrees(record),
         5 => flow::new_agrees(record),
         6 => flow::build_agrees(record),
-        7 => integration::sector_agrees(record),
-        8 => legs::leg_agrees(record),
+        7 => integration::sector_agrees(record, true),
+        8 => legs::leg_agrees(record, true),
         9 => refusals::refusal_agrees(record),
         10 => files::write_agrees(record),
         11 => files::read_agrees(record),
@@ -39,6 +39,8 @@ fn agrees(section: u8, record: &[u8]) -> bool {
         15 => windows::costs_agree(record),
         16 => windows::tour_agrees(record),
         17 => flow::arrivals_agree(record),
+        18 => integration::sector_agrees(record, false),
+        19 => legs::leg_agrees(record, false),
         _ => false,
     }
 }
@@ -108,6 +110,11 @@ fn main() {
     replay(8, b"leg.altered", 3330);
     replay(8, b"leg.model", 3330);
     replay(8, b"leg.table", 3330);
+    replay(18, b"sector_without_sight.altered", 1212);
+    replay(18, b"sector_without_sight.table", 1212);
+    replay(19, b"leg_without_sight.altered", 3330);
+    replay(19, b"leg_without_sight.model", 3330);
+    replay(19, b"leg_without_sight.table", 3330);
     replay(9, b"refusals.table", 160);
     replay(10, b"leg_file_write.model", 314);
     replay(11, b"leg_file_read.model", 154);

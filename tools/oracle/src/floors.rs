@@ -308,6 +308,23 @@ pub fn leg_with_a_gap() -> (Vec<u8>, Vec<u8>) {
     (floor, [goal_step(0, 44), window_step(1, 3, 0, 9)].concat())
 }
 
+/// A floor and a leg from sector 1, by its whole west edge, to cell 40 of sector 0, at the west end of a row whose other cells
+/// cost 100. In sight of the goal cell 49 is the nearest of the east edge; on foot it costs 110, and 39 and 59 cost 10.
+pub fn leg_past_a_dear_row() -> (Vec<u8>, Vec<u8>) {
+    let mut floor = vec![1; 64 * CELLS];
+    floor[41..50].fill(100);
+    (floor, [goal_step(0, 40), window_step(1, 3, 0, 9)].concat())
+}
+
+/// Two rows of three cells, the goal at 0, and cell 99 that nothing reaches. Cell 1 costs 200, so that 2 is cheapest by 10, 11
+/// and 12: four moves, where two would do. The goal's own cost, 9, is paid by none.
+pub fn round_a_dear_cell() -> (Costs, Step) {
+    let mut costs = uniform(255);
+    let floor = [(0, 9), (1, 200), (2, 1), (10, 1), (11, 1), (12, 1), (99, 1)];
+    floor.into_iter().for_each(|(cell, cost): (usize, u8)| costs[cell] = cost);
+    (costs, goal_step(0, 0))
+}
+
 /// A floor and a step to a window of two cells, 93 and 94, on which the waves come to cell 64 first from 94, and one wave
 /// later from 93, at the same cost. So cells 64 and 65 are walked to from both, and 93 is listed first.
 pub fn two_ways() -> (Costs, Step) {

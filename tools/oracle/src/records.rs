@@ -14,6 +14,8 @@
 //! | sector.altered | 1212 | 100 costs, 8 step, has_previous, 100 previous of 32 bits | number, waves, count, 100 positions, 100 corners, 100 cells of 32 bits, 100 sheet |
 //! | init.table, sector.table | 710, 1212 | as init.altered and sector.altered | the same |
 //! | leg.altered, leg.model, leg.table | 3330 | step count, 128 steps, 16 times 100 costs | number, 16 times 100 sheet |
+//! | sector_without_sight.altered, sector_without_sight.table | 1212 | as sector.altered | the same |
+//! | leg_without_sight.altered, leg_without_sight.model, leg_without_sight.table | 3330 | as leg.altered | the same |
 //! | refusals.table | 160 | see below | number, 2 zeros |
 //! | leg_file_write.model | 314 | list length, buffer length, buffer's byte, list in 150 places | number, buffer in 160 places |
 //! | leg_file_read.model | 154 | file length, file in 150 places | number, start, length of the part |
@@ -41,6 +43,11 @@
 //! Cost bytes of sectors not named are 1; every byte of the sheet is 0x55 before the call, and those of sectors not
 //! named still are after it, as all are where the number is not 0. What stands beyond the last step is 0.
 //! In leg.altered every window cell counts; in leg.model some window has a cell that does not.
+//!
+//! sector_without_sight and leg_without_sight: sectors and legs planned without sight, which are in neither document. The
+//! Rust has no such call. In the files with `altered` behind the dot its own parts decide: the published `build` and `new`, on
+//! a goal's sector that is given to them by hand, and the altered look; windows as in sector.altered and leg.altered. In
+//! sector_without_sight.table stand 4 to 8, 16 and 17, in leg_without_sight.table 9, 10 and 16.
 //!
 //! refusals.table: call (0 init, 1 build, 2 flow_new, 3 flow_build, 4 sector, 5 leg, 6 line, 7 line_end), then
 //! in 16 bits each costs length, sheet length, step bytes' length; has_previous; in 16 bits each
@@ -93,6 +100,10 @@ impl Section {
         match self.name.split_once('.') {
             Some(("init", "altered")) => &[Judge::Altered, Judge::Model],
             Some(("sector", "altered")) => &[Judge::Altered, Judge::Counted, Judge::Model],
+            Some(("sector_without_sight", "altered")) => {
+                &[Judge::Published, Judge::Altered, Judge::Counted, Judge::Model]
+            }
+            Some(("leg_without_sight", "altered")) => &[Judge::Published, Judge::Altered],
             Some((_, "altered")) => &[Judge::Altered],
             Some((_, "table")) => &[Judge::Table],
             Some((_, "model")) => &[Judge::Model],
@@ -124,9 +135,26 @@ pub fn sections() -> Vec<Section> {
         Section { name: "flow_build.altered", length: 601, records: flows_build(rng()) },
         Section { name: "sector.altered", length: 1212, records: sectors(rng()) },
         Section { name: "sector.table", length: 1212, records: refused_sectors(rng()) },
-        Section { name: "leg.altered", length: 3330, records: legs(rng(), Judge::Altered) },
-        Section { name: "leg.model", length: 3330, records: legs(rng(), Judge::Model) },
-        Section { name: "leg.table", length: 3330, records: legs(rng(), Judge::Table) },
+        Section { name: "leg.altered", length: 3330, records: legs(all_legs(rng()), Judge::Altered) },
+        Section { name: "leg.model", length: 3330, records: legs(all_legs(rng()), Judge::Model) },
+        Section { name: "leg.table", length: 3330, records: legs(all_legs(rng()), Judge::Table) },
+        Section { name: "sector_without_sight.altered", length: 1212, records: sectors_without_sight(rng()) },
+        Section { name: "sector_without_sight.table", length: 1212, records: refused_without_sight() },
+        Section {
+            name: "leg_without_sight.altered",
+            length: 3330,
+            records: legs(legs_without_sight(rng()), Judge::Altered),
+        },
+        Section {
+            name: "leg_without_sight.model",
+            length: 3330,
+            records: legs(legs_without_sight(rng()), Judge::Model),
+        },
+        Section {
+            name: "leg_without_sight.table",
+            length: 3330,
+            records: legs(legs_without_sight(rng()), Judge::Table),
+        },
         Section { name: "refusals.table", length: 160, records: refusals() },
         Section { name: "leg_file_write.model", length: 314, records: file_writes(rng()) },
         Section { name: "leg_file_read.model", length: 154, records: file_reads(rng()) },
@@ -385,9 +413,17 @@ fn flows_build(mut rng: Rng) -> Vec<Vec<u8>> {
     records
 }
 
-fn sector(costs: Costs, step: Step, (lent, numbers): (bool, Vec<u32>)) -> Vec<u8> {
-    let mut sheet = vec![0x55; CELLS];
-    let answer = Oracle.sector(&costs, &step, Previous { lent, numbers: &numbers }, &mut sheet);
+fn sector(costs: Costs, step: Step, previous: (bool, Vec<u32>)) -> Vec<u8> {
+    sector_by(true, costs, step, previous)
+}
+
+/// A sector call, with the sight of a goal or without.
+fn sector_by(sight: bool, costs: Costs, step: Step, (lent, numbers): (bool, Vec<u32>)) -> Vec<u8> {
+    let (previous, mut sheet) = (Previous { lent, numbers: &numbers }, vec![0x55; CELLS]);
+    let answer = match sight {
+        true => Oracle.sector(&costs, &step, previous, &mut sheet),
+        false => Oracle.sector_without_sight(&costs, &step, previous, &mut sheet),
+    };
     let mut record = costs.to_vec();
     record.extend(step);
     record.push(u8::from(lent));
@@ -436,6 +472,77 @@ fn fieldless() -> impl Iterator<Item = (Costs, Step)> {
     })
 }
 
+/// Goals that sight leads astray, beside a dear cell, with a part closed off, at cost 0, at the end of a snake, among walls and
+/// costs of every kind; then windows.
+fn seen_and_unseen(rng: &mut Rng) -> Vec<(Costs, Step)> {
+    let goal = |cell| floors::goal_step(0, cell);
+    let mut closed = floors::one_wall(1);
+    closed[10] = 255;
+    let mut list = vec![
+        (floors::one_wall(1), goal(10)),
+        floors::round_a_dear_cell(),
+        (closed, goal(44)),
+        (floors::uniform(0), goal(37)),
+        (floors::uniform(254), floors::goal_step(63, 99)),
+        (floors::snake(1, true, false), goal(0)),
+    ];
+    for percent in [10, 25, 40] {
+        list.push((floors::walls(rng, percent, &[1]), goal(rng.below(CELLS))));
+        list.push((floors::walls(rng, percent, &floors::COSTS), goal(rng.below(CELLS))));
+    }
+    list.push((floors::racks(rng), goal(rng.below(CELLS))));
+    let windows = [(0, 3, 5), (1, 0, 9), (3, 4, 4)].map(|(boundary, a, b)| floors::window_step(0, boundary, a, b));
+    list.extend(windows.map(|step| (floors::few_walls(rng), step)));
+    list.iter_mut().for_each(|(costs, step)| floors::open(rng, costs, step));
+    list
+}
+
+/// Windows come with a previous field of few values, so that they do not all lead straight across.
+fn sectors_without_sight(mut rng: Rng) -> Vec<Vec<u8>> {
+    let inputs = seen_and_unseen(&mut rng).into_iter();
+    let records = inputs.map(|(costs, step)| {
+        let previous = match step[2] {
+            1 => (true, (0..CELLS).map(|_| rng.below(3) as u32).collect()),
+            _ => previous(&mut rng),
+        };
+        sector_by(false, costs, step, previous)
+    });
+    records.collect()
+}
+
+/// Sectors without sight that are refused, with each number that a record has room for.
+fn refused_without_sight() -> Vec<Vec<u8>> {
+    let (goal, east) = (floors::goal_step(0, 44), floors::window_step(0, 1, 2, 5));
+    let inputs = [
+        (floors::uniform(1), changed(goal, &[(0, 64)])),
+        (floors::uniform(1), changed(goal, &[(1, 100)])),
+        (floors::uniform(1), changed(east, &[(3, 100)])),
+        (floors::uniform(1), changed(east, &[(3, 28)])),
+        (floors::one_wall(29), changed(east, &[(3, 59), (4, 29)])),
+        (floors::one_wall(44), goal),
+        (floors::one_wall(39), east),
+        (floors::one_wall(44), east),
+    ];
+    inputs.into_iter().map(|(costs, step)| sector_by(false, costs, step, (false, vec![0; CELLS]))).collect()
+}
+
+/// Legs without sight: a goal that sight leads astray, a crossing that goes by what walking costs, sixteen steps in which every
+/// window cell counts; gaps between counting cells, 15; 16, 10 and 9.
+fn legs_without_sight(mut rng: Rng) -> Vec<Case> {
+    let of = |(costs, steps): (Vec<u8>, Vec<u8>)| Case { costs, steps, ..Case::of(Call::Leg) };
+    let mut floor = vec![1; 64 * CELLS];
+    floor[..CELLS].copy_from_slice(&floors::one_wall(1));
+    let goal = |cell: usize| floors::goal_step(0, cell);
+    let astray = of((floor.clone(), goal(10).to_vec()));
+    let mut cases = vec![astray, of(floors::leg_past_a_dear_row()), groups::leg_that_counts(&mut rng, 16)];
+    cases.extend([of(floors::leg_with_a_gap()), groups::leg_that_meets(&mut rng, groups::Met::GapBetween)]);
+    cases.push(groups::closed_leg(&mut rng, 3, 2));
+    let window = |sector: usize, boundary: usize| floors::window_step(sector, boundary, 2, 5);
+    let refused = [vec![goal(1)], vec![goal(10), window(9, 0)], vec![goal(10), window(1, 3), window(0, 1)]];
+    cases.extend(refused.map(|steps| of((floor.clone(), steps.concat()))));
+    cases.into_iter().map(Case::without_sight).collect()
+}
+
 /// A leg, and who decides it. Cost bytes of sectors not named are made 1.
 fn leg(case: &Case) -> (Judge, Vec<u8>) {
     let steps = &case.steps;
@@ -445,7 +552,10 @@ fn leg(case: &Case) -> (Judge, Vec<u8>) {
         floor[part(step)].copy_from_slice(&case.costs[part(step)]);
     }
     let mut sheet = vec![0x55; 64 * CELLS];
-    let (number, judges) = judges::during(|| Oracle.leg(&floor, steps, &mut sheet));
+    let (number, judges) = judges::during(|| match case.call() {
+        Call::LegWithoutSight => Oracle.leg_without_sight(&floor, steps, &mut sheet),
+        _ => Oracle.leg(&floor, steps, &mut sheet),
+    });
     let parts = |of: &[u8]| {
         let mut bytes: Vec<u8> = steps.chunks(8).flat_map(|step| of[part(step)].to_vec()).collect();
         bytes.resize(16 * CELLS, 0);
@@ -456,7 +566,8 @@ fn leg(case: &Case) -> (Judge, Vec<u8>) {
     record.extend(parts(&floor));
     record.push(number);
     record.extend(parts(&sheet));
-    let judge = Judge::ALL.into_iter().find(|judge| judges[*judge as usize]);
+    // Where the published Rust decides a part, the altered one decides the rest, and the file has its name.
+    let judge = [Judge::Altered, Judge::Table, Judge::Model].into_iter().find(|judge| judges[*judge as usize]);
     (judge.expect("a judge decided the leg"), record)
 }
 
@@ -488,9 +599,9 @@ fn all_legs(mut rng: Rng) -> Vec<Case> {
     cases
 }
 
-/// The legs that a judge decides.
-fn legs(rng: Rng, judge: Judge) -> Vec<Vec<u8>> {
-    all_legs(rng).iter().map(leg).filter(|(by, _)| *by == judge).map(|(_, record)| record).collect()
+/// Those of some legs that a judge decides.
+fn legs(cases: Vec<Case>, judge: Judge) -> Vec<Vec<u8>> {
+    cases.iter().map(leg).filter(|(by, _)| *by == judge).map(|(_, record)| record).collect()
 }
 
 /// One thing that is refused, or only just taken.

@@ -4,7 +4,7 @@
 use std::sync::LazyLock;
 
 use oracle::judges::Judge;
-use oracle::model::{Model, Slip};
+use oracle::model::{CLOSED, Model, Slip};
 use oracle::records::{Section, sections};
 use oracle::refusals::{FIELDLESS, NO_RANGE, NO_WINDOW_THERE, NOT_2_TO_8, ON_WALL};
 use oracle::subject::*;
@@ -88,25 +88,29 @@ fn a_file_with_another_judge_says_so_in_its_name() {
         let named = SAMPLE.iter().filter(|section| section.judges().contains(&judge));
         named.map(|section| section.name).collect::<Vec<&str>>()
     };
-    assert_eq!(by(Judge::Published), ["line", "readers", "build", "flow_new"]);
+    // The last two by its parts, beside the altered one's.
+    let parts = ["sector_without_sight.altered", "leg_without_sight.altered"];
+    assert_eq!(by(Judge::Published), [&["line", "readers", "build", "flow_new"], &parts[..]].concat());
     let altered = ["line_end.altered", "init.altered", "flow_build.altered", "sector.altered", "leg.altered"];
-    assert_eq!(by(Judge::Altered), altered);
-    assert_eq!(by(Judge::Counted), ["build", "sector.altered"]);
-    let tables = ["init.table", "sector.table", "leg.table", "refusals.table", "bounds.table"];
+    assert_eq!(by(Judge::Altered), [&altered[..], &parts[..]].concat());
+    assert_eq!(by(Judge::Counted), ["build", "sector.altered", "sector_without_sight.altered"]);
+    let tables = ["init.table", "sector.table", "leg.table"];
+    let without_sight = ["sector_without_sight.table", "leg_without_sight.table"];
+    let others = ["refusals.table", "bounds.table"];
     let windows = ["window_costs.table", "window_tour.table", "arrivals.table"];
-    assert_eq!(by(Judge::Table), [&tables[..], &windows[..]].concat());
+    assert_eq!(by(Judge::Table), [&tables[..], &without_sight, &others, &windows].concat());
     let files = ["leg_file_write.model", "leg_file_read.model"];
     let floors = ["practice.model", "practice_text.model", "bounds.model"];
     let windows = ["window_costs.model", "window_tour.model", "arrivals.model"];
-    // Of the first three, whose cells are the Rust's, the positions.
-    let positions = ["init.altered", "build", "sector.altered"];
-    let models = [&positions[..], &["leg.model"], &files[..], &floors[..], &windows[..]].concat();
-    assert_eq!(by(Judge::Model), models);
+    // Of these, whose cells are the Rust's, the positions.
+    let positions = ["init.altered", "build", "sector.altered", "sector_without_sight.altered"];
+    let legs = ["leg.model", "sector_without_sight.altered", "leg_without_sight.model"];
+    assert_eq!(by(Judge::Model), [&positions[..3], &legs, &files, &floors, &windows].concat());
     let named = |judge: Judge, end: &str| {
         by(judge).iter().all(|name| name.ends_with(end) || (judge == Judge::Model && positions.contains(name)))
     };
     assert!(named(Judge::Altered, ".altered") && named(Judge::Table, ".table") && named(Judge::Model, ".model"));
-    assert!(!by(Judge::Published).iter().any(|name| name.contains('.')));
+    assert!(!by(Judge::Published).iter().any(|name| name.contains('.') && !parts.contains(name)));
 }
 
 /// The sums are made from the records here, not by the program that replays them.
@@ -244,9 +248,21 @@ fn windows_of_the_sector_call_have_a_previous_field() {
 
 /// The same of one of the sector call.
 fn plans_so(model: &Model, r: &mut Reader) -> (u8, bool) {
+    plans_by(true, model, r)
+}
+
+/// The same of one without sight.
+fn plans_without_sight(model: &Model, r: &mut Reader) -> (u8, bool) {
+    plans_by(false, model, r)
+}
+
+fn plans_by(sight: bool, model: &Model, r: &mut Reader) -> (u8, bool) {
     let (costs, step, lent, numbers) = (r.bytes(100), r.bytes(8), r.byte() == 1, r.cells());
-    let mut sheet = [0x55; CELLS];
-    let answer = model.sector(costs, step, Previous { lent, numbers: &numbers }, &mut sheet);
+    let (previous, mut sheet) = (Previous { lent, numbers: &numbers }, [0x55; CELLS]);
+    let answer = match sight {
+        true => model.sector(costs, step, previous, &mut sheet),
+        false => model.sector_without_sight(costs, step, previous, &mut sheet),
+    };
     let (number, waves, list, cells) = (r.byte(), usize::from(r.byte()), r.list(), r.cells());
     let due = BuildAnswer { number, field: field(cells, list), waves };
     (number, (answer, &sheet[..]) == (due, r.bytes(100)))
@@ -255,7 +271,10 @@ fn plans_so(model: &Model, r: &mut Reader) -> (u8, bool) {
 #[test]
 fn legs() {
     for name in ["leg.altered", "leg.model", "leg.table"] {
-        legs_of(name);
+        legs_of(name, goes_so);
+    }
+    for name in ["leg_without_sight.altered", "leg_without_sight.model", "leg_without_sight.table"] {
+        legs_of(name, goes_without_sight);
     }
 }
 
@@ -286,6 +305,12 @@ fn goes_so(model: &Model, r: &mut Reader) -> (u8, bool) {
     (leg.number, model.leg(&leg.floor, leg.steps, &mut sheet) == leg.number && sheet == leg.sheet)
 }
 
+/// The same of one without sight.
+fn goes_without_sight(model: &Model, r: &mut Reader) -> (u8, bool) {
+    let (leg, mut sheet) = (leg_of(r), vec![0x55; 6400]);
+    (leg.number, model.leg_without_sight(&leg.floor, leg.steps, &mut sheet) == leg.number && sheet == leg.sheet)
+}
+
 /// The rules of document 02, Jobs 7 and 11 decide some records of each file that they move: a model that needs both walls
 /// beside a diagonal, in lines or in looks, answers them otherwise, and so does one with line ends in f32.
 #[test]
@@ -309,19 +334,46 @@ fn altered_rules_decide_records_of_each_file() {
     }
 }
 
-fn legs_of(name: &str) {
+fn legs_of(name: &str, goes: NumberSo) {
     each(name, |r| {
         let start = r.0;
         let Leg { floor, steps, number, .. } = leg_of(r);
-        assert_eq!(goes_so(&MODEL, &mut Reader(start)), (number, true));
-        if name == "leg.table" {
-            assert!([8, ON_WALL].contains(&number));
+        assert_eq!(goes(&MODEL, &mut Reader(start)), (number, true));
+        if name.ends_with(".table") {
+            let numbers = if name == "leg.table" { [8, ON_WALL, ON_WALL] } else { [9, 10, ON_WALL] };
+            assert!(numbers.contains(&number));
             return;
         }
         let plan = MODEL.plan(&floor, steps);
         let whole = !plan.closed && plan.steps.iter().all(|step| step.counting == step.window);
-        assert_eq!(whole, name == "leg.altered");
+        assert_eq!(whole, name.ends_with(".altered"));
     });
+}
+
+#[test]
+fn sectors_without_sight() {
+    each("sector_without_sight.altered", |r| assert_eq!(plans_without_sight(&MODEL, r), (0, true)));
+    let numbers = numbers_in("sector_without_sight.table", plans_without_sight);
+    assert_eq!(numbers, [4, 5, 6, 7, 8, ON_WALL, FIELDLESS]);
+    assert_eq!(numbers_in("leg_without_sight.model", goes_without_sight), [0, CLOSED]);
+    assert_eq!(numbers_in("leg_without_sight.table", goes_without_sight), [9, 10, ON_WALL]);
+}
+
+#[test]
+fn sectors_and_legs_without_sight_show_every_slip() {
+    show_every(slips_of("sector without sight: "), "sector_without_sight", plans_without_sight);
+    show_every(slips_of("leg without sight: "), "leg_without_sight", goes_without_sight);
+}
+
+/// The two calls are not recorded with the same answers: most goals look otherwise with sight.
+#[test]
+fn sight_decides_records_without_sight() {
+    let otherwise = |name: &str, so: NumberSo| {
+        let records = section(name).records.iter();
+        records.filter(|record| !so(&MODEL, &mut Reader(record)).1).count()
+    };
+    assert_eq!(otherwise("sector_without_sight.altered", plans_so), 13);
+    assert_eq!(otherwise("leg_without_sight.altered", goes_so), 3);
 }
 
 #[test]
@@ -403,12 +455,12 @@ fn numbers_in(name: &str, so: NumberSo) -> Vec<u8> {
     numbers
 }
 
-/// Each of these slips is shown by a record of the call, one that the model decided or one that the table of refusals did.
+/// Each of these slips is shown by a record of the call, whichever judge decided it.
 fn show_every(slips: impl IntoIterator<Item = &'static (Slip, &'static str)>, call: &str, so: NumberSo) {
     let differs = |slip: Slip, record: &[u8]| !so(&Model { slip }, &mut Reader(record)).1;
     for (slip, text) in slips {
-        let files = ["model", "table"].map(|judge| section(&format!("{call}.{judge}")));
-        let shown = files.iter().any(|file| file.records.iter().any(|record| differs(*slip, record)));
+        let mut files = SAMPLE.iter().filter(|file| file.name.split_once('.').is_some_and(|(name, _)| name == call));
+        let shown = files.any(|file| file.records.iter().any(|record| differs(*slip, record)));
         assert!(shown, "not shown: {text}");
     }
 }

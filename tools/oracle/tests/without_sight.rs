@@ -2,7 +2,7 @@
 //! and what holding an answer to its words shows of wrong ones.
 
 use oracle::cases::Case;
-use oracle::floors::{self, Costs, Rng, goal_step, one_wall, window_step};
+use oracle::floors::{self, Rng, goal_step, leg_past_a_dear_row, one_wall, round_a_dear_cell, window_step};
 use oracle::groups::{Clean, Group, JOURNEY_WITHOUT_SIGHT, SECTOR_WITHOUT_SIGHT};
 use oracle::journey::{End, PlannedLeg};
 use oracle::judges::{self, Judge};
@@ -48,19 +48,11 @@ fn a_wall_at_cell_1_and_the_goal_at_10() {
     }
 }
 
-/// Two rows of three cells, the goal at 0, and cell 99 that nothing reaches. Cell 1 costs 200, so that 2 is cheapest by 10, 11
-/// and 12: four moves, where two would do. The goal's own cost, 9, is paid by none.
-fn two_rows() -> Costs {
-    let mut costs = floors::uniform(255);
-    let floor = [(0, 9), (1, 200), (2, 1), (10, 1), (11, 1), (12, 1), (99, 1)];
-    floor.into_iter().for_each(|(cell, cost): (usize, u8)| costs[cell] = cost);
-    costs
-}
-
+/// Two rows of three cells, in which the cheapest way is not the shortest.
 #[test]
 fn a_way_round_a_dear_cell() {
     for side in sides() {
-        let (answer, sheet) = planned(side, false, &two_rows(), 0);
+        let (answer, sheet) = planned(side, false, &round_a_dear_cell().0, 0);
         let named = [0, 1, 2, 10, 11, 12, 99, 50];
         assert_eq!(named.map(|cell| answer.field.field[cell]), [GOAL, 200, 4, 1, 2, 3, 65535, IMPASSABLE + 65535],);
         // Wave 1 changes 1 and 10, wave 2 cells 2 (201) and 11, wave 3 cell 12, wave 4 cell 2 once more.
@@ -107,17 +99,10 @@ fn windows_are_planned_as_before() {
     }
 }
 
-/// Sector 0 with the goal at 40, at the west end of its row, whose other cells cost 100, and sector 1, left by its whole west
-/// edge. In sight cell 49 is the nearest of the east edge; on foot it costs 110, and its neighbours 39 and 59 cost 10.
-fn dear_row() -> (Vec<u8>, Vec<u8>) {
-    let mut floor = vec![1; 64 * CELLS];
-    floor[41..50].fill(100);
-    (floor, [goal_step(0, 40), window_step(1, 3, 0, 9)].concat())
-}
-
+/// In sight cell 49 is the nearest of the edge, on foot its neighbours are.
 #[test]
 fn a_crossing_goes_by_what_walking_costs() {
-    let (floor, steps) = dear_row();
+    let (floor, steps) = leg_past_a_dear_row();
     for side in sides() {
         let [mut with, mut without] = [(); 2].map(|()| vec![0x55; 6400]);
         assert_eq!((side.leg(&floor, &steps, &mut with), side.leg_without_sight(&floor, &steps, &mut without)), (0, 0));
@@ -135,7 +120,7 @@ fn a_crossing_goes_by_what_walking_costs() {
 
 /// What is wrong with a sheet of the leg above, where one cell has another byte and is set out from.
 fn fault(step: usize, cell: usize, byte: u8) -> String {
-    let (floor, steps) = dear_row();
+    let (floor, steps) = leg_past_a_dear_row();
     let mut sheet = vec![0x55; 6400];
     Oracle.leg_without_sight(&floor, &steps, &mut sheet);
     sheet[step * CELLS + cell] = byte;
@@ -168,7 +153,7 @@ fn a_move_past_one_wall_is_seen() {
 #[test]
 fn costs_0_on_the_way_are_not_followed_to_the_goal() {
     for (cost_0, followed) in [(None, 200), (Some(CELLS + 55), 100), (Some(55), 0), (Some(2 * CELLS), 200)] {
-        let (mut floor, steps) = dear_row();
+        let (mut floor, steps) = leg_past_a_dear_row();
         cost_0.into_iter().for_each(|cell: usize| floor[cell] = 0);
         let mut sheet = vec![0x55; 6400];
         assert_eq!(Oracle.leg_without_sight(&floor, &steps, &mut sheet), 0);
@@ -190,7 +175,7 @@ fn the_rusts_parts_decide() {
     assert_eq!(decided(&goal), [Judge::Published, Judge::Altered, Judge::Counted, Judge::Model]);
     let window = || Oracle.sector_without_sight(&costs, &window_step(0, 1, 2, 5), zeros, &mut [0; CELLS]).number;
     assert_eq!(decided(&window), [Judge::Altered, Judge::Counted, Judge::Model]);
-    let (floor, steps) = dear_row();
+    let (floor, steps) = leg_past_a_dear_row();
     assert_eq!(
         decided(&|| Oracle.leg_without_sight(&floor, &steps, &mut [0; 6400])),
         [Judge::Published, Judge::Altered]
