@@ -1,5 +1,6 @@
 //! Speed: our sector call against the Rust's `init`, `build`, `new`, `build` on the same inputs, from the same driver, in
-//! one run; our leg against its sector calls, where every window cell counts, and by itself, where some do not; our bounds
+//! one run; our leg against its sector calls, where every window cell counts, and by itself, where some do not; our sector
+//! call and our leg without sight, which the Rust does not have, against those with sight; our bounds
 //! against the Rust's `init` and `build` on both floors; our costs from window to window against the Rust's `init` and
 //! `build` for each window, our tours against these, and our arrivals against the sector calls that write their sheets. The
 //! Rust is the copy altered as document 02, Jobs 7 and 11 ask, which writes the same bytes. A few inputs are timed at once,
@@ -119,6 +120,12 @@ impl Times {
     }
 }
 
+/// The same without sight.
+fn without_sight(input: &Input, sheet: &mut [u8; CELLS]) -> u8 {
+    let previous = Previous { lent: false, numbers: &[] };
+    black_box(Library.sector_without_sight(&input.costs, &input.step, previous, sheet)).number
+}
+
 /// What the Rust takes, ours on the sheet as it was left, and ours on a cleared sheet.
 fn measure(inputs: &[Input]) -> [Times; 3] {
     let mut times: [Times; 3] = Default::default();
@@ -184,6 +191,10 @@ fn as_a_leg(leg: &Leg, sheet: &mut [u8]) -> u8 {
     Library.leg(&leg.floor, &leg.steps, sheet)
 }
 
+fn as_a_leg_without_sight(leg: &Leg, sheet: &mut [u8]) -> u8 {
+    Library.leg_without_sight(&leg.floor, &leg.steps, sheet)
+}
+
 /// The sector calls that the leg is made of, each with the field that the call before answered.
 fn by_sectors(leg: &Leg, sheet: &mut [u8]) -> u8 {
     let mut built: Option<BuildAnswer> = None;
@@ -247,21 +258,63 @@ fn sectors() {
     }
 }
 
+fn sectors_without_sight() {
+    println!(
+        "nanoseconds a goal's sector with sight, by the sector call, and without, by the call without sight, on the same"
+    );
+    println!(
+        "inputs: {INPUTS} inputs, {AT_ONCE} timed at once, the least of {ROUNDS} rounds; the sheet as the call before left it"
+    );
+    println!("{:<14} {:>9} {:>9}  {:>12}", "", "with", "without", "without/with");
+    for (name, open) in [("random goal", false), ("open goal", true)] {
+        let mut rng = Rng::new(7);
+        let inputs: Vec<Input> = (0..INPUTS).map(|_| input(&mut rng, open, false)).collect();
+        let (mut times, mut sheet): ([Times; 2], _) = (Default::default(), [0x55; CELLS]);
+        assert!(inputs.iter().all(|input| without_sight(input, &mut sheet) == 0), "the sector is planned");
+        for _ in 0..ROUNDS {
+            times[0].round(&inputs, AT_ONCE, |input| by_us(input, &mut sheet));
+            times[1].round(&inputs, AT_ONCE, |input| without_sight(input, &mut sheet));
+        }
+        let [with, without] = times.map(|side| side.each(INPUTS));
+        println!("{name:<14} {with:>9.0} {without:>9.0}  {:>12.2}", without / with);
+    }
+}
+
+/// Legs of sixteen steps over floors as wanted.
+fn drawn_legs(wanted: Floor) -> Vec<Leg> {
+    let mut rng = Rng::new(7);
+    (0..LEGS).map(|_| leg(&mut rng, wanted)).collect()
+}
+
+fn legs_without_sight() {
+    println!(
+        "nanoseconds a leg of 16 steps with sight and without, on the same floors: {LEGS} floors, the least of {ROUNDS} rounds"
+    );
+    println!("{:<14} {:>9} {:>9}  {:>12}", "", "with", "without", "without/with");
+    for (name, wanted) in [("random floor", Floor::Counting), ("open floor", Floor::Open), ("gaps", Floor::Gaps)] {
+        let (legs, mut sheet) = (drawn_legs(wanted), vec![0x55; 64 * CELLS]);
+        let mut times: [Times; 2] = Default::default();
+        assert!(legs.iter().all(|leg| as_a_leg_without_sight(leg, &mut sheet) == 0), "the leg is planned");
+        for _ in 0..ROUNDS {
+            times[0].round(&legs, 1, |leg| as_a_leg(leg, &mut sheet));
+            times[1].round(&legs, 1, |leg| as_a_leg_without_sight(leg, &mut sheet));
+        }
+        let [with, without] = times.map(|side| side.each(LEGS));
+        println!("{name:<14} {with:>9.0} {without:>9.0}  {:>12.2}", without / with);
+    }
+}
+
 fn legs() {
     println!(
         "nanoseconds a leg of 16 steps: {LEGS} floors, the least of {ROUNDS} rounds for each; each sector drawn until"
     );
     println!("every cell of the window that faces it counts, or for `gaps` some cell does");
     println!("{:<14} {:>9} {:>9}  {:>11}", "", "sectors", "leg", "leg/sectors");
-    let drawn = |wanted: Floor| {
-        let mut rng = Rng::new(7);
-        (0..LEGS).map(|_| leg(&mut rng, wanted)).collect::<Vec<Leg>>()
-    };
     for (name, wanted) in [("random floor", Floor::Counting), ("open floor", Floor::Open)] {
-        let [as_leg, sectors] = measure_legs(&drawn(wanted));
+        let [as_leg, sectors] = measure_legs(&drawn_legs(wanted));
         println!("{name:<14} {sectors:>9.0} {as_leg:>9.0}  {:>11.2}", as_leg / sectors);
     }
-    println!("{:<14} {:>9} {:>9.0}", "gaps", "", measure_alone(&drawn(Floor::Gaps)));
+    println!("{:<14} {:>9} {:>9.0}", "gaps", "", measure_alone(&drawn_legs(Floor::Gaps)));
 }
 
 /// Two floors with a window, low and high, in both forms.
@@ -449,10 +502,14 @@ fn bench(words: Vec<String>) -> Result<(), String> {
     if !cfg!(panic = "abort") {
         return Err("not built with the profile `fastest`: use tools/oracle/run bench".to_string());
     }
-    Library::found(&[Call::Sector, Call::Leg, Call::Bounds, Call::WindowCosts, Call::WindowTour, Call::Arrivals])?;
+    let without_sight = [Call::SectorWithoutSight, Call::LegWithoutSight];
+    let others = [Call::Sector, Call::Leg, Call::Bounds, Call::WindowCosts, Call::WindowTour, Call::Arrivals];
+    Library::found(&[&others[..], &without_sight].concat())?;
     println!("the Rust and this driver are built with {}", env!("ORACLE_PROFILE"));
     sectors();
     legs();
+    sectors_without_sight();
+    legs_without_sight();
     bounds();
     squares();
     tours();
