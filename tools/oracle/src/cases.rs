@@ -81,7 +81,7 @@ impl Case {
         }
     }
 
-    /// The same input of the call without sight, where it is one of a sector or a leg, and back.
+    /// The same input, of a sector call or a leg, asked without sight.
     pub fn without_sight(self) -> Self {
         let ask = match self.ask {
             Ask::One(Call::Sector) => Ask::One(Call::SectorWithoutSight),
@@ -91,6 +91,7 @@ impl Case {
         Case { ask, ..self }
     }
 
+    /// The same input asked with sight again.
     pub fn with_sight(self) -> Self {
         let ask = match self.ask {
             Ask::One(Call::SectorWithoutSight) => Ask::One(Call::Sector),

@@ -19,10 +19,11 @@ pub struct Held {
     /// Goal's sectors, of sector calls and of legs, and sector calls with a window.
     pub goals: usize,
     pub windows: usize,
-    /// Goal's sectors with a cost 0, of which nothing is promised of following, and those with a floor cell that is not reached.
+    /// Goal's sectors with a cost 0, of whose arrows nothing is promised when they are followed; those with a floor cell that
+    /// nothing reaches.
     pub with_zero: usize,
     pub closed_off: usize,
-    /// Of those without a cost 0, the ones in which some reached cell never arrives with sight, and such cells.
+    /// Of those without a cost 0, the ones in which some reached cell never arrives with sight; these cells.
     pub lost: usize,
     pub lost_cells: usize,
     /// Sector calls with a goal of which a cell costs otherwise than with sight, and legs of which a window's cell crosses
@@ -157,13 +158,19 @@ impl<'a> Taken<'a> {
         Ok(())
     }
 
-    /// The side's call for arrivals has a number for each reached cell of a sector without a cost 0; in the goal's sector the
-    /// moves that were followed.
+    /// The side's call for arrivals has a number for each reached cell of a sector without a cost 0; in the goal's sector it is
+    /// that of the moves that are followed.
     fn arrives(&self, k: usize, side: &dyn Subject) -> Result<(), String> {
+        if self.costs(k).contains(&0) {
+            return Ok(());
+        }
         let moves = side.arrivals(self.part(k, self.sheet)).moves;
-        for cell in self.reached(k).filter(|_| !self.costs(k).contains(&0)) {
-            let followed = if k == 0 { self.planned().journey(0, cell)?.longest } else { usize::from(moves[cell]) };
-            if moves[cell] == NEVER || usize::from(moves[cell]) != followed {
+        for cell in self.reached(k) {
+            let wrong = match k {
+                0 => self.planned().journey(0, cell)?.longest != usize::from(moves[cell]),
+                _ => moves[cell] == NEVER,
+            };
+            if wrong {
                 return Err(format!("step {k}: cell {cell} arrives after {} moves, by arrivals", moves[cell]));
             }
         }
@@ -224,8 +231,8 @@ pub fn followed(case: &Case, due: &Outcome, outcome: &Outcome) -> Result<Followe
     Taken::new(case, due, &outcome.sheet, &[]).planned().journeys()
 }
 
-/// Holds the field that a sector call with a goal answers, beside that of the call with sight: the goal at 0, the same cells
-/// reached, positions. Whether a cell costs otherwise.
+/// Holds the field that a sector call with a goal answers to its words, beside the field with sight: the goal at 0, the same
+/// cells reached, positions. Answers whether some cell costs otherwise than with sight.
 fn field_held(goal: usize, field: &IntegrationField, with_sight: &IntegrationField) -> Result<bool, String> {
     for cell in 0..CELLS {
         let [value, other] = [field, with_sight].map(|field| field.field[cell]);

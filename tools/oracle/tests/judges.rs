@@ -96,7 +96,11 @@ fn another_judge_or_none_is_seen() {
 
 #[test]
 fn legs_with_gaps_must_meet_each_kind() {
-    let group = Group::named("leg, gaps");
+    ["leg, gaps", "leg without sight, gaps"].into_iter().for_each(gaps_must_be_met);
+}
+
+fn gaps_must_be_met(name: &str) {
+    let group = Group::named(name);
     let whole = group.run(&Model::PLAIN, 6, 20_000).unwrap_or_else(|_| panic!("the model differs from the Rust"));
     assert_eq!(group.unmet(&whole), None);
     assert_eq!(whole.met.keys().filter(|met| matches!(met, Met::Closed { .. })).count(), 120);
@@ -113,7 +117,11 @@ fn legs_with_gaps_must_meet_each_kind() {
 
 #[test]
 fn legs_on_walls_must_meet_each_kind() {
-    let group = Group::named("leg, on walls");
+    ["leg, on walls", "leg without sight, on walls"].into_iter().for_each(walls_must_be_met);
+}
+
+fn walls_must_be_met(name: &str) {
+    let group = Group::named(name);
     let whole = group.run(&Model::PLAIN, 6, 20_000).unwrap_or_else(|_| panic!("the model differs from the Rust"));
     assert_eq!(group.unmet(&whole), None);
     assert_eq!(whole.met.keys().filter(|met| matches!(met, Met::OnWall { .. })).count(), 136);
