@@ -37,6 +37,14 @@
  *     5      boundary that the window leads across: 0 North, 1 East, 2 South, 3 West (not read where the mark is 0)
  *     6, 7   0
  *
+ * Sight.  A sector with a goal, and a leg, can be planned in two ways:
+ *     without sight   hanjolum_sector_without_sight, hanjolum_leg_without_sight: every reached cell but the goal has an arrow,
+ *                     and where no cost is 0 the arrows lead to the goal itself. Take these where a cart follows arrows alone.
+ *     with sight      hanjolum_sector, hanjolum_leg: the bytes match the tablet's Rust. Take these where they must. A cell with
+ *                     the goal in sight (0x30) has no arrow and is left straight for the goal; the arrows of other cells of the
+ *                     goal's sector may run in a circle, and hanjolum_arrivals tells which.
+ * A sector left by a window has no sight, and both sector calls plan it alike.
+ *
  * Leg files.  A leg's steps as a file, for carrying: the mark `LEG`, a 16-bit version 1 (low byte first), a byte for the
  * step count 1 to 16, the steps, and nothing after; 14 to 134 bytes. No byte of a step is judged where a file is written
  * or read: that is done when the leg is planned.
@@ -68,33 +76,36 @@
  *     18  bounds: a step without window, low above high somewhere, or 255 in only one of the two; after 16
  *     20  window costs and tour: a step without window, or in another sector than the first's; after 16 for the same step
  * In a leg 4 to 8 and 16 are judged for one step before the next, 16 on the costs of the step's own sector, and for every
- * cell of a window, also for one that would not count. The writer of a leg file judges 3 as a leg does, and then 2 for a
- * buffer that is not exactly as long as the file. The call for bounds judges 1 for either floor, and 16 on both. The calls
- * for window costs and tours judge 4 to 8, 16 and 20 for one step before the next.
+ * cell of a window, also for one that would not count. The calls without sight judge what those with sight do, in the same
+ * order. The writer of a leg file judges 3 as a leg does, and then 2 for a buffer that is not exactly as long as the file. The
+ * call for bounds judges 1 for either floor, and 16 on both. The calls for window costs and tours judge 4 to 8, 16 and 20 for
+ * one step before the next.
  *
  * Stack and time.  Every call ends, on all input. Each wave is one call on the stack, of 592 bytes in the compiled archive,
- * and there are at most 101 at a time: no call needs as much as 80,000 bytes. Give a thread that calls sector, leg, bounds,
- * window costs, tour, init or build 256 KB.
+ * and there are at most 101 at a time: no call needs as much as 80,000 bytes. Give a thread that calls sector or leg, with
+ * sight or without, bounds, window costs, tour, init or build 256 KB.
  * Below, for each call, its bytes of stack with 101 waves, beside what memcpy and memset need, read off the archive
  * (tools/stack/frames); and its nanoseconds, the median on practice floors (tools/time/header) on one core of an AMD EPYC that
  * did nothing else. Neither is proved, and times belong to the machine. Readers of a byte are alike.
- *     hanjolum_sector, a goal                             66624      2857
- *     hanjolum_sector, a window                           66624      2444
- *     hanjolum_arrivals                                     144      9407
- *     hanjolum_bounds                                     63312      7059
- *     hanjolum_window_costs, eight windows                63280      9825
- *     hanjolum_window_tour, eight windows, all orders     63104    571225
- *     hanjolum_leg, sixteen steps                         70928     29430
+ *     hanjolum_sector, a goal                             68112      3539
+ *     hanjolum_sector, a window                           68112      2398
+ *     hanjolum_sector_without_sight, a goal               68112      2146
+ *     hanjolum_arrivals                                     144      8389
+ *     hanjolum_bounds                                     65536      6800
+ *     hanjolum_window_costs, eight windows                65408      9881
+ *     hanjolum_window_tour, eight windows, all orders     65232    564000
+ *     hanjolum_leg, sixteen steps                         64576     47075
+ *     hanjolum_leg_without_sight, sixteen steps           64576     43663
  *     hanjolum_leg_file_write, sixteen steps                  8         5
  *     hanjolum_leg_file_read, sixteen steps                   8         4
- *     hanjolum_practice_floor                               752       212
- *     hanjolum_init, a goal                               27576      1032
- *     hanjolum_build, a goal                              66368      1729
- *     hanjolum_flow_new, a goal                            1088       251
- *     hanjolum_flow_build, a goal                          1344       482
- *     hanjolum_line                                         664        38
+ *     hanjolum_practice_floor                               752       200
+ *     hanjolum_init, a goal                               48088      1700
+ *     hanjolum_build, a goal                              66224      1734
+ *     hanjolum_flow_new, a goal                            1088       250
+ *     hanjolum_flow_build, a goal                          1344       477
+ *     hanjolum_line                                         664        37
  *     hanjolum_walk_bresenham_shallow                       848        50
- *     hanjolum_walk_bresenham_steep                         848        51
+ *     hanjolum_walk_bresenham_steep                         848        50
  *     hanjolum_line_end                                      56        10
  *     hanjolum_is_goal                                        8         4
  */
@@ -114,9 +125,9 @@ extern "C" {
 #endif
 
 #define HANJOLUM_VERSION_MAJOR 1
-#define HANJOLUM_VERSION_MINOR 0
-#define HANJOLUM_VERSION_PATCH 1
-#define HANJOLUM_VERSION "1.0.1"
+#define HANJOLUM_VERSION_MINOR 1
+#define HANJOLUM_VERSION_PATCH 0
+#define HANJOLUM_VERSION "1.1.0"
 
 enum {
     HANJOLUM_CELLS = 100,      /* cells of a sector: its cost bytes, and the bytes of its sheet */
@@ -304,11 +315,31 @@ typedef struct {
  * no previous field.
  * With a window, and no cost of 0, the arrows lead from every reached cell into the window in at most 99 moves, over no
  * wall and between no two walls. With a goal that is not promised: two arrows may point at each other, for ever, and on
- * floors with walls often do. With a goal or a window, whatever the costs: no arrow that leads to a cell of the sector
- * leads onto a wall, or diagonally past one (neither of the two cells beside a diagonal move is a wall).
+ * floors with walls often do (those of hanjolum_sector_without_sight lead to the goal). With a goal or a window, whatever the
+ * costs: no arrow that leads to a cell of the sector leads onto a wall, or diagonally past one (neither of the two cells
+ * beside a diagonal move is a wall).
  * Numbers 1, 2, 3, 4 to 8, 16, 17, 12.
  */
 HanjolumBuildAnswer hanjolum_sector(
+    const uint8_t *costs, size_t costs_length,
+    const uint8_t *step, size_t step_length,
+    bool has_previous,
+    const uint32_t *previous, size_t previous_length,
+    uint8_t *sheet, size_t sheet_length);
+
+/*
+ * Plans one sector without sight, so that with a goal too every arrow leads there. It takes what hanjolum_sector takes and
+ * has the same number; a step with a window is planned exactly as there, the same field and the same bytes.
+ * A step with a goal starts from the goal alone: the goal is the one listed corner, at cost 0, and no cell is in sight. Built,
+ * each cell that is no wall holds the least cost of a walk from the goal, where each move goes to an orthogonal neighbour that
+ * is no wall and pays that neighbour's cost; the goal's own cost is never paid. 65535 says that no walk leads there. The
+ * position is 0 in each reached cell but the goal, and 255 elsewhere. Whatever the costs, 0xE0 stands exactly on walls and
+ * cells that nothing reaches; every other cell but the goal, which has 0x70, has an arrow.
+ * With no cost of 0, the arrows lead from every reached cell to the goal itself in at most 99 moves, each to a cell of
+ * strictly lower built cost. Whatever the costs, no arrow leads onto a wall, or diagonally past one.
+ * Numbers 1, 2, 3, 4 to 8, 16, 17, 12.
+ */
+HanjolumBuildAnswer hanjolum_sector_without_sight(
     const uint8_t *costs, size_t costs_length,
     const uint8_t *step, size_t step_length,
     bool has_previous,
@@ -321,10 +352,12 @@ HanjolumBuildAnswer hanjolum_sector(
  * goal, in sight or portal goal, and 0 where x has such a byte itself. 255 says that they never come to one, however far
  * they are followed: they run in a circle, lead out of the sector, or end at a byte with no direction, as a wall's is. No
  * other number is above 99.
- * In a sector left by a window, with no cost of 0, no reached cell has 255. In one with a goal reached cells may have it: a
- * cart set there never comes to the goal by the arrows. And for a planned leg with no cost of 0, one look at the goal's
- * sector (the sheet from sector * 100 on) tells the whole way: from every reached cell of the other sectors the arrows come
- * into a reached cell of it, and that cell's number says how many moves are left, or that they never arrive.
+ * In a sector left by a window, with no cost of 0, no reached cell has 255. Nor has one in a goal's sector that was planned
+ * without sight, with no cost of 0: there the number is that of the moves to the goal itself. In a goal's sector that was
+ * planned with sight reached cells may have 255: a cart set there never comes to the goal by the arrows. And for a planned leg
+ * with no cost of 0, one look at the goal's sector (the sheet from sector * 100 on) tells the whole way: from every reached
+ * cell of the other sectors the arrows come into a reached cell of it, and that cell's number says how many moves are left, or,
+ * with sight, that they never arrive.
  * Writes nothing. Number 2.
  */
 HanjolumArrivals hanjolum_arrivals(const uint8_t *sheet, size_t sheet_length);
@@ -390,14 +423,34 @@ HanjolumWindowTour hanjolum_window_tour(
  * The arrows of a planned leg lead all the way: from every reached cell of every named sector but the first step's, with no
  * cost of 0 in the sectors on the way, they cross each window into a reached cell of the sector listed before, until they
  * are in the goal's sector, in at most 1,500 moves, crossings counted. A move goes by the floor's columns and rows, also
- * from one sector into the next. Where the arrows within the goal's sector lead, hanjolum_arrivals tells. Within each sector,
- * the goal's too, no arrow passes a wall diagonally, whatever the costs; one that crosses a window may pass one of the
- * sector that it leads into.
+ * from one sector into the next. Where the arrows within the goal's sector lead, hanjolum_arrivals tells; those of
+ * hanjolum_leg_without_sight lead to the goal. Within each sector, the goal's too, no arrow passes a wall diagonally, whatever
+ * the costs; one that crosses a window may pass one of the sector that it leads into.
  * All steps are planned before the sheet is written: a refusal, 15 too, leaves every byte of it. Writes the 100 bytes of
  * each named sector to the sheet, at sector * 100; all other bytes of the sheet stay as they were.
  * Answers its number: 0, 1 to 10, 15 or 16.
  */
 uint8_t hanjolum_leg(
+    const uint8_t *floor, size_t floor_length,
+    const uint8_t *steps, size_t steps_length,
+    uint8_t *sheet, size_t sheet_length);
+
+/*
+ * Plans a leg without sight, so that its arrows lead to the goal itself. It takes what hanjolum_leg takes, and refuses by the
+ * same table. The first step, the goal's, is planned as hanjolum_sector_without_sight plans it; each later one goes by the
+ * built field of the step before, as in hanjolum_leg, so that the arrows across the window into the goal's sector go by true
+ * walking costs and may be others than hanjolum_leg's.
+ * From every reached cell of every named sector, the goal's too, with no cost of 0 in that sector and in those that the way
+ * goes on through, the arrows come to the goal: from the sector of step k, counted from 0, in at most 99 (k + 1) + k moves,
+ * crossings counted, and so never in more than 1,599. Inside a sector each move goes to a cell of strictly lower built cost;
+ * across a window, into a reached cell of the sector listed before. Within each sector no arrow passes a wall diagonally,
+ * whatever the costs; one that crosses a window may pass one of the sector that it leads into.
+ * Of the numbers only 15 goes by a field, that of the step before; that it is due to the same legs as in hanjolum_leg was
+ * compared, and is not proved.
+ * A refusal leaves every byte of the sheet; all bytes of sectors that are not named stay as they were.
+ * Answers its number: 0, 1 to 10, 15 or 16.
+ */
+uint8_t hanjolum_leg_without_sight(
     const uint8_t *floor, size_t floor_length,
     const uint8_t *steps, size_t steps_length,
     uint8_t *sheet, size_t sheet_length);
@@ -510,7 +563,7 @@ bool hanjolum_is_goal(uint8_t byte);
 /* The cell leads into the next sector. */
 bool hanjolum_is_portal_goal(uint8_t byte);
 
-/* The goal is in sight: a cart heads straight for it. */
+/* The goal is in sight: a cart heads straight for it. In a sector planned without sight no byte but the goal's says so. */
 bool hanjolum_has_line_of_sight(uint8_t byte);
 
 /* The cell is a wall, or nothing reaches it. */

@@ -126,8 +126,11 @@ static void make_inputs(void)
 
 CALL(sector_goal, hanjolum_sector(COSTS, in->goal, HANJOLUM_STEP, false, NULL, 0, PART).number)
 CALL(sector_window, hanjolum_sector(COSTS, in->window, HANJOLUM_STEP, true, zeros, HANJOLUM_CELLS, PART).number)
+CALL(sector_without_sight, hanjolum_sector_without_sight(COSTS, in->goal, HANJOLUM_STEP, false, NULL, 0, PART).number)
 CALL(arrivals, hanjolum_arrivals(in->planned, HANJOLUM_CELLS).number)
 CALL(leg, hanjolum_leg(in->floor, HANJOLUM_FLOOR, in->steps, sizeof in->steps, sheet, HANJOLUM_FLOOR))
+CALL(leg_without_sight,
+     hanjolum_leg_without_sight(in->floor, HANJOLUM_FLOOR, in->steps, sizeof in->steps, sheet, HANJOLUM_FLOOR))
 CALL(bounds, hanjolum_bounds(COSTS, in->high, HANJOLUM_CELLS, in->window, HANJOLUM_STEP).number)
 CALL(window_costs, hanjolum_window_costs(COSTS, in->windows, sizeof in->windows).number)
 CALL(window_tour, hanjolum_window_tour(COSTS, in->windows, sizeof in->windows, 65535).number)
@@ -147,11 +150,13 @@ CALL(reader, hanjolum_is_goal((uint8_t)i) * 0u)
 static const struct { const char *name; unsigned (*call)(struct input *, unsigned); int times; } CALLS[] = {
     {"hanjolum_sector, a goal", sector_goal, 1},
     {"hanjolum_sector, a window", sector_window, 1},
+    {"hanjolum_sector_without_sight, a goal", sector_without_sight, 1},
     {"hanjolum_arrivals", arrivals, 1},
     {"hanjolum_bounds", bounds, 1},
     {"hanjolum_window_costs, eight windows", window_costs, 1},
     {"hanjolum_window_tour, eight windows, all orders", window_tour, 1},
     {"hanjolum_leg, sixteen steps", leg, 1},
+    {"hanjolum_leg_without_sight, sixteen steps", leg_without_sight, 1},
     {"hanjolum_leg_file_write, sixteen steps", leg_file_write, SMALL},
     {"hanjolum_leg_file_read, sixteen steps", leg_file_read, SMALL},
     {"hanjolum_practice_floor", practice_floor, 1},

@@ -124,6 +124,17 @@ unsafe extern "C" {
         sheet: *mut u8,
         sheet_length: usize,
     ) -> BuildAnswer;
+    pub fn hanjolum_sector_without_sight(
+        costs: *const u8,
+        costs_length: usize,
+        step: *const u8,
+        step_length: usize,
+        has_previous: bool,
+        previous: *const u32,
+        previous_length: usize,
+        sheet: *mut u8,
+        sheet_length: usize,
+    ) -> BuildAnswer;
     pub fn hanjolum_arrivals(sheet: *const u8, sheet_length: usize) -> Arrivals;
     pub fn hanjolum_bounds(
         low: *const u8,
@@ -147,6 +158,14 @@ unsafe extern "C" {
         limit: u16,
     ) -> WindowTour;
     pub fn hanjolum_leg(
+        floor: *const u8,
+        floor_length: usize,
+        steps: *const u8,
+        steps_length: usize,
+        sheet: *mut u8,
+        sheet_length: usize,
+    ) -> u8;
+    pub fn hanjolum_leg_without_sight(
         floor: *const u8,
         floor_length: usize,
         steps: *const u8,

@@ -205,6 +205,6 @@ fn every_function_is_declared_as_the_header_has_it() {
         let expected = declared(prototype);
         assert!(source.contains(&expected), "sys.rs lacks `{expected}`");
     }
-    assert_eq!(prototypes.len(), 23);
+    assert_eq!(prototypes.len(), 25);
     assert_eq!(source.matches("pub fn hanjolum_").count(), prototypes.len());
 }
