@@ -1,9 +1,10 @@
 /*
- * The deepest stack of a leg, of a call for window costs, of one for a tour and of one for arrivals: plans legs of sixteen
- * steps, asks for the costs of eight windows and the best of all their orders, and for the arrivals of the leg's goal sector,
- * on a painted stack and looks how far down the paint is gone.
+ * The deepest stack of a leg and of a goal's sector, with sight and without, of a call for window costs, of one for a tour and
+ * of one for arrivals: plans legs of sixteen steps and their goals' sectors, asks for the costs of eight windows and the best of
+ * all their orders, and for the arrivals of the leg's goal sector, on a painted stack and looks how far down the paint is gone.
  * The floors are hard: sectors are changed cell by cell, and a change is kept where the waves do not become fewer and the
- * next step can still be planned. The windows are those of a hard sector: its own and seven more cells of its edges.
+ * next step can still be planned. A leg without sight has floors of its own, hard for planning without sight. The windows are
+ * those of a hard sector: its own and seven more cells of its edges.
  * What goes wrong, a refused call among it, is one line on standard error and exit status 1.
  *
  *     rt staticlib hanjolum
@@ -29,6 +30,7 @@ static uint8_t floor_costs[HANJOLUM_FLOOR];
 static uint8_t sheet[HANJOLUM_FLOOR];
 static uint8_t steps[HANJOLUM_STEPS * HANJOLUM_STEP];
 static uint8_t windows[HANJOLUM_WINDOWS * HANJOLUM_STEP];
+static bool sight;
 static uintptr_t before;
 static uint8_t number;
 
@@ -63,15 +65,22 @@ static int counts(const uint32_t *field, const uint8_t *next)
     return 0;
 }
 
-/* The waves of a sector, or -1 where it is refused, having a wall under its goal or its window, or where the next step, if
-   there is one, could not be planned behind it. A window comes with a previous field of zeros, which plays no part in the
-   waves. */
-static long waves_of(const uint8_t *costs, const uint8_t *step, const uint8_t *next)
+/* The sector call, with sight or without. A window comes with a previous field of zeros, which plays no part in the waves. */
+static HanjolumBuildAnswer sector(const uint8_t *costs, const uint8_t *step)
 {
     static const uint32_t zeros[HANJOLUM_CELLS];
     uint8_t scratch[HANJOLUM_CELLS];
-    HanjolumBuildAnswer built = hanjolum_sector(costs, HANJOLUM_CELLS, step, HANJOLUM_STEP, step[2] == 1, zeros, HANJOLUM_CELLS,
-                                                scratch, sizeof scratch);
+    bool window = step[HANJOLUM_STEP_MARK] == HANJOLUM_MARK_WINDOW;
+    return sight ? hanjolum_sector(costs, HANJOLUM_CELLS, step, HANJOLUM_STEP, window, zeros, HANJOLUM_CELLS, scratch, sizeof scratch)
+                 : hanjolum_sector_without_sight(costs, HANJOLUM_CELLS, step, HANJOLUM_STEP, window, zeros, HANJOLUM_CELLS,
+                                                 scratch, sizeof scratch);
+}
+
+/* The waves of a sector, or -1 where it is refused, having a wall under its goal or its window, or where the next step, if
+   there is one, could not be planned behind it. */
+static long waves_of(const uint8_t *costs, const uint8_t *step, const uint8_t *next)
+{
+    HanjolumBuildAnswer built = sector(costs, step);
     return built.number == 0 && (next == NULL || counts(built.field.field, next)) ? (long)built.waves : -1;
 }
 
@@ -97,8 +106,18 @@ static long harden(uint8_t *costs, const uint8_t *step, const uint8_t *next)
 static void *plan(void *unused)
 {
     before = (uintptr_t)__builtin_frame_address(0);
-    number = hanjolum_leg(floor_costs, sizeof floor_costs, steps, sizeof steps, sheet, sizeof sheet);
+    number = sight ? hanjolum_leg(floor_costs, sizeof floor_costs, steps, sizeof steps, sheet, sizeof sheet)
+                   : hanjolum_leg_without_sight(floor_costs, sizeof floor_costs, steps, sizeof steps, sheet, sizeof sheet);
     return unused;
+}
+
+static void *plan_goal(void *costs)
+{
+    before = (uintptr_t)__builtin_frame_address(0);
+    number = sight ? hanjolum_sector(costs, HANJOLUM_CELLS, steps, HANJOLUM_STEP, false, NULL, 0, sheet, HANJOLUM_CELLS).number
+                   : hanjolum_sector_without_sight(costs, HANJOLUM_CELLS, steps, HANJOLUM_STEP, false, NULL, 0, sheet,
+                                                   HANJOLUM_CELLS).number;
+    return costs;
 }
 
 static void *cost_windows(void *sector)
@@ -165,39 +184,59 @@ static void deeper(size_t *deepest, size_t used)
     *deepest = used > *deepest ? used : *deepest;
 }
 
+/* The deepest of each call, of all floors so far, and the most waves of a sector; the first of a pair is with sight. */
+static size_t of_legs[2], of_goals[2], of_windows, of_tours, of_arrivals;
+static long most[2];
+
+/* Makes a floor for a leg, every fourth of its sectors hard, and measures the calls for windows there. */
+static void make_floor(uint8_t *stack, int first)
+{
+    memset(floor_costs, 1, sizeof floor_costs);
+    for (int i = first; i < HANJOLUM_STEPS; i += 4) {
+        const uint8_t *step = steps + i * HANJOLUM_STEP;
+        const uint8_t *next = i + 1 < HANJOLUM_STEPS ? step + HANJOLUM_STEP : NULL;
+        uint8_t *costs = floor_costs + step[0] * HANJOLUM_CELLS;
+        long waves = harden(costs, step, next);
+        most[!sight] = waves > most[!sight] ? waves : most[!sight];
+        if (i > 0 && make_windows(costs, step)) {
+            deeper(&of_windows, depth(stack, cost_windows, costs));
+            deeper(&of_tours, depth(stack, tour_windows, costs));
+        }
+    }
+}
+
+static void measure(uint8_t *stack)
+{
+    for (int leg = 0; leg < LEGS; leg++) {
+        uint8_t *goal_sector;
+        make_steps();
+        make_floor(stack, leg % 2);
+        goal_sector = floor_costs + steps[0] * HANJOLUM_CELLS;
+        deeper(&of_goals[!sight], depth(stack, plan_goal, goal_sector));
+        deeper(&of_legs[!sight], depth(stack, plan, NULL));
+        deeper(&of_arrivals, depth(stack, follow, sheet + steps[0] * HANJOLUM_CELLS));
+    }
+}
+
 int main(int argc, char **argv)
 {
     uint8_t *stack = aligned_alloc(4096, STACK);
-    size_t deepest = 0, of_windows = 0, of_tours = 0, of_arrivals = 0;
-    long most = 0;
     (void)argv;
     if (argc > 1)
         fail("takes no words");
     if (stack == NULL)
         fail("no memory");
     srand(1);
-    for (int leg = 0; leg < LEGS; leg++) {
-        make_steps();
-        memset(floor_costs, 1, sizeof floor_costs);
-        for (int i = leg % 2; i < HANJOLUM_STEPS; i += 4) {
-            const uint8_t *step = steps + i * HANJOLUM_STEP;
-            const uint8_t *next = i + 1 < HANJOLUM_STEPS ? step + HANJOLUM_STEP : NULL;
-            uint8_t *costs = floor_costs + step[0] * HANJOLUM_CELLS;
-            long waves = harden(costs, step, next);
-            most = waves > most ? waves : most;
-            if (i > 0 && make_windows(costs, step)) {
-                deeper(&of_windows, depth(stack, cost_windows, costs));
-                deeper(&of_tours, depth(stack, tour_windows, costs));
-            }
-        }
-        deeper(&deepest, depth(stack, plan, NULL));
-        deeper(&of_arrivals, depth(stack, follow, sheet + steps[0] * HANJOLUM_CELLS));
+    for (int i = 0; i < 2; i++) {
+        sight = i == 0;
+        measure(stack);
     }
     free(stack);
     if (of_windows == 0)
         fail("no call for window costs was made");
-    printf("%zu bytes of stack at most, with %ld waves; %zu for window costs, %zu for a tour, %zu for arrivals\n", deepest, most,
-           of_windows, of_tours, of_arrivals);
+    printf("%zu bytes of stack at most for a leg, with %ld waves, %zu without sight, with %ld; %zu for a goal's sector, %zu without "
+           "sight; %zu for window costs, %zu for a tour, %zu for arrivals\n",
+           of_legs[0], most[0], of_legs[1], most[1], of_goals[0], of_goals[1], of_windows, of_tours, of_arrivals);
     if (fflush(stdout) != 0)
         fail("standard output cannot be written");
     return 0;
