@@ -16,13 +16,19 @@
  * eight windows of one sector alone, and each is the least cost of a cell of the one window in the field that the sector call
  * builds for the other. A tour of the same windows has the same number; of the orders that it says were tried, each is tried
  * once more over the window costs. Arrivals of a sheet, drawn or planned, are told once more from the cells that have arrived
- * back along the arrows; in a sector left by a window, with no cost 0, every reached cell has one. A fault, and a run in
+ * back along the arrows; in a sector left by a window, with no cost 0, every reached cell has one. Without sight, the sector
+ * call and the leg have the numbers that they have with sight, and a sector left by a window has the same field and bytes; in a
+ * sector with a goal each cell has the least cost of a walk from the goal, found once more in rounds, whose number is the wave
+ * count, the position and the mark that it must have, and, with no cost 0, arrows that are followed to the goal in at most 99
+ * moves, each to a lower cost, as many as arrivals say; the arrows of a planned leg are followed to the goal from every reached
+ * cell of every sector, in at most 99 moves in each sector and one across each window. A fault, and a run in
  * which no call was accepted or none refused, no leg of several steps planned, none refused with 15, no arrow followed, no
  * diagonal one looked at, init, the sector call, a leg, bounds or window costs never refused with 16, the sector call never
  * with 17, bounds never with 18, window costs never with 19 or 20, no cell sure, no position looked at with and without an
  * earlier corner, no window reached or none cut off from another, no tour found or none with another order than the listed
- * one, no cell that arrives after a move, none that never does or none that has to in a sector left by a window, or no practice
- * floor with all three costs, is one line on standard error and exit status 1.
+ * one, no cell that arrives after a move, none that never does or none that has to in a sector left by a window, no window
+ * planned without sight, no cell followed to the goal in a sector and in a leg without sight, none of them that never arrives
+ * with sight, or no practice floor with all three costs, is one line on standard error and exit status 1.
  */
 #define _DEFAULT_SOURCE
 #include <stdio.h>
@@ -174,10 +180,13 @@ static int zeros(const void *part, size_t length)
    cells were sure; how many positions were looked at, and how many of them beside an earlier corner; how many lists of
    windows had other than two to eight, and how many a step without window or elsewhere; how many windows were reached from
    another, and how many were not; how many tours were found, and how many had another order than the listed one; how many
-   cells arrive after a move, how many never do, and how many have to, in a sector left by a window. */
+   cells arrive after a move, how many never do, and how many have to, in a sector left by a window; how many windows were
+   planned without sight, from how many cells of a goal's sector arrows were followed to the goal there, how many of these
+   never arrive with sight, and from how many cells of a leg. */
 static unsigned long accepted, turned_away, planned, closed, followed, diagonal, on_wall[5], fieldless, practised, unranged, sure,
     positioned, earliest;
 static unsigned long miscounted, misplaced, ways_met[2], toured, reordered, arriving, lost, led;
+static unsigned long alike, home, saved, leg_home;
 
 static void tallied(uint8_t number)
 {
@@ -372,40 +381,64 @@ static int byte_of(int column, int row)
     return 100 * (row / 10 * 8 + column / 10) + row % 10 * 10 + column % 10;
 }
 
-/* Follows arrows from a column and a row in the sector of step k, from 0, into that of step 0. In the other sectors a byte
-   with all of 0xE0 is a cell that is not reached. */
-static void follow(const Fenced *costs, const Fenced *route, const Fenced *sheet, size_t k, int column, int row)
+/* A planned leg, and where a cart stands on it: a column and a row in the sector of step k, from 0. */
+typedef struct {
+    const Fenced *costs, *route, *sheet;
+    size_t k;
+    int column, row;
+} Cart;
+
+/* Moves a cart by its arrow. A byte with all of 0xE0 is a cell that is not reached. */
+static void drive(Cart *cart)
 {
-    for (int moves = 0; k > 0; moves++) {
-        uint8_t byte = sheet->at[byte_of(column, row)];
-        if (moves == 1500)
-            fail("arrows do not come into the goal's sector in 1,500 moves");
-        if ((byte & 0xE0) == 0xE0 || (byte & 0x0F) == 0)
-            fail("an arrow leads to a cell that is not reached, or to one without an arrow");
-        column += (byte >> 1 & 1) - (byte >> 3 & 1);
-        row += (byte >> 2 & 1) - (byte & 1);
-        if (column < 0 || column > 79 || row < 0 || row > 79 || costs->at[byte_of(column, row)] == HANJOLUM_WALL)
-            fail("an arrow leads off the floor or into a wall");
-        int sector = byte_of(column, row) / 100;
-        if (sector == route->at[8 * (k - 1)])
-            k--;
-        else if (sector != route->at[8 * k])
-            fail("an arrow crosses into another sector than the one listed before");
-    }
+    uint8_t byte = cart->sheet->at[byte_of(cart->column, cart->row)];
+    if ((byte & 0xE0) == 0xE0 || (byte & 0x0F) == 0)
+        fail("an arrow leads to a cell that is not reached, or to one without an arrow");
+    cart->column += (byte >> 1 & 1) - (byte >> 3 & 1);
+    cart->row += (byte >> 2 & 1) - (byte & 1);
+    if (cart->column < 0 || cart->column > 79 || cart->row < 0 || cart->row > 79
+        || cart->costs->at[byte_of(cart->column, cart->row)] == HANJOLUM_WALL)
+        fail("an arrow leads off the floor or into a wall");
+    int sector = byte_of(cart->column, cart->row) / 100;
+    if (cart->k > 0 && sector == cart->route->at[8 * (cart->k - 1)])
+        cart->k--;
+    else if (sector != cart->route->at[8 * cart->k])
+        fail("an arrow crosses into another sector than the one listed before");
 }
 
-/* Follows the arrows of a planned leg, as far as there is no cost 0. */
-static void journeys(const Fenced *costs, const Fenced *route, const Fenced *sheet)
+/* Follows arrows into the sector of step 0. */
+static void follow_in(Cart cart)
 {
-    for (size_t k = 1; 8 * k < route->length; k++) {
+    for (int moves = 0; cart.k > 0; moves++) {
+        if (moves == 1500)
+            fail("arrows do not come into the goal's sector in 1,500 moves");
+        drive(&cart);
+    }
+    followed++;
+}
+
+/* Follows arrows to the goal, in at most 99 moves in each sector and one across each window. */
+static void follow_home(Cart cart)
+{
+    int goal = 100 * cart.route->at[0] + cart.route->at[1];
+    for (size_t left = 99 * (cart.k + 1) + cart.k; byte_of(cart.column, cart.row) != goal; left--) {
+        if (left == 0)
+            fail("arrows of a leg without sight do not come to the goal in 99 moves in each sector and one across each window");
+        drive(&cart);
+    }
+    leg_home++;
+}
+
+/* Follows the arrows of a planned leg from every reached cell from the sector of step `first` on, as far as there is no cost 0. */
+static void journeys(const Fenced *costs, const Fenced *route, const Fenced *sheet, size_t first, void (*follow)(Cart))
+{
+    for (size_t k = first; 8 * k < route->length; k++) {
         int sector = route->at[8 * k];
         if (memchr(costs->at + 100 * sector, 0, 100) != NULL)
             return;
         for (int cell = 0; cell < 100; cell++)
-            if ((sheet->at[100 * sector + cell] & 0xE0) != 0xE0) {
-                follow(costs, route, sheet, k, sector % 8 * 10 + cell % 10, sector / 8 * 10 + cell / 10);
-                followed++;
-            }
+            if ((sheet->at[100 * sector + cell] & 0xE0) != 0xE0)
+                follow((Cart){costs, route, sheet, k, sector % 8 * 10 + cell % 10, sector / 8 * 10 + cell / 10});
     }
 }
 
@@ -423,24 +456,51 @@ static void clear(const uint8_t *costs, const uint8_t *sheet)
     }
 }
 
-/* A leg, which leaves the sectors that it does not name. */
-static void a_leg(const Fenced *costs, const Fenced *route, Fenced *sheet)
+/* Looks at the sheet of a planned leg, which leaves the sectors that it does not name. */
+static void sectors_of(const Fenced *costs, const Fenced *route, const Fenced *sheet)
 {
     uint64_t named = 0;
+    for (size_t i = 0; i < route->length; i += 8) {
+        named |= (uint64_t)1 << route->at[i];
+        clear(costs->at + 100 * route->at[i], sheet->at + 100 * route->at[i]);
+    }
+    for (size_t i = 0; i < sheet->length; i++)
+        if ((named >> i / 100 & 1) == 0 && before[i] != sheet->at[i])
+            fail("a leg wrote a sector that it does not name");
+}
+
+/* The leg without sight, on what the leg with sight was lent, and with the number that it had. */
+static void a_leg_without_sight(const Fenced *costs, const Fenced *route, Fenced *sheet, uint8_t with)
+{
+    uint8_t part[HANJOLUM_CELLS] = {0};
+    memcpy(sheet->at, before, sheet->length);
+    uint8_t number = hanjolum_leg_without_sight(costs->at, costs->length, route->at, route->length, sheet->at, sheet->length);
+    kept(number, sheet);
+    if (number != with)
+        fail("a leg has another number without sight than with it");
+    if (number != 0)
+        return;
+    size_t goal_sector = 100 * (size_t)route->at[0];
+    hanjolum_sector_without_sight(costs->at + goal_sector, 100, route->at, 8, false, NULL, 0, part, sizeof part);
+    if (memcmp(sheet->at + goal_sector, part, sizeof part) != 0)
+        fail("a leg without sight has other bytes in the goal's sector than the sector call");
+    sectors_of(costs, route, sheet);
+    journeys(costs, route, sheet, 0, follow_home);
+}
+
+/* A leg, with sight and without. */
+static void a_leg(const Fenced *costs, const Fenced *route, Fenced *sheet)
+{
     uint8_t number = hanjolum_leg(costs->at, costs->length, route->at, route->length, sheet->at, sheet->length);
     kept(number, sheet);
     walls(2, number, costs, route);
     closed += number == 15;
     planned += number == 0 && route->length > 8;
-    for (size_t i = 0; number == 0 && i < route->length; i += 8) {
-        named |= (uint64_t)1 << route->at[i];
-        clear(costs->at + 100 * route->at[i], sheet->at + 100 * route->at[i]);
+    if (number == 0) {
+        sectors_of(costs, route, sheet);
+        journeys(costs, route, sheet, 1, follow_in);
     }
-    for (size_t i = 0; number == 0 && i < sheet->length; i++)
-        if ((named >> i / 100 & 1) == 0 && before[i] != sheet->at[i])
-            fail("a leg wrote a sector that it does not name");
-    if (number == 0)
-        journeys(costs, route, sheet);
+    a_leg_without_sight(costs, route, sheet, number);
 }
 
 /* A practice floor: every seed is taken, and a step to its goal too. */
@@ -810,6 +870,111 @@ static void all_arrive(const Fenced *costs, const Fenced *route, const HanjolumB
     }
 }
 
+/* The least cost of a walk from a goal to each cell, found in rounds: in each, a cell takes the least that a neighbour had in
+   the round before, and its own cost on top, where that is less. Answers how many rounds changed a cell. */
+static size_t walked(const uint8_t *costs, size_t goal, uint32_t *least)
+{
+    uint32_t had[HANJOLUM_CELLS];
+    size_t rounds = 0;
+    for (size_t cell = 0; cell < HANJOLUM_CELLS; cell++)
+        least[cell] = cell == goal ? 0 : UNREACHED;
+    for (size_t changed = 1; changed; rounds += changed) {
+        changed = 0;
+        memcpy(had, least, sizeof had);
+        for (int cell = 0; cell < HANJOLUM_CELLS; cell++)
+            for (int side = 0; side < 4 && costs[cell] != HANJOLUM_WALL; side++) {
+                int from = pointed_at((uint8_t)(1 << side), cell);
+                if (from >= 0 && had[from] + costs[cell] < least[cell]) {
+                    least[cell] = had[from] + costs[cell];
+                    changed = 1;
+                }
+            }
+    }
+    return rounds;
+}
+
+/* Looks at a cell of a goal's sector that was planned without sight: its word, its position and its byte. */
+static void a_cell_alone(const HanjolumBuildAnswer *a, const uint8_t *sheet, const uint32_t *least, int cell, int wall, int goal)
+{
+    uint32_t flag = wall ? HANJOLUM_FIELD_IMPASSABLE : goal ? HANJOLUM_FIELD_GOAL : 0;
+    int reached = least[cell] != UNREACHED;
+    if (a->field.field[cell] != (least[cell] | flag))
+        fail("without sight a cell has another cost than the least of a walk from the goal, or another flag");
+    if (a->field.positions[cell] != (reached && !goal ? 0 : NO_POSITION))
+        fail("without sight a position is not 0 in a reached cell but the goal, or not 255 elsewhere");
+    if (goal ? sheet[cell] != 0x70 : reached ? sheet[cell] / 16 != 1 || pointed_at(sheet[cell], cell) < 0 : sheet[cell] != 0xE0)
+        fail("without sight a reached cell has no arrow, the goal is not 0x70, or another cell is not 0xE0");
+}
+
+/* How many moves the arrows of a sector take from a cell to the goal, each to a cell of lower cost. */
+static int moves_home(const uint8_t *sheet, const uint32_t *least, int cell, int goal)
+{
+    int moves = 0;
+    for (; cell != goal; moves++) {
+        int next = pointed_at(sheet[cell], cell);
+        if (moves == 99 || next < 0 || least[next] >= least[cell])
+            fail("without sight arrows do not lead to lower and lower costs, to the goal in 99 moves");
+        cell = next;
+    }
+    return moves;
+}
+
+/* Looks at a goal's sector that was planned without sight; `sighted` are the arrivals of the same sector with sight. */
+static void a_goal_alone(const uint8_t *costs, int goal, const HanjolumBuildAnswer *a, const uint8_t *sheet, const HanjolumArrivals *sighted)
+{
+    uint32_t least[HANJOLUM_CELLS];
+    int no_zero = memchr(costs, 0, HANJOLUM_CELLS) == NULL;
+    HanjolumArrivals told = hanjolum_arrivals(sheet, HANJOLUM_CELLS);
+    if (a->waves != walked(costs, (size_t)goal, least))
+        fail("without sight the waves are not as many as the rounds of walks from the goal");
+    if (a->field.count != 1 || a->field.los_corners[0] != (size_t)goal
+        || !zeros(a->field.los_corners + 1, sizeof a->field.los_corners - sizeof *a->field.los_corners))
+        fail("without sight the goal is not the one listed corner");
+    for (int cell = 0; cell < HANJOLUM_CELLS; cell++) {
+        a_cell_alone(a, sheet, least, cell, costs[cell] == HANJOLUM_WALL, cell == goal);
+        if (!no_zero || least[cell] == UNREACHED)
+            continue;
+        if (told.moves[cell] != moves_home(sheet, least, cell, goal))
+            fail("without sight arrivals are not the moves to the goal");
+        home += 1;
+        saved += sighted->moves[cell] == HANJOLUM_NEVER;
+    }
+}
+
+static int same_built(const HanjolumBuildAnswer *a, const HanjolumBuildAnswer *b)
+{
+    const HanjolumIntegrationField *f = &a->field, *g = &b->field;
+    return memcmp(f->field, g->field, sizeof f->field) == 0 && memcmp(f->los_corners, g->los_corners, sizeof f->los_corners) == 0
+        && f->count == g->count && memcmp(f->positions, g->positions, sizeof f->positions) == 0 && a->waves == b->waves;
+}
+
+/* The sector call without sight, on what the call with sight was lent; `sighted` are the arrivals of what that call wrote. */
+static void without_sight(const Fenced *costs, const Fenced *route, const Fenced *previous, bool has, Fenced *sheet,
+                          const HanjolumBuildAnswer *with, const HanjolumArrivals *sighted)
+{
+    static uint8_t written[SPACE];
+    memcpy(written, sheet->at, sheet->length);
+    memcpy(sheet->at, before, sheet->length);
+    HanjolumBuildAnswer a = hanjolum_sector_without_sight(costs->at, costs->length, route->at, route->length, has,
+                                                          (const uint32_t *)(const void *)previous->at, previous->length / 4,
+                                                          sheet->at, sheet->length);
+    tallied(a.number);
+    unwritten(a.number, sheet);
+    refused(a.number, a.field, a.waves);
+    if (a.number != with->number)
+        fail("the sector call has another number without sight than with it");
+    if (a.number != 0)
+        return;
+    clear(costs->at, sheet->at);
+    if (route->at[2] == 0) {
+        a_goal_alone(costs->at, route->at[1], &a, sheet->at, sighted);
+        return;
+    }
+    if (!same_built(&a, with) || memcmp(sheet->at, written, HANJOLUM_CELLS) != 0)
+        fail("a window is planned otherwise without sight than with it");
+    alike += 1;
+}
+
 /* One call of each kind that writes a sheet, and one of each that does not. */
 static void round_of_calls(Fenced *costs, Fenced *route, Fenced *previous, Fenced *sheet)
 {
@@ -847,6 +1012,7 @@ static void round_of_calls(Fenced *costs, Fenced *route, Fenced *previous, Fence
         clear(costs->at, sheet->at);
         all_arrive(costs, route, &a, &arrived);
     }
+    without_sight(costs, route, previous, has, sheet, &a, &arrived);
     HanjolumInitAnswer i = hanjolum_init(costs->at, costs->length, route->at, route->length);
     counted(i.number);
     walls(0, i.number, costs, route);
@@ -920,16 +1086,19 @@ static void report(unsigned long rounds)
         fail("no tour was found, or none with another order than the listed one");
     if (arriving == 0 || lost == 0 || led == 0)
         fail("no cell arrives after a move, none never does, or none was looked at in a sector left by a window");
+    if (alike == 0 || home == 0 || saved == 0 || leg_home == 0)
+        fail("without sight no window was planned, no arrow was followed to the goal in a sector or a leg, or none that never arrives with sight");
     printf("%lu rounds of calls, %lu accepted and %lu refused, %lu legs of several steps planned and %lu refused with 15, "
            "arrows followed from %lu cells to the goal's sector, %lu diagonal arrows looked at, "
            "%lu init, %lu sector calls, %lu legs, %lu bounds and %lu window costs refused with 16, %lu sector calls with 17, "
            "%lu bounds with 18, %lu window costs with 19 and %lu with 20, %lu windows reached from another and %lu cut off, "
            "%lu tours, %lu of them in another order than listed, %lu cells that arrive after a move and %lu that never do, "
-           "%lu that have to, in sectors left by a window, %lu sure cells, %lu practice floors, "
+           "%lu that have to, in sectors left by a window, without sight %lu windows planned alike, %lu cells of goals' sectors "
+           "followed to the goal, %lu of them cells that never arrive with sight, and %lu cells of legs, %lu sure cells, %lu practice floors, "
            "%lu positions looked at and %lu of them beside an earlier corner, nothing found\n",
            rounds, accepted, turned_away, planned, closed, followed, diagonal, on_wall[0], on_wall[1], on_wall[2],
            on_wall[3], on_wall[4], fieldless, unranged, miscounted, misplaced, ways_met[0], ways_met[1], toured,
-           reordered, arriving, lost, led, sure, practised, positioned, earliest);
+           reordered, arriving, lost, led, alike, home, saved, leg_home, sure, practised, positioned, earliest);
     written();
 }
 
