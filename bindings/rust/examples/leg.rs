@@ -47,7 +47,7 @@ fn say_rest(sheet: &[u8], from: Place) -> Result<(), Refusal> {
     let arrivals = hanjolum::arrivals(&sheet[usize::from(GOAL_SECTOR) * CELLS..][..CELLS])?;
     match arrivals.of(from.cell.into()) {
         Some(moves) => println!("{moves} more, and the goal is in sight or reached"),
-        None => println!("from there the arrows never arrive: choose another goal cell"),
+        None => println!("from there the arrows never arrive: plan without sight, or choose another goal cell"),
     }
     Ok(())
 }

@@ -74,7 +74,7 @@ impl FlowByte {
         unsafe { sys::hanjolum_is_portal_goal(self.0) }
     }
 
-    /// The goal is in sight: a cart heads straight for it.
+    /// The goal is in sight: a cart heads straight for it. Without sight no byte but the goal's says so.
     pub fn has_line_of_sight(self) -> bool {
         // SAFETY: it takes any byte.
         unsafe { sys::hanjolum_has_line_of_sight(self.0) }
@@ -128,8 +128,9 @@ impl Place {
     }
 
     /// Where the arrow of a planned floor's sheet leads from here; none where the cell has no arrow: the goal, a cell with
-    /// the goal in sight, a wall, a cell that nothing reaches. In the goal's sector arrows need not lead to the goal:
-    /// [`arrivals`](crate::arrivals) tells from which cells they do.
+    /// the goal in sight, a wall, a cell that nothing reaches. Where no cost is 0, arrows of a leg that was planned without
+    /// sight lead to the goal; with sight those in the goal's sector need not, and [`arrivals`](crate::arrivals) tells from
+    /// which cells they do.
     pub fn next(self, sheet: &[u8]) -> Option<Place> {
         self.moved(FlowByte(self.byte_of(sheet)?).direction()?)
     }

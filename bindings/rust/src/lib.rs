@@ -11,6 +11,12 @@
 //! A call needs less than 80,000 bytes of stack (read off the archive, not proved), and two or three kilobytes more here for
 //! its answers: 256 KB for a thread is enough.
 //!
+//! A goal's sector and a leg are planned without sight ([`sector_without_sight`], [`leg_without_sight`]) or with sight
+//! ([`sector`], [`leg`]). Without sight every reached cell but the goal has an arrow, and where no cost is 0 the arrows lead to
+//! the goal itself: take these where a cart follows arrows alone. With sight the bytes match the tablet's Rust: take these where
+//! they must. There a cell with the goal in sight has no arrow and is left straight for the goal, and the arrows of other cells
+//! of the goal's sector may run in a circle; [`arrivals`] tells which.
+//!
 //! ```
 //! use hanjolum::{Boundary, FLOOR, Place, Step, Steps};
 //!
@@ -18,9 +24,14 @@
 //! let mut sheet = [0; FLOOR];
 //! // The goal is cell 44 of sector 9; sector 10, east of it, is left by its west window, cells 30 to 60.
 //! let steps = Steps::new(&[Step::goal(9, 44), Step::window(10, Boundary::West, 30, 60)])?;
-//! hanjolum::leg(&floor, &steps, &mut sheet)?;
-//! let cart = Place { sector: 10, cell: 49 };
-//! assert_eq!(cart.next(&sheet), Some(Place { sector: 10, cell: 48 }));
+//! hanjolum::leg_without_sight(&floor, &steps, &mut sheet)?;
+//! // No cost is 0: the arrows lead to the goal, which has none.
+//! let mut cart = Place { sector: 10, cell: 49 };
+//! let mut moves = 0;
+//! while let Some(next) = cart.next(&sheet) {
+//!     (cart, moves) = (next, moves + 1);
+//! }
+//! assert_eq!((cart, moves), (Place { sector: 9, cell: 44 }, 15));
 //! # Ok::<(), hanjolum::Refusal>(())
 //! ```
 #![no_std]
@@ -210,19 +221,34 @@ fn unless_refused<T>(number: u8, answer: T) -> Result<T, Refusal> {
     Refusal::of(number).map_or(Ok(answer), Err)
 }
 
-/// Plans one sector: 100 cost bytes and a step give the built field, and the sheet's 100 flow bytes are written. A step with
-/// a window needs the cells of the built field of the sector across it as `previous`; who has none lends 100 zeros, and each
-/// window cell points straight across.
-pub fn sector(
+/// The sector call, with sight or without.
+type SectorCall = unsafe extern "C" fn(
+    *const u8,
+    usize,
+    *const u8,
+    usize,
+    bool,
+    *const u32,
+    usize,
+    *mut u8,
+    usize,
+) -> sys::BuildAnswer;
+
+/// The leg, with sight or without.
+type LegCall = unsafe extern "C" fn(*const u8, usize, *const u8, usize, *mut u8, usize) -> u8;
+
+/// Plans one sector by one of the two calls.
+fn sector_by(
+    call: SectorCall,
     costs: &[u8],
-    step: impl AsRef<[u8]>,
+    step: &[u8],
     previous: Option<&[u32]>,
     sheet: &mut [u8],
 ) -> Result<Built, Refusal> {
-    let (step, cells) = (step.as_ref(), previous.unwrap_or(&[]));
+    let cells = previous.unwrap_or(&[]);
     // SAFETY: each pointer with its length is a live slice, and the sheet is lent alone.
     let answer = unsafe {
-        sys::hanjolum_sector(
+        call(
             costs.as_ptr(),
             costs.len(),
             step.as_ptr(),
@@ -237,19 +263,56 @@ pub fn sector(
     unless_refused(answer.number, Built { field: answer.field, waves: answer.waves })
 }
 
-/// Plans a leg of 1 to 16 steps over a floor of 6,400 cost bytes, from the goal back, and writes the 100 flow bytes of each
-/// named sector to the floor's sheet. All other bytes of the sheet stay.
-pub fn leg(floor: &[u8], steps: impl AsRef<[u8]>, sheet: &mut [u8]) -> Result<(), Refusal> {
-    let steps = steps.as_ref();
+/// Plans one sector: 100 cost bytes and a step give the built field, and the sheet's 100 flow bytes are written. A step with
+/// a window needs the cells of the built field of the sector across it as `previous`; who has none lends 100 zeros, and each
+/// window cell points straight across. With a goal the arrows need not lead to it: [`arrivals`] tells from which cells they do.
+/// Those of [`sector_without_sight`] do from every reached cell where no cost is 0.
+pub fn sector(
+    costs: &[u8],
+    step: impl AsRef<[u8]>,
+    previous: Option<&[u32]>,
+    sheet: &mut [u8],
+) -> Result<Built, Refusal> {
+    sector_by(sys::hanjolum_sector, costs, step.as_ref(), previous, sheet)
+}
+
+/// Plans one sector without sight: [`sector`]'s input and refusals. With a window it answers and writes the same; with a goal
+/// each cell that is no wall holds the least cost of a walk from the goal, every reached cell but the goal has an arrow, and
+/// where no cost is 0 the arrows lead from every reached cell to the goal itself in at most 99 moves.
+pub fn sector_without_sight(
+    costs: &[u8],
+    step: impl AsRef<[u8]>,
+    previous: Option<&[u32]>,
+    sheet: &mut [u8],
+) -> Result<Built, Refusal> {
+    sector_by(sys::hanjolum_sector_without_sight, costs, step.as_ref(), previous, sheet)
+}
+
+/// Plans a leg by one of the two calls.
+fn leg_by(call: LegCall, floor: &[u8], steps: &[u8], sheet: &mut [u8]) -> Result<(), Refusal> {
     // SAFETY: each pointer with its length is a live slice, and the sheet is lent alone.
-    let number = unsafe {
-        sys::hanjolum_leg(floor.as_ptr(), floor.len(), steps.as_ptr(), steps.len(), sheet.as_mut_ptr(), sheet.len())
-    };
+    let number =
+        unsafe { call(floor.as_ptr(), floor.len(), steps.as_ptr(), steps.len(), sheet.as_mut_ptr(), sheet.len()) };
     unless_refused(number, ())
 }
 
+/// Plans a leg of 1 to 16 steps over a floor of 6,400 cost bytes, from the goal back, and writes the 100 flow bytes of each
+/// named sector to the floor's sheet. All other bytes of the sheet stay. Where no cost is 0 the arrows lead into the goal's
+/// sector in at most 1,500 moves; within it they need not lead to the goal, as those of [`leg_without_sight`] do.
+pub fn leg(floor: &[u8], steps: impl AsRef<[u8]>, sheet: &mut [u8]) -> Result<(), Refusal> {
+    leg_by(sys::hanjolum_leg, floor, steps.as_ref(), sheet)
+}
+
+/// Plans a leg without sight: [`leg`]'s input and refusals, the goal's sector as [`sector_without_sight`] plans it. Where no
+/// cost is 0 the arrows lead from every reached cell of every named sector, the goal's too, to the goal itself in at most 1,599
+/// moves, crossings counted.
+pub fn leg_without_sight(floor: &[u8], steps: impl AsRef<[u8]>, sheet: &mut [u8]) -> Result<(), Refusal> {
+    leg_by(sys::hanjolum_leg_without_sight, floor, steps.as_ref(), sheet)
+}
+
 /// Which arrows of a sector's sheet of 100 flow bytes arrive, told before a cart is driven. Of a planned leg with no cost 0, a
-/// look at the goal's sector tells the whole way: the number of the cell where a cart comes in.
+/// look at the goal's sector tells the whole way: the number of the cell where a cart comes in. In a goal's sector that was
+/// planned without sight, with no cost 0, every reached cell has a number, that of its moves to the goal itself.
 pub fn arrivals(sheet: &[u8]) -> Result<Arrivals, Refusal> {
     // SAFETY: the pointer with its length is a live slice.
     let answer = unsafe { sys::hanjolum_arrivals(sheet.as_ptr(), sheet.len()) };

@@ -5,6 +5,14 @@ use hanjolum::*;
 const ONES: [u8; CELLS] = [1; CELLS];
 const EAST: Step = Step::window(0, Boundary::East, 9, 99);
 
+type SectorCall = fn(&[u8], &[u8], Option<&[u32]>, &mut [u8]) -> Result<Built, Refusal>;
+
+/// The sector call, with sight and without.
+const SECTOR_CALLS: [SectorCall; 2] = [
+    |costs, step, previous, sheet| sector(costs, step, previous, sheet),
+    |costs, step, previous, sheet| sector_without_sight(costs, step, previous, sheet),
+];
+
 /// A sheet that a refused call must leave.
 fn marked() -> [u8; CELLS] {
     [0xAB; CELLS]
@@ -34,14 +42,58 @@ fn a_sector_is_planned() {
 }
 
 #[test]
-fn the_sector_call_is_made_of_the_calls_by_hand() {
-    let costs = with(55, WALL);
-    for step in [Step::goal(0, 44), EAST] {
-        let (mut sheet, mut by_hand) = (marked(), [0; CELLS]);
-        let previous = [7u32; CELLS];
-        let built = sector(&costs, step, Some(&previous), &mut sheet).unwrap();
-        let field = build(&costs, init(&costs, step).unwrap()).unwrap();
-        assert_eq!(field, built);
+fn a_sector_is_planned_without_sight() {
+    let mut sheet = marked();
+    let built = sector_without_sight(&ONES, Step::goal(0, 44), None, &mut sheet).unwrap();
+    // Walking costs from the goal, and ten waves to the farthest corner, cell 99.
+    assert_eq!([44, 45, 0, 99].map(|cell| built.field.field[cell]), [0x20000, 1, 8, 10]);
+    assert_eq!((built.waves, built.field.count, built.field.los_corners[0]), (10, 1, 44));
+    assert_eq!([44, 45, 0].map(|cell: usize| sheet[cell]), [0x70, 0x18, 0x16]);
+    assert_eq!([44, 45, 0].map(|cell: usize| built.field.positions[cell]), [255, 0, 0]);
+    // The goal's own cost is never paid; walls, and a cell that they close in, are not reached.
+    let mut costs = with(44, 200);
+    (costs[1], costs[10]) = (WALL, WALL);
+    let built = sector_without_sight(&costs, Step::goal(0, 44), None, &mut sheet).unwrap();
+    assert_eq!([44, 45, 1, 0].map(|cell| built.field.field[cell]), [0x20000, 1, 0x200FFFF, 65535]);
+    assert_eq!([1, 0].map(|cell: usize| (sheet[cell], built.field.positions[cell])), [(0xE0, 255); 2]);
+}
+
+#[test]
+fn a_window_is_planned_without_sight_as_with_it() {
+    let (mut sheet, mut without) = (marked(), marked());
+    let previous: [u32; CELLS] = core::array::from_fn(|cell| cell as u32 * 37 % 11);
+    let costs = with(47, 30);
+    let built = sector(&costs, EAST, Some(&previous), &mut sheet).unwrap();
+    assert_eq!(sector_without_sight(&costs, EAST, Some(&previous), &mut without), Ok(built));
+    assert_eq!(without, sheet);
+    // Cell 46 is reached round the dear cell beside it, by 36.
+    assert_eq!([49, 47, 36, 46].map(|cell| built.field.cost(cell)), [Some(0), Some(31), Some(3), Some(4)]);
+}
+
+/// A field given by hand that starts from its goal alone.
+fn started_at(costs: &[u8; CELLS], goal: usize) -> IntegrationField {
+    let mut started =
+        IntegrationField { field: [65535; CELLS], los_corners: [0; CELLS], count: 1, positions: [0; CELLS] };
+    for (word, _) in started.field.iter_mut().zip(costs).filter(|(_, cost)| **cost == WALL) {
+        *word = 0x200FFFF;
+    }
+    (started.field[goal], started.los_corners[0]) = (0x20000, goal);
+    started
+}
+
+#[test]
+fn the_sector_calls_are_made_of_the_calls_by_hand() {
+    let (costs, goal, previous) = (with(55, WALL), Step::goal(0, 44), [7u32; CELLS]);
+    let (mut sheet, mut without) = (marked(), marked());
+    let tried = [
+        (goal, init(&costs, goal).unwrap(), sector(&costs, goal, Some(&previous), &mut sheet), sheet),
+        (EAST, init(&costs, EAST).unwrap(), sector(&costs, EAST, Some(&previous), &mut sheet), sheet),
+        (goal, started_at(&costs, 44), sector_without_sight(&costs, goal, Some(&previous), &mut without), without),
+    ];
+    for (step, started, built, sheet) in tried {
+        let mut by_hand = [0; CELLS];
+        let field = build(&costs, started).unwrap();
+        assert_eq!(Ok(field), built);
         flow_new(step, field.field, Some(&previous), &mut by_hand).unwrap();
         flow_build(field.field, &mut by_hand).unwrap();
         assert_eq!(by_hand, sheet);
@@ -58,6 +110,11 @@ fn arrows_that_never_arrive_are_told() {
         assert_eq!(found.of(cell).is_none(), (1..=9).contains(&cell), "cell {cell}");
     }
     assert_eq!((found.of(10), found.of(100)), (Some(0), None));
+    // Without sight they all arrive: 2 and 3 go by 12 and 11, and 9 by 18 along the second row.
+    sector_without_sight(&with(1, WALL), Step::goal(0, 10), None, &mut sheet).unwrap();
+    let found = arrivals(&sheet).unwrap();
+    assert_eq!([2, 3, 9, 10, 1].map(|cell| found.of(cell)), [Some(3), Some(3), Some(9), Some(0), None]);
+    assert_eq!((0..CELLS).filter(|cell| found.of(*cell).is_none()).count(), 1);
     // Left by a window, every reached cell arrives, in as many moves as there are columns to it.
     sector(&ONES, EAST, Some(&[0; CELLS]), &mut sheet).unwrap();
     for cell in 0..CELLS {
@@ -83,14 +140,18 @@ fn a_step_is_judged_and_nothing_is_written() {
         (Refusal::OnWall, Step::goal(0, 50)),
         (Refusal::OnWall, Step::window(0, Boundary::West, 40, 60)),
     ];
-    for (refusal, step) in tried {
-        assert_eq!(sector(&with(50, WALL), step, Some(&zeros), &mut sheet).err(), Some(refusal));
+    for call in SECTOR_CALLS {
+        for (refusal, step) in tried {
+            assert_eq!(call(&with(50, WALL), step.bytes(), Some(&zeros), &mut sheet), Err(refusal));
+        }
+        let (east, goal) = (EAST.bytes(), Step::goal(0, 44));
+        assert_eq!(call(&ONES[1..], east, None, &mut sheet), Err(Refusal::CostBytes));
+        assert_eq!(call(&ONES, east, Some(&zeros), &mut sheet[1..]), Err(Refusal::Sheet));
+        assert_eq!(call(&ONES, &[0; 7], None, &mut sheet), Err(Refusal::StepList));
+        assert_eq!(call(&ONES, east, None, &mut sheet), Err(Refusal::NoPrevious));
+        assert_eq!(call(&ONES, east, Some(&zeros[1..]), &mut sheet), Err(Refusal::PreviousLength));
+        assert_eq!(call(&ONES, goal.bytes(), Some(&zeros[1..]), &mut sheet), Err(Refusal::PreviousLength));
     }
-    assert_eq!(sector(&ONES[1..], EAST, None, &mut sheet).err(), Some(Refusal::CostBytes));
-    assert_eq!(sector(&ONES, EAST, Some(&zeros), &mut sheet[1..]).err(), Some(Refusal::Sheet));
-    assert_eq!(sector(&ONES, [0; 7], None, &mut sheet).err(), Some(Refusal::StepList));
-    assert_eq!(sector(&ONES, EAST, None, &mut sheet).err(), Some(Refusal::NoPrevious));
-    assert_eq!(sector(&ONES, EAST, Some(&zeros[1..]), &mut sheet).err(), Some(Refusal::PreviousLength));
     assert_eq!(flow_new(EAST, init(&ONES, EAST).unwrap(), Some(&zeros[1..]), &mut sheet), Err(Refusal::PreviousLength));
     assert_eq!(flow_build(init(&ONES, EAST).unwrap(), &mut sheet[1..]), Err(Refusal::Sheet));
     assert_eq!(sheet, marked());

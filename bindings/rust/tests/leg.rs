@@ -2,6 +2,21 @@
 
 use hanjolum::*;
 
+type LegCall = fn(&[u8], &[u8], &mut [u8]) -> Result<(), Refusal>;
+type SectorCall = fn(&[u8], &[u8], Option<&[u32]>, &mut [u8]) -> Result<Built, Refusal>;
+
+/// The leg and the sector call, with sight and without.
+const BOTH: [(LegCall, SectorCall); 2] = [
+    (
+        |floor, steps, sheet| leg(floor, steps, sheet),
+        |costs, step, previous, sheet| sector(costs, step, previous, sheet),
+    ),
+    (
+        |floor, steps, sheet| leg_without_sight(floor, steps, sheet),
+        |costs, step, previous, sheet| sector_without_sight(costs, step, previous, sheet),
+    ),
+];
+
 /// A sector's costs, a row a line: '#' a wall, '.' a cost of 1, a digit its own cost.
 fn draw(floor: &mut [u8; FLOOR], sector: usize, rows: &str) {
     let cells = rows.split_whitespace().flat_map(str::bytes);
@@ -111,21 +126,80 @@ fn arrivals_tell_a_planned_leg_s_whole_way() {
     assert_eq!((entered.sector, moves_within(&sheet, entered)), (9, None));
 }
 
+/// How many moves the arrows take from a place to where there is no arrow, and where that is.
+fn to_the_end(sheet: &[u8], from: Place) -> (usize, Place) {
+    let mut place = from;
+    for count in 0..=1599 {
+        match place.next(sheet) {
+            Some(next) => place = next,
+            None => return (count, place),
+        }
+    }
+    panic!("{from:?} is still on its way after 1,599 moves");
+}
+
+#[test]
+fn without_sight_a_leg_leads_to_the_goal() {
+    let (floor, mut sheet) = (floor(), [0xAB; FLOOR]);
+    leg_without_sight(&floor, Steps::new(&list()).unwrap(), &mut sheet).unwrap();
+    let mut followed = 0;
+    for (k, step) in list().iter().enumerate() {
+        for cell in 0..100 {
+            let place = Place { sector: step.bytes()[0], cell };
+            if !FlowByte(place.byte_of(&sheet).unwrap()).is_wall() {
+                let (moves, end) = to_the_end(&sheet, place);
+                assert_eq!(end, Place { sector: 9, cell: 44 }, "{place:?}");
+                assert!(moves <= 99 * (k + 1) + k, "{place:?}");
+                followed += 1;
+            }
+        }
+    }
+    // Walls alone are not reached: 11, 15 and 20 of them.
+    assert_eq!(followed, 89 + 85 + 80);
+    for sector in (0..64).filter(|sector| ![9, 10, 18].contains(sector)) {
+        assert!(sheet[sector * CELLS..][..CELLS].iter().all(|byte| *byte == 0xAB), "sector {sector} was written");
+    }
+}
+
+/// The leg of `arrivals_tell_a_planned_leg_s_whole_way`, without sight: from cell 95 of sector 1 a cart crosses south-west into
+/// cell 4, goes south-west to 13, and west along the row to the goal at 10.
+#[test]
+fn without_sight_a_cart_comes_through_where_it_never_arrived() {
+    let (mut floor, mut sheet) = ([1; FLOOR], [0; FLOOR]);
+    floor[9 * CELLS + 1] = WALL;
+    let list = [Step::goal(9, 10), Step::window(1, Boundary::South, 92, 99)];
+    leg_without_sight(&floor, Steps::new(&list).unwrap(), &mut sheet).unwrap();
+    let cart = Place { sector: 1, cell: 95 };
+    assert_eq!(cart.next(&sheet), Some(Place { sector: 9, cell: 4 }));
+    assert_eq!(to_the_end(&sheet, cart), (5, Place { sector: 9, cell: 10 }));
+    let found = arrivals(&sheet[9 * CELLS..][..CELLS]).unwrap();
+    assert_eq!([2, 3, 4, 9].map(|cell| found.of(cell)), [Some(3), Some(3), Some(4), Some(9)]);
+}
+
 #[test]
 fn a_leg_is_what_its_sector_calls_write() {
     let (floor, mut sheet, mut part) = (floor(), [0; FLOOR], [0; CELLS]);
-    leg(&floor, Steps::new(&list()).unwrap(), &mut sheet).unwrap();
-    let mut previous: Option<Built> = None;
-    for step in list() {
-        let own = usize::from(step.bytes()[0]) * CELLS..;
-        let cells = previous.as_ref().map(|built| &built.field.field[..]);
-        previous = Some(sector(&floor[own.clone()][..CELLS], step, cells, &mut part).unwrap());
-        assert_eq!(sheet[own][..CELLS], part);
+    for (leg, sector) in BOTH {
+        leg(&floor, Steps::new(&list()).unwrap().as_ref(), &mut sheet).unwrap();
+        let mut previous: Option<Built> = None;
+        for step in list() {
+            let own = usize::from(step.bytes()[0]) * CELLS..;
+            let cells = previous.as_ref().map(|built| &built.field.field[..]);
+            previous = Some(sector(&floor[own.clone()][..CELLS], step.bytes(), cells, &mut part).unwrap());
+            assert_eq!(sheet[own][..CELLS], part);
+        }
     }
 }
 
 #[test]
 fn a_leg_is_refused_and_its_sheet_stays() {
+    for (leg, _) in BOTH {
+        refused_by(leg);
+    }
+}
+
+/// What a leg, with sight or without, refuses.
+fn refused_by(leg: LegCall) {
     let (mut floor, mut sheet) = ([1; FLOOR], [0xAB; FLOOR]);
     let goal = Step::goal(9, 44);
     let tried = [
@@ -136,18 +210,18 @@ fn a_leg_is_refused_and_its_sheet_stays() {
         (Refusal::Goal, vec![Step::goal(9, 100)]),
     ];
     for (refusal, list) in tried {
-        assert_eq!(leg(&floor, Steps::new(&list).unwrap(), &mut sheet), Err(refusal), "{list:?}");
+        assert_eq!(leg(&floor, Steps::new(&list).unwrap().as_ref(), &mut sheet), Err(refusal), "{list:?}");
     }
-    assert_eq!(leg(&floor[1..], goal, &mut sheet), Err(Refusal::CostBytes));
-    assert_eq!(leg(&floor, goal, &mut sheet[1..]), Err(Refusal::Sheet));
-    assert_eq!(leg(&floor, [], &mut sheet), Err(Refusal::StepList));
+    assert_eq!(leg(&floor[1..], goal.bytes(), &mut sheet), Err(Refusal::CostBytes));
+    assert_eq!(leg(&floor, goal.bytes(), &mut sheet[1..]), Err(Refusal::Sheet));
+    assert_eq!(leg(&floor, &[], &mut sheet), Err(Refusal::StepList));
     // A wall all along the goal's sector: no cell of the window counts.
     for row in 0..10 {
         floor[9 * CELLS + row * 10 + 9] = WALL;
     }
-    assert_eq!(leg(&floor, Steps::new(&list()).unwrap(), &mut sheet), Err(Refusal::NoCountingCell));
+    assert_eq!(leg(&floor, Steps::new(&list()).unwrap().as_ref(), &mut sheet), Err(Refusal::NoCountingCell));
     floor[9 * CELLS + 44] = WALL;
-    assert_eq!(leg(&floor, Steps::new(&list()).unwrap(), &mut sheet), Err(Refusal::OnWall));
+    assert_eq!(leg(&floor, Steps::new(&list()).unwrap().as_ref(), &mut sheet), Err(Refusal::OnWall));
     assert_eq!(sheet, [0xAB; FLOOR]);
 }
 
