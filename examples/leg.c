@@ -1,7 +1,8 @@
 /*
- * Plans a leg over three sectors and prints the arrows of each, from the goal's sector back to the cart's. Then it looks once
- * at the goal's sector: from every reached cell of the other two the arrows lead there, and the numbers of moves of its cells
- * tell the rest of the way.
+ * Plans a leg over three sectors with sight, as the tablet's Rust does, and prints the arrows of each, from the goal's sector
+ * back to the cart's. Then it looks once at the goal's sector: from every reached cell of the other two the arrows lead there,
+ * and the numbers of moves of its cells tell the rest of the way. For a cart that follows arrows alone take the call without
+ * sight, as examples/cart.c does.
  *
  *     rt staticlib hanjolum && cc -Iinclude examples/leg.c target/staticlib/libhanjolum.a -o target/leg && target/leg
  */
