@@ -1,10 +1,10 @@
 /*
  * Plans a sector that is drawn as text, and shows its arrows beside its flow bytes; or the practice floor of a seed, and
  * shows the floor beside them; or a whole floor with a leg (floor.c, plan.c, text.c). A floor and a practice floor can also be
- * written as a picture (picture.c).
+ * written as a picture (picture.c). Each is planned with sight, or without where that is asked for.
  * The drawing is turned into costs and a step here; every practice floor comes from hanjolum_practice_floor, every arrow
- * from hanjolum_sector, and which arrows never arrive from hanjolum_arrivals. A window wants the field of the sector across
- * it, which is not drawn: it gets one of zeros, so that each of its cells points straight across.
+ * from hanjolum_sector or hanjolum_sector_without_sight, and which arrows never arrive from hanjolum_arrivals. A window wants
+ * the field of the sector across it, which is not drawn: it gets one of zeros, so that each of its cells points straight across.
  * What is wrong with the words, the drawing or the output is one line on standard error and exit status 1.
  */
 #include <errno.h>
@@ -18,10 +18,11 @@
 static const char SIDES[] = "NESW";
 static const char *const EDGES[] = {"north edge (row 1)", "east edge (column 10)", "south edge (row 10)", "west edge (column 1)"};
 
-static const char USAGE[] = "usage: draw [--ascii] [FILE | --practice SEED | --floor FILE [--costs]] [--picture OUT], FILE - or none for "
-                            "standard input; tools/draw/run --help says what a drawing is";
+static const char USAGE[] = "usage: draw [--ascii] [--without-sight] [FILE | --practice SEED | --floor FILE [--costs]] [--picture OUT], "
+                            "FILE - or none for standard input; tools/draw/run --help says what a drawing is";
 
 const char *const ARROWS[] = {"↑", "→", "↓", "←", "↗", "↘", "↙", "↖"};
+const char SIGHTLESS[] = "planned without sight: every reached cell but the goal has an arrow";
 const char *const LETTERS[] = {"N ", "E ", "S ", "W ", "NE", "SE", "SW", "NW"};
 
 /* What a drawing says, and where it stands. A window is from cell `first` to cell `last`; a goal is both. */
@@ -196,7 +197,7 @@ static void show_row(const struct drawing *drawing, const uint8_t *sheet, const 
     printf("\n");
 }
 
-static void show(const struct drawing *drawing, const uint8_t *sheet, int practice, int ascii)
+static void show(const struct drawing *drawing, const uint8_t *sheet, int practice, int ascii, int sight)
 {
     HanjolumArrivals arrivals = hanjolum_arrivals(sheet, HANJOLUM_CELLS);
     char lost[HANJOLUM_CELLS];
@@ -204,7 +205,9 @@ static void show(const struct drawing *drawing, const uint8_t *sheet, int practi
         lost[cell] = (char)is_lost(sheet, arrivals.moves, cell);
     for (int row = 0; row < SIDE; row++)
         show_row(drawing, sheet, lost, row, practice, ascii);
-    printf("\n%s wall   x not reached   G goal   * goal in sight, no arrow needed\n", ascii ? "##" : "█");
+    printf("\n%s wall   x not reached   G goal%s\n", ascii ? "##" : "█", sight ? "   * goal in sight, no arrow needed" : "");
+    if (!sight)
+        printf("%s\n", SIGHTLESS);
     if (name_lost("! followed, the arrows never arrive: cells", lost) > 0)
         printf("\n");
     if (practice)
@@ -233,6 +236,7 @@ struct asked {
     int floor;
     int costs;
     int ascii;
+    int without_sight;
 };
 
 /* The word behind an option, which may be said once. */
@@ -269,6 +273,8 @@ static struct asked asked_for(int count, char **words)
             help();
         if (strcmp(words[i], "--ascii") == 0)
             asked.ascii = 1;
+        else if (strcmp(words[i], "--without-sight") == 0)
+            asked.without_sight = 1;
         else if (strcmp(words[i], "--floor") == 0)
             asked.floor = 1;
         else if (strcmp(words[i], "--costs") == 0)
@@ -331,7 +337,7 @@ static void draw_floor(const struct asked *asked)
     static struct floor floor;
     static struct plan plan;
     floor = asked->seed != NULL ? practice_floor(asked->seed) : read_floor(asked->file);
-    plan_floor(&plan, &floor);
+    plan_floor(&plan, &floor, !asked->without_sight);
     if (asked->picture != NULL) {
         put_picture(&plan, asked->picture);
         return;
@@ -340,19 +346,29 @@ static void draw_floor(const struct asked *asked)
     written();
 }
 
+/* Plans a drawn sector onto a sheet, and answers its number. */
+static uint8_t plan_sector(const struct drawing *drawing, int sight, uint8_t *sheet)
+{
+    static const uint32_t zeros[HANJOLUM_CELLS];
+    uint8_t step[HANJOLUM_STEP];
+    bool window = drawing->mark != 'G';
+    make_step(drawing, step);
+    HanjolumBuildAnswer answer = sight ? hanjolum_sector(drawing->costs, HANJOLUM_CELLS, step, HANJOLUM_STEP, window, zeros, HANJOLUM_CELLS,
+                                                         sheet, HANJOLUM_CELLS)
+                                       : hanjolum_sector_without_sight(drawing->costs, HANJOLUM_CELLS, step, HANJOLUM_STEP, window, zeros,
+                                                                       HANJOLUM_CELLS, sheet, HANJOLUM_CELLS);
+    return answer.number;
+}
+
 /* A sector, or a practice floor as text. */
 static void draw_sector(const struct asked *asked)
 {
-    static const uint32_t zeros[HANJOLUM_CELLS];
     struct drawing drawing = asked->seed != NULL ? practice_drawing(asked->seed) : file_drawing(asked->file);
-    uint8_t step[HANJOLUM_STEP];
     uint8_t sheet[HANJOLUM_CELLS] = {0};
-    make_step(&drawing, step);
-    HanjolumBuildAnswer answer = hanjolum_sector(drawing.costs, HANJOLUM_CELLS, step, HANJOLUM_STEP, drawing.mark != 'G', zeros,
-                                                 HANJOLUM_CELLS, sheet, HANJOLUM_CELLS);
-    if (answer.number != 0)
-        fail("%s: refused with number %d: %s", drawing.name, answer.number, hanjolum_refusal_text(answer.number));
-    show(&drawing, sheet, asked->seed != NULL, asked->ascii);
+    uint8_t number = plan_sector(&drawing, !asked->without_sight, sheet);
+    if (number != HANJOLUM_ACCEPTED)
+        fail("%s: refused with number %d: %s", drawing.name, number, hanjolum_refusal_text(number));
+    show(&drawing, sheet, asked->seed != NULL, asked->ascii, !asked->without_sight);
     written();
 }
 

@@ -35,6 +35,7 @@ struct floor {
 /* A planned leg over a floor, followed. */
 struct plan {
     const struct floor *floor;
+    int sight;                       /* planned with sight, or without */
     uint8_t steps[HANJOLUM_STEP * HANJOLUM_STEPS];
     int count;                       /* steps, from the goal back */
     int step_of[HANJOLUM_SECTORS];   /* the step that names a sector, from 0; -1 for none */
@@ -69,8 +70,9 @@ int is_drawn(const struct floor *floor, int sector);
 struct floor read_floor(const char *name);
 struct floor practice_floor(const char *seed);
 
-/* Plans a floor's leg, and follows its arrows from every cell, and its cart. Ends the program where it is refused. */
-void plan_floor(struct plan *plan, const struct floor *floor);
+/* Plans a floor's leg, with sight or without, and follows its arrows from every cell, and its cart. Ends the program where it is
+   refused. */
+void plan_floor(struct plan *plan, const struct floor *floor, int sight);
 enum look look_of(const struct plan *plan, int place);
 
 /* Whether a place is a cell of its sector's window, and whether it counts. */
@@ -79,6 +81,9 @@ int counts(const struct plan *plan, int place);
 
 /* Whether a reached cell of a sector's sheet has arrows that never arrive, by what the library says of the sheet. */
 int is_lost(const uint8_t *sheet, const uint8_t *arrivals, int cell);
+
+/* What is said of a sector or a floor that was planned without sight. */
+extern const char SIGHTLESS[];
 
 /* What the cart does, as a sentence. */
 void say_way(const struct plan *plan, char *line, size_t size);

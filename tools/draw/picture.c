@@ -88,7 +88,7 @@ static void write_told(const struct plan *plan, FILE *out, int place)
     if (step >= 0)
         fprintf(out, ", byte 0x%02x", plan->sheet[place]);
     if (step >= 0 && plan->arrivals[place] != HANJOLUM_NEVER)
-        fprintf(out, ", %d moves to the %s", plan->arrivals[place], step > 0 ? "window" : "goal or into its sight");
+        fprintf(out, ", %d moves to the %s", plan->arrivals[place], step > 0 ? "window" : plan->sight ? "goal or into its sight" : "goal");
     fprintf(out, "%s</title>", plan->lost[place] ? ", never arrives" : "");
 }
 
@@ -216,7 +216,7 @@ static void write_head(const struct plan *plan, FILE *out)
     say_way(plan, line, sizeof line);
     fprintf(out, "<text x=\"%d\" y=\"30\" font-size=\"20\" font-weight=\"bold\">", LEFT);
     write_text(out, plan->floor->name);
-    fprintf(out, ": a leg of %d sector%s</text>\n", plan->count, plan->count == 1 ? "" : "s");
+    fprintf(out, ": a leg of %d sector%s%s</text>\n", plan->count, plan->count == 1 ? "" : "s", plan->sight ? "" : ", planned without sight");
     fprintf(out, "<text x=\"%d\" y=\"54\" font-size=\"14\">%c%s</text>\n", LEFT, line[0] - 'a' + 'A', line + 1);
     write_lost(plan, out);
 }
@@ -224,7 +224,7 @@ static void write_head(const struct plan *plan, FILE *out)
 /* The leg's steps, for those who read the file and not the picture. */
 static void write_steps(const struct plan *plan, FILE *out)
 {
-    fprintf(out, "<desc>steps, from the goal back:");
+    fprintf(out, "<desc>%ssteps, from the goal back:", plan->sight ? "" : "planned without sight; ");
     for (int i = 0; i < plan->count * HANJOLUM_STEP; i++)
         fprintf(out, "%s%02x", i % HANJOLUM_STEP == 0 ? " " : "", plan->steps[i]);
     fprintf(out, "</desc>\n");
@@ -242,24 +242,28 @@ static void write_costs(FILE *out, int x, int y)
     }
 }
 
-/* What the signs mean, in three rows. */
-static void write_legend(FILE *out, int y)
+/* What the signs mean, in three rows; that of a cell in sight is left out where the floor is planned without sight. */
+static void write_legend(const struct plan *plan, FILE *out, int y)
 {
-    static const struct { const char *sign, *text; } signs[] = {
-        {"<use href=\"#a\" class=\"k\"/>", "arrow"},
-        {"<rect class=\"d\" x=\"-10\" y=\"-10\" width=\"20\" height=\"20\"/><use href=\"#a\" class=\"r\"/>", "never arrives"},
-        {"<path class=\"t\" d=\"M-4 0H9\"/><circle class=\"o\" cx=\"-4\" r=\"6\"/>", "the cart and its way"},
-        {"<circle class=\"h\" r=\"9\"/><text class=\"l\" y=\"5\">G</text>", "goal"},
-        {"<circle class=\"i\" r=\"3\"/>", "goal in sight, no arrow needed"},
-        {"<rect class=\"w\" x=\"-9\" y=\"-9\" width=\"18\" height=\"18\"/>", "wall"},
-        {"<use href=\"#b\" class=\"x\"/>", "not reached"},
-        {"<rect class=\"f\" x=\"-9\" y=\"-9\" width=\"18\" height=\"18\"/>", "not in the leg"},
-        {"<rect class=\"p\" x=\"-9\" y=\"-9\" width=\"18\" height=\"18\"/>", "window cell"},
-        {"<rect class=\"q\" x=\"-9\" y=\"-9\" width=\"18\" height=\"18\"/>", "window cell, does not count"},
+    static const struct { const char *sign, *text; int of_sight; } signs[] = {
+        {"<use href=\"#a\" class=\"k\"/>", "arrow", 0},
+        {"<rect class=\"d\" x=\"-10\" y=\"-10\" width=\"20\" height=\"20\"/><use href=\"#a\" class=\"r\"/>", "never arrives", 0},
+        {"<path class=\"t\" d=\"M-4 0H9\"/><circle class=\"o\" cx=\"-4\" r=\"6\"/>", "the cart and its way", 0},
+        {"<circle class=\"h\" r=\"9\"/><text class=\"l\" y=\"5\">G</text>", "goal", 0},
+        {"<circle class=\"i\" r=\"3\"/>", "goal in sight, no arrow needed", 1},
+        {"<rect class=\"w\" x=\"-9\" y=\"-9\" width=\"18\" height=\"18\"/>", "wall", 0},
+        {"<use href=\"#b\" class=\"x\"/>", "not reached", 0},
+        {"<rect class=\"f\" x=\"-9\" y=\"-9\" width=\"18\" height=\"18\"/>", "not in the leg", 0},
+        {"<rect class=\"p\" x=\"-9\" y=\"-9\" width=\"18\" height=\"18\"/>", "window cell", 0},
+        {"<rect class=\"q\" x=\"-9\" y=\"-9\" width=\"18\" height=\"18\"/>", "window cell, does not count", 0},
     };
-    for (int i = 0; i < 10; i++)
-        fprintf(out, "<g transform=\"translate(%d %d)\">%s<text x=\"17\" y=\"4\" font-size=\"12\">%s</text></g>\n", LEFT + 12 + i % 5 * 160,
-                y + 26 + i / 5 * 30, signs[i].sign, signs[i].text);
+    for (int i = 0, place = 0; i < 10; i++) {
+        if (signs[i].of_sight && !plan->sight)
+            continue;
+        fprintf(out, "<g transform=\"translate(%d %d)\">%s<text x=\"17\" y=\"4\" font-size=\"12\">%s</text></g>\n", LEFT + 12 + place % 5 * 160,
+                y + 26 + place / 5 * 30, signs[i].sign, signs[i].text);
+        place += 1;
+    }
     write_costs(out, LEFT, y + 88);
 }
 
@@ -304,6 +308,6 @@ void write_picture(const struct plan *plan, FILE *out)
     write_steps(plan, out);
     write_head(plan, out);
     write_floor(plan, out);
-    write_legend(out, high);
+    write_legend(plan, out, high);
     fprintf(out, "</svg>\n");
 }

@@ -1,7 +1,7 @@
 /*
- * Plans the leg of a drawn floor and follows its arrows. Every byte of the sheet comes from hanjolum_leg, and which arrows of a
- * sector never arrive from hanjolum_arrivals; what is done here is to go from cell to cell by the arrows that the sheet has,
- * which is tested (tools/draw/check) and not proved.
+ * Plans the leg of a drawn floor and follows its arrows. Every byte of the sheet comes from hanjolum_leg, or without sight from
+ * hanjolum_leg_without_sight, and which arrows of a sector never arrive from hanjolum_arrivals; what is done here is to go from
+ * cell to cell by the arrows that the sheet has, which is tested (tools/draw/check) and not proved.
  */
 #include <string.h>
 
@@ -20,7 +20,10 @@ static void make_steps(struct plan *plan)
 
 static uint8_t plan_first(struct plan *plan, int count)
 {
-    return hanjolum_leg(plan->floor->costs, HANJOLUM_FLOOR, plan->steps, (size_t)count * HANJOLUM_STEP, plan->sheet, HANJOLUM_FLOOR);
+    size_t length = (size_t)count * HANJOLUM_STEP;
+    return plan->sight
+        ? hanjolum_leg(plan->floor->costs, HANJOLUM_FLOOR, plan->steps, length, plan->sheet, HANJOLUM_FLOOR)
+        : hanjolum_leg_without_sight(plan->floor->costs, HANJOLUM_FLOOR, plan->steps, length, plan->sheet, HANJOLUM_FLOOR);
 }
 
 /* Why a step is refused, in the words of a drawing, whose leg is said in the order of driving. */
@@ -153,10 +156,11 @@ static void follow_cart(struct plan *plan)
         plan->crossing = i;
 }
 
-void plan_floor(struct plan *plan, const struct floor *floor)
+void plan_floor(struct plan *plan, const struct floor *floor, int sight)
 {
     memset(plan, 0, sizeof *plan);
     plan->floor = floor;
+    plan->sight = sight;
     make_steps(plan);
     uint8_t number = plan_first(plan, plan->count);
     if (number != HANJOLUM_ACCEPTED)
@@ -185,5 +189,6 @@ void say_way(const struct plan *plan, char *line, size_t size)
     else if (plan->lost[cart])
         snprintf(line, size, "%d moves into the goal's sector, and there arrows that lead in a circle", plan->crossing);
     else
-        snprintf(line, size, "%d moves into the goal's sector, %d more until the goal is in sight or reached", plan->crossing, inside);
+        snprintf(line, size, "%d moves into the goal's sector, %d more %s", plan->crossing, inside,
+                 plan->sight ? "until the goal is in sight or reached" : "to the goal");
 }

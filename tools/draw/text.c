@@ -123,7 +123,10 @@ void show_floor(const struct plan *plan, int ascii, int with_costs)
     show_rows(plan, ascii, 0);
     if (with_costs)
         show_rows(plan, ascii, 1);
-    printf("%s wall   x not reached   G goal   * goal in sight   %s not planned\n", ascii ? "##" : "█", ascii ? "." : "·");
+    printf("%s wall   x not reached   G goal%s   %s not planned\n", ascii ? "##" : "█", plan->sight ? "   * goal in sight" : "",
+           ascii ? "." : "·");
+    if (!plan->sight)
+        printf("%s\n", SIGHTLESS);
     printf("behind a cell: + window   - window cell that does not count   ! never arrives   C cart   o its way\n");
     show_lost(plan);
     say_way(plan, line, sizeof line);
