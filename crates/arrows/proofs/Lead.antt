@@ -42,13 +42,15 @@ use Rattle.flow_byte.specs.New.{startOf, windowBits, newBytes}
 use Rattle.flow_byte.specs.Look.{lookedByte, lookAround, pointed, flowBuild}
 use Rattle.arrows.specs.Arrows.{Reached, arrow, Away, Cuts, Move, Leads, ends, moves, CellsMarked, ArrowsLead}
 use Rattle.arrows.specs.Promise.{WindowSector, SightlessSector, builtCells, BuildArrows}
-use Rattle.arrows.proofs.Fall.{end-open, EndSector, value, word-low, Plain, end-word, wall-word, by-kind, Beside, lower-beside, entered-from, falls, rank, rank-less, rank-few}
+use Rattle.arrows.proofs.Fall.{end-open, EndSector, value, word-low, Plain, end-word, wall-word, by-kind, Beside, lower-beside, entered-from}
+use Rattle.arrows.proofs.Fall.{falls, rank, rank-less, rank-few}
 use Rattle.arrows.proofs.Around.{Sees, differ, near-in, reached-there, reached-back, sees-beside}
 use Rattle.arrows.proofs.Clear.{arrows-clear, target-on}
 use Rattle.arrows.proofs.Look.{Found, found, Nothing, nothing}
 use Rattle.arrows.proofs.Moves.{away, reads-so, away-once}
 use Rattle.arrows.proofs.Bytes.{new-length, Pointed, pointed-is}
-use Rattle.arrows.proofs.CellBytes.{small-untaken, endWord, window-listed, end-sector, window-sector, window-byte, end-byte, end-kept, wall-byte, plain-byte}
+use Rattle.arrows.proofs.CellBytes.{small-untaken, endWord, window-listed, end-sector, window-sector}
+use Rattle.arrows.proofs.CellBytes.{window-byte, end-byte, end-kept, wall-byte, plain-byte}
 
 -- ---- the walls of a target without sight: cells of cost 255 where arrows do not end
 
@@ -160,7 +162,8 @@ module _ (costs : List ℕ) (target : Target) (sightless : isSightless target �
   -- nothing seen from an unreached cell is reached
   plain-unreached : (x : ℕ) → Plain s x → getD built x 0 < 2 ^ 16 → (value s x < 65535 → ⊥) → isImpassable (getD bytes x 0) ≡ true
   unfolding pointed
-  plain-unreached x p l u = rw (plain-byte s window (window-listed target) portal has previous x p l) (go (lookAround built x) (nothing built x (p .inside) unreached))
+  plain-unreached x p l u =
+      rw (plain-byte s window (window-listed target) portal has previous x p l) (go (lookAround built x) (nothing built x (p .inside) unreached))
     where
       unreached : (d : CompassDir) (n : ℕ) → Sees built x d n
           → (low (getD built n 0) ≡ 65535) × ((isGoal (getD built n 0) || isPortal (getD built n 0)) ≡ false)
@@ -181,7 +184,11 @@ module _ (costs : List ℕ) (target : Target) (sightless : isSightless target �
   marked-cell x h m =
       by-kind s x h (λ a e. absurd (true≢false (sym m ∙ end-kept s window (window-listed target) portal has previous x h e .unmarked)))
       (λ c a e. inl (end-or-wall costs target sightless x c a))
-      (λ p l. inr (λ r. (let v : value s x < 65535 = omega arith in let n = next-of (suc (value s x)) x (omega arith) (entered-from s x p v) p l v in true≢false (sym m ∙ ap isImpassable (n .byte) ∙ next-pointed n .unmarked))))
+      (λ p l. inr (λ r. (
+      let v : value s x < 65535 = omega arith in
+      let n = next-of (suc (value s x)) x (omega arith) (entered-from s x p v) p l v in
+      true≢false (sym m ∙ ap isImpassable (n .byte) ∙ next-pointed n .unmarked)
+      )))
 
   cell-marked : (x : ℕ) → x < 100 → Wall costs target x ⊎ (Reached built x → ⊥) → isImpassable (getD bytes x 0) ≡ true
   cell-marked x h (inl w) =

@@ -64,8 +64,10 @@ pub accepts : (sheet moves : List ℕ) → length sheet ≡ 100 → moves ≡ ma
     → Promised sheet (record { number = 0; moves = moves })
 unfolding arrivalsAnswer
 accepts sheet moves full e =
-    let so = told sheet moves e in
-    (rw (eq-eqb (length sheet) 100 full, e), (λ z. so, (λ z. window-arrives sheet moves e, (λ z. leg-told sheet moves so, λ z. sightless-arrives sheet moves e))))
+    let so = told sheet moves e in (
+      rw (eq-eqb (length sheet) 100 full, e),
+      (λ z. so, (λ z. window-arrives sheet moves e, (λ z. leg-told sheet moves so, λ z. sightless-arrives sheet moves e))),
+    )
 
 pub refuses : (sheet : List ℕ) → (length sheet ≡ 100 → ⊥) → Promised sheet (record { number = 2; moves = replicate 100 0 })
 unfolding arrivalsAnswer

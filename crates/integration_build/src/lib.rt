@@ -242,7 +242,7 @@ pub fn build_without_positions(costs: &[u8], given: IntegrationField) -> BuildAn
 }
 
 // A field built without positions, and its positions: `before` are its cells before building.
-pub fn add_positions(costs: &[u8], before: &[u32; 100], built: BuildAnswer) -> BuildAnswer
+fn add_positions(costs: &[u8], before: &[u32; 100], built: BuildAnswer) -> BuildAnswer
     requires { ⌜ (length (now costs) ≡ 100) × BuiltFrom (now costs) (now before) built ⌝ }
     ensures { λ r. ⌜ r ≡ withPositions (now (costs .entry)) (now (before .entry)) built ⌝ }
 {

@@ -42,7 +42,8 @@ module _ (sight : Bool) (floor : List ℕ) (steps : List (List ℕ)) (sheet : Li
       ap suc (journey-once j (subst (Journey sight floor steps sheet m k) (points-once w v) g))
   journey-once (moves o v r i j) (crosses c w s g) = absurd (o c)
   journey-once (crosses c v r j) (moves o w s l g) = absurd (o c)
-  journey-once {m = suc m} (crosses {k = k} c v r j) (crosses d w s g) = ap suc (journey-once j (subst (Journey sight floor steps sheet m k) (points-once w v) g))
+  journey-once {m = suc m} (crosses {k = k} c v r j) (crosses d w s g) =
+      ap suc (journey-once j (subst (Journey sight floor steps sheet m k) (points-once w v) g))
 
   -- n moves from a place, worked out, end in the goal's sector
   abbrev Ends : ℕ → Place → Type 0

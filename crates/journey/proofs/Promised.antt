@@ -22,7 +22,8 @@ module _ (sight : Bool) (floor steps sheet : List ℕ) where
   abbrev Promised : ℕ → List ℕ → Type 0
   Promised n after =
       (n ≡ legNumberBy sight floor steps sheet)
-      × ((after ≡ legSheetBy sight floor steps sheet) × ((n ≡ 0 → LegPlannedBy sight floor (stepsOf steps) sheet after) × (n ≡ 0 → Arrives sight floor (stepsOf steps) after)))
+      × ((after ≡ legSheetBy sight floor steps sheet)
+      × ((n ≡ 0 → LegPlannedBy sight floor (stepsOf steps) sheet after) × (n ≡ 0 → Arrives sight floor (stepsOf steps) after)))
 
   pub refuses : (n : ℕ) → n ≡ legNumberBy sight floor steps sheet → (n ≡ 0 → ⊥) → Promised n sheet
   refuses n e h =

@@ -102,7 +102,8 @@ module _ (sight : Bool) (floor steps : List ℕ) where
     shut-more p c z q = shut-at p c ∙ rw (z, q, lt-ltb 0 (k + 1) (omega arith))
 
   -- behind the last step
-  pub from-last : (k : ℕ) → length steps / 8 ≤ k → (has : Bool) (previous sheet : List ℕ) → plannedFrom sight floor (stepsFrom steps k) has previous sheet ≡ sheet
+  pub from-last : (k : ℕ) → length steps / 8 ≤ k → (has : Bool) (previous sheet : List ℕ)
+      → plannedFrom sight floor (stepsFrom steps k) has previous sheet ≡ sheet
   unfolding plannedFrom
   from-last k h has previous sheet = rw (from-done steps k h)
 

@@ -68,7 +68,8 @@ module _ (sight : Bool) (floor steps sheet : List ℕ) where
   -- a number, and the sheet that is left with it
   abbrev Promised : ℕ → List ℕ → Type 0
   Promised n after =
-      (n ≡ legNumberBy sight floor steps sheet) × ((after ≡ legSheetBy sight floor steps sheet) × (n ≡ 0 → LegPlannedBy sight floor (stepsOf steps) sheet after))
+      (n ≡ legNumberBy sight floor steps sheet)
+      × ((after ≡ legSheetBy sight floor steps sheet) × (n ≡ 0 → LegPlannedBy sight floor (stepsOf steps) sheet after))
 
   pub refuses : (n : ℕ) → n ≡ legNumberBy sight floor steps sheet → (n ≡ 0 → ⊥) → Promised n sheet
   refuses n e h = (e, (rw (← e, ne-eqb n 0 h), λ z. absurd (h z)))

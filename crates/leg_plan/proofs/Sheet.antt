@@ -82,7 +82,8 @@ pub record Fits (ss : List (List ℕ)) (sheet : List ℕ) : Type 0 where
 
 module _ (sight : Bool) (floor : List ℕ) where
   -- the first step has no previous field, so that what stands in its place plays no part
-  pub from-none : (ss : List (List ℕ)) (previous other sheet : List ℕ) → plannedFrom sight floor ss false previous sheet ≡ plannedFrom sight floor ss false other sheet
+  pub from-none : (ss : List (List ℕ)) (previous other sheet : List ℕ)
+      → plannedFrom sight floor ss false previous sheet ≡ plannedFrom sight floor ss false other sheet
   unfolding plannedFrom
   from-none [] previous other sheet = refl
   from-none (s ∷ ss) previous other sheet =

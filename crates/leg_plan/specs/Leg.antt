@@ -77,7 +77,8 @@ stepBytes sight floor has previous step = sectorBytes (part floor (sectorOf step
 -- 15 (02, "Job 2"): a step of the list has a window with no counting cell. `has` and `previous` tell of the step before the list.
 unfoldable pub closedFrom : Bool → List ℕ → List (List ℕ) → Bool → List ℕ → Bool
 closedFrom sight floor [] has previous = false
-closedFrom sight floor (s ∷ ss) has previous = isClosed (legTarget sight has previous s) || closedFrom sight floor ss true (stepField sight floor has previous s)
+closedFrom sight floor (s ∷ ss) has previous =
+    isClosed (legTarget sight has previous s) || closedFrom sight floor ss true (stepField sight floor has previous s)
 
 -- the first step has no previous field
 unfoldable pub someClosed : Bool → List ℕ → List (List ℕ) → Bool

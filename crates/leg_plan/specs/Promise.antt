@@ -60,7 +60,8 @@ module _ (sight : Bool) (floor : List ℕ) (steps : List (List ℕ)) where
     pub same-length : length after ≡ length before
     -- demand 3, and arrows clear of walls (02, Job 7), for every sector that is written
     pub demand3 : (k : ℕ) → k < length steps
-        → Planned (costsAt floor steps k) (targetAt k) (builtAt k) (waveCount (costsAt floor steps k) (started (costsAt floor steps k) (targetAt k))) (part after (sectorAt steps k))
+        → Planned (costsAt floor steps k) (targetAt k) (builtAt k)
+        (waveCount (costsAt floor steps k) (started (costsAt floor steps k) (targetAt k))) (part after (sectorAt steps k))
 
 -- of the leg of the documents, with the sight of its goal
 abbrev pub LegPlanned : List ℕ → List (List ℕ) → List ℕ → List ℕ → Type 0

@@ -1,5 +1,5 @@
--- A target: the goal cell, or the window cells, that a sector's field starts from (01, "Integration: init"); or the goal as the one listed corner. Starting, walks, arrows and flow
--- bytes are told by it, and a step by its target.
+-- A target: the goal cell, or the window cells, that a sector's field starts from (01, "Integration: init"); or, without sight, the goal as the one
+-- listed corner (our own addition). Starting, walks, arrows and flow bytes are told by it, and a step by its target.
 -- Assumes nothing.
 use mathlib.Core.Path.{_≡_}
 use mathlib.Core.Bool.{Bool, true, false, cond}

@@ -108,7 +108,8 @@ module _ (costs step : List ℕ) (full : length costs ≡ 100) (good : stepNumbe
   aim-in = sight-in false (targetOf step) (target-in step good)
 
   by-goal : isWindow step ≡ false
-      → GoalCosts costs (goalOf step) (sectorField costs aim .field) × GoalPositions costs (goalOf step) (sectorField costs aim .field) (sectorField costs aim .positions)
+      → GoalCosts costs (goalOf step) (sectorField costs aim .field)
+      × GoalPositions costs (goalOf step) (sectorField costs aim .field) (sectorField costs aim .positions)
   by-goal e =
       let t : aim ≡ to-corner (goalOf step) = ap withoutSight (target-goal step e) in
       rw t (goal-told costs (goalOf step) full (rw t at aim-in) byte)

@@ -40,7 +40,8 @@ returns c =
     let t = s .args .target in
     let byte : (x : ℕ) → x < 100 → getD low x 0 ≤ 255 = λ x h. omega (arith, known .shared-slice-known .given x) in
     runs low (now (s .args .high)) (heldTarget t) (s .pre .low-hundred) (held-in t (s .pre .target-held)) (s .pre .by-window) byte _ _ _ _ _
-    (ap (λ (f : IntegrationField). f .field) (built .build-target .ensures)) (ap (λ (f : IntegrationField). f .field) (built-2 .build-target2 .ensures)) (counted .costs-of .ensures) (counted-2 .costs-of2 .ensures) (c .sure-cells .ensures)
+    (ap (λ (f : IntegrationField). f .field) (built .build-target .ensures)) (ap (λ (f : IntegrationField). f .field) (built-2 .build-target2 .ensures))
+    (counted .costs-of .ensures) (counted-2 .costs-of2 .ensures) (c .sure-cells .ensures)
 
 pub run-spec : {M : Type 1} → statement M
 run-spec =

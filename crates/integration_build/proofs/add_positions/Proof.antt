@@ -7,15 +7,19 @@ use borrow.Author.Needs.{needs}
 use Rattle.integration_build.proofs.add_positions.Statement.{statement}
 use Rattle.integration_build.proofs.add_positions.Tie as tie
 
+-- the call, from where its positions are sought
+abbrev start : tie.After-corner-positions-arg2 → tie.Start
+start c = c .before .before .before .before
+
 positions-requires : tie.Need-corner-positions-requires
 positions-requires c κs =
-    let s = c .before .before .before .before in
+    let s = start c in
     (s .pre .0, (s .pre .1 .full, (s .pre .1 .list-in, s .pre .1 .cells-are)))
 
 returns : tie.Need-returns
 returns c =
     let found = c .before .before in
-    let b = found .before .before .before .before .before .args .built in
+    let b = start (found .before) .args .built in
     ap (λ (l : List ℕ). record {
       number = b .number;
       field = record { field = b .field .field; «los_corners» = b .field .«los_corners»; count = b .field .count; positions = l };

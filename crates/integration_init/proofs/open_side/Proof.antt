@@ -18,14 +18,17 @@ returns c =
     step-told _ _ (cell .from-index .ensures) (step .get-in-compass-direction .ensures .0) (c .enum-told .given .1) in
     rw e
 
--- what the function is given
+-- where the step is taken, and what the function is given
+abbrev step : tie.After-known-told → tie.After-get-in-compass-direction
+step c = c .before .before .before
+
 abbrev start : tie.After-known-told → tie.Start
-start c = c .before .before .before .before .before
+start c = step c .before .before
 
 arrives : (c : tie.After-known-told) → stepped (cellAt (start c .args .from)) (start c .args .side) ≡ Cell (c .before .n .given .0 .0)
 arrives c =
-    let step = c .before .before .before in
-    step-told _ _ (step .before .from-index .ensures) (step .get-in-compass-direction .ensures .0) (c .before .n .given .1)
+    let taken = step c in
+    step-told _ _ (taken .before .from-index .ensures) (taken .get-in-compass-direction .ensures .0) (c .before .n .given .1)
 
 index : (c : tie.After-as-1d-index) → let i = c .as-1d-index .result in (i ≡ indexOf (c .before .before .n .given .0 .0)) × (i < 100)
 index c = index-told (stepped-cell _ _ _ (arrives (c .before)) .within) (c .as-1d-index .ensures)

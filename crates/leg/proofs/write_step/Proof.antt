@@ -25,8 +25,11 @@ built w = w .before .before .before .before
 abbrev targeted : Read → tie.After-target-of
 targeted w = built w .before
 
+abbrev given : tie.After-target-of → tie.Start
+given t = t .before .before .before .before
+
 abbrev start : Read → tie.Start
-start w = targeted w .before .before .before .before
+start w = given (targeted w)
 
 on-floor : (w : Read) → sectorOf (now (start w .args .step)) < 64
 on-floor w = in-floor _ (start w .pre .0 .accepted)
@@ -56,7 +59,7 @@ returns c =
 pub write-step-spec : {M : Type 1} → statement M
 write-step-spec = tie.close (tie.spec
     (λ c κs. search needs) (λ c κs. search needs) (λ c κs. search needs)
-    (λ c. omega (arith, accepted-step _ (c .before .before .before .before .before .before .before .before .pre .0 .accepted) .bytes))
+    (λ c. omega (arith, accepted-step _ (given (c .before .before .before .before) .pre .0 .accepted) .bytes))
     (λ c κs. search needs)
     (λ c. omega (arith, on-floor c)) (λ c. omega (arith, on-floor c))
     (λ c. search needs) (λ c. search needs) (λ c. omega (arith, on-floor (c .before), start (c .before) .pre .1))

@@ -46,7 +46,8 @@ write-step-requires c κs =
     let t = c .before .before .before in
     let l = here t .loop in
     let ready = start t .pre .0 in
-    (record { floor-full = ready .floor-full; accepted = ap stepNumber (lent-step (steps t) (l .k)) ∙ ready .accepted (l .k) (t .loop-test .taken) }, l .inv .1 .0)
+    let good = ap stepNumber (lent-step (steps t) (l .k)) ∙ ready .accepted (l .k) (t .loop-test .taken) in
+    (record { floor-full = ready .floor-full; accepted = good }, l .inv .1 .0)
 
 loop-again : tie.Need-loop-again Inv-loop μ-loop
 loop-again c =
@@ -65,7 +66,8 @@ loop-again c =
 returns : tie.Need-returns Inv-loop μ-loop
 returns c =
     let l = c .before .loop in
-    let s = c .before .before .before .before .before in
+    let left = c .before .before in
+    let s = left .before .before .before in
     let steps = now (s .args .steps) in
     let done : length steps / 8 ≤ l .k = omega arith in
     sym (l .inv .1 .1 ∙ from-last (s .args .sight) (now (s .args .floor)) steps (l .k) done (ltb 0 (l .k)) (l .previous) (l .sheet))

@@ -22,10 +22,17 @@ sector-number-requires c κs = search needs
 refused-requires : tie.Need-refused-requires
 refused-requires c κs = search needs
 
+-- where the number is known: from there all that is lent is known, and the call
+abbrev lent : tie.After-sector-number → tie.After-slice-known
+lent n = n .before
+
+abbrev called : tie.After-sector-number → tie.Start
+called n = lent n .before .before .before .before
+
 returns : tie.Need-returns
 returns c =
     let numbered = c .before .before in
-    let a = numbered .before .before .before .before .before .args in
+    let a = called numbered .args in
     let costs = now (a .costs) in
     let step = now (a .step) in
     let has = a .has-previous in
@@ -41,13 +48,16 @@ new-requires c κs = search needs
 as-target-requires : tie.Need-as-target-requires
 as-target-requires c κs = search needs
 
--- from where the step's target is made: the call, which is not refused, and the target
+-- from where the step's target is made: the number, the call, which is not refused, and the target
+abbrev numbered : tie.After-as-target → tie.After-sector-number
+numbered c = c .before .before .before
+
 abbrev start : tie.After-as-target → tie.Start
-start c = c .before .before .before .before .before .before .before .before
+start c = called (numbered c)
 
 number : (c : tie.After-as-target) → let a = start c .args in
     sectorNumber (now (a .costs)) (now (a .step)) (a .has-previous) (now (a .previous)) (now (a .sheet)) ≡ 0
-number c = sym (c .before .before .before .sector-number .ensures (now (start c .args .sheet)) refl) ∙ c .before .before .if1 .left
+number c = sym (numbered c .sector-number .ensures (now (start c .args .sheet)) refl) ∙ c .before .before .if1 .left
 
 ok : (c : tie.After-as-target) → let a = start c .args in Accepted (now (a .costs)) (now (a .step)) (a .has-previous) (now (a .previous)) (now (a .sheet))
 ok c = let a = start c .args in accepted (now (a .costs)) (now (a .step)) (a .has-previous) (now (a .previous)) (now (a .sheet)) (number c)

@@ -25,14 +25,15 @@ built-requires c κs =
 
 returns : tie.Need-returns
 returns c =
-    let b = c .before .before .before .before .before in
+    let wrote = c .before .before in
+    let b = wrote .before .before .before in
     let f = started b in
     let s = start f in
     let a = s .args in
     let t = a .target in
     runs (now (a .costs)) (heldTarget t) (a .portal) (s .pre .costs-hundred) (held-in t (s .pre .target-held)) (a .has-previous) (now (a .previous))
     (f .start .result) (b .built .result) (heldCells (t .window)) _
-    (f .start .ensures) (b .built .ensures) (sym (held-window t (s .pre .target-held))) (c .before .before .write .ensures)
+    (f .start .ensures) (b .built .ensures) (sym (held-window t (s .pre .target-held))) (wrote .write .ensures)
 
 pub run-spec : {M : Type 1} → statement M
 run-spec = tie.close (tie.spec (λ c κs. search needs) built-requires (λ c κs. search needs) (λ c. search needs) returns)

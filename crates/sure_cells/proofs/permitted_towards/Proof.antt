@@ -28,16 +28,19 @@ stays : (cells : List ℕ) (i : ℕ) (d : CompassDir) (found : PermittedCells) �
     → FoundAlong cells i (d ∷ []) found found
 stays cells i d found e held = record { listed = rw e (sym (append-nil (heldPermitted found))); held = held; few = omega arith }
 
--- the call, and the cell where its step arrives
+-- where the cell is made, the call, and the cell where its step arrives
+abbrev made : tie.After-known-told → tie.After-from-index
+made m = m .before .before .before .before
+
 module _ (m : tie.After-known-told) where
   abbrev start : tie.Start
-  start = m .before .before .before .before .before
+  start = made m .before
 
   abbrev to : FieldCell
   to = m .before .to .given .0 .0
 
   abbrev from : FieldCell
-  from = m .before .before .before .before .from-index .result
+  from = made m .from-index .result
 
   arrives : stepped (cellAt (start .args .index)) (start .args .dir) ≡ Cell to
   arrives =
@@ -48,15 +51,14 @@ module _ (m : tie.After-known-told) where
   to-in = stepped-cell _ _ _ arrives .within
 
   from-in : Inside from
-  from-in = rw (m .before .before .before .before .from-index .ensures) (cell-inside (start .args .index) (start .pre .0))
+  from-in = rw (made m .from-index .ensures) (cell-inside (start .args .index) (start .pre .0))
 
 -- the answer of the test is of the index
 tested : (m : tie.After-is-passed-over) → let s = start (m .before) in
     isPassedOver (now (s .args .cells)) (s .args .index) (indexOf (to (m .before))) ≡ m .is-passed-over .result
 tested m =
     let s = start (m .before) in
-    let made = m .before .before .before .before .before in
-    let f : indexOf (from (m .before)) ≡ s .args .index = ap indexOf (made .from-index .ensures) ∙ index-of-cell (s .args .index) in
+    let f : indexOf (from (m .before)) ≡ s .args .index = ap indexOf (made (m .before) .from-index .ensures) ∙ index-of-cell (s .args .index) in
     ap (λ (i : ℕ). isPassedOver (now (s .args .cells)) i (indexOf (to (m .before)))) (sym f) ∙ sym (m .is-passed-over .ensures)
 
 from-index-requires : tie.Need-from-index-requires

@@ -43,7 +43,8 @@ returns-2 c =
     let j = s .args .j in
     let l : j < length steps / 8 = omega arith in
     let built : b .build-target .result .field ≡ builtCells costs (targetOf (stepOf (stepsOf steps) j))
-    = ap (λ (f : IntegrationField). f .field) (b .build-target .ensures) ∙ ap (builtCells costs) (t .target-at .ensures .1 ∙ ap targetOf (sym (step-of steps j l))) in
+    = ap (λ (f : IntegrationField). f .field) (b .build-target .ensures)
+    ∙ ap (builtCells costs) (t .target-at .ensures .1 ∙ ap targetOf (sym (step-of steps j l))) in
     c .column-of .ensures ∙ ap (λ (cells : List ℕ). map (leastFrom cells (stepsOf steps)) (below 8)) built
     ∙ column-used costs (stepsOf steps) j (omega (arith, steps-count steps))
 
