@@ -74,7 +74,7 @@ module _ (sight : Bool) (floor steps sheet : List ℕ) (j : Judged floor steps s
 
   -- what is known of them
   so : LegPlannedBy sight floor ss sheet after
-  so = plan.leg-planned sight floor steps sheet (ready j) (j .sheet-full)
+  so = plan.leg-planned sight floor steps sheet (ready j) (j .sheet-full) bytes
 
   good : (k : ℕ) → k < length ss → stepNumber (stepOf ss k) ≡ 0
   good = plan.good sight floor steps sheet (ready j) (j .sheet-full)
@@ -99,7 +99,7 @@ module _ (sight : Bool) (floor steps sheet : List ℕ) (j : Judged floor steps s
     full = plan.part-hundred floor (sector k) (j .floor-full) (in-floor k h)
 
     byte : (x : ℕ) → x < 100 → getD (costs k) x 0 ≤ 255
-    byte x l = rw (getD-take 100 (drop (sector k * 100) floor) x 0 l, getD-drop (sector k * 100) floor x 0) (bytes (sector k * 100 + x))
+    byte = plan.part-bytes floor (sector k) bytes
 
     led : isSightless (target k) ≡ true → ArrowsLead (costs k) (target k) (built k) (written k)
     led e =
@@ -126,6 +126,7 @@ module _ (sight : Bool) (floor steps sheet : List ℕ) (j : Judged floor steps s
           let kept : MoveInside sight floor ss k (placeOf (sector k) x) (placeOf (sector k) y) = record {
             lower = rw (p, q) (m .lower);
             uncut = rw (p, q) (m .uncut);
+            clear = rw (p, q) (so .demand3 k h .clear .past-no-wall x y l (m .inside) (m .away));
           } in
           let no-stop : Stops sight floor ss k (cellIn (placeOf (sector k) x)) → ⊥ = λ c. o (stops x (subst (Stops sight floor ss k) p c)) in
           (suc (r .0), omega (arith, r .1), journey.moves no-stop (on-sheet l away) (reached-in k (m .inside) w) kept (r .2))

@@ -34,6 +34,6 @@ module _ (sight : Bool) (floor steps sheet : List ℕ) where
   pub plans : ((i : ℕ) → getD floor i 0 ≤ 255) → legNumberBy sight floor steps sheet ≡ 0
       → (after : List ℕ) → after ≡ planned sight floor (stepsOf steps) sheet → Promised 0 after
   plans bytes z after e =
-      let p = plan.plans sight floor steps sheet z after e in
+      let p = plan.plans sight floor steps sheet bytes z after e in
       let j = accepted sight floor steps sheet z .0 in
       (p .0, (p .1 .0, (p .1 .1, λ q. subst (Arrives sight floor (stepsOf steps)) (sym e) (arrives sight floor steps sheet j bytes))))

@@ -8,7 +8,7 @@ use lib.ListN.{length, getD}
 use Rattle.route.specs.Step.{goalOf}
 use Rattle.route.specs.Target.{WindowCell}
 use Rattle.step_list.specs.Steps.{stepOf}
-use Rattle.arrows.specs.Arrows.{builtCost, Reached, Cuts}
+use Rattle.arrows.specs.Arrows.{builtCost, Reached, Cuts, PassesWall}
 use Rattle.leg_plan.specs.Promise.{sectorAt, costsAt, builtAt, targetAt}
 use Rattle.journey.specs.Place.{Place, placeOf, sectorIn, cellIn, FloorMove}
 
@@ -18,10 +18,12 @@ module _ (sight : Bool) (floor : List ℕ) (steps : List (List ℕ)) where
     pub in-sector : sectorIn p ≡ sectorAt steps k
     pub reached : Reached (builtAt sight floor steps k) (cellIn p)
 
-  -- what demand 3 says of a move inside that sector: it goes to a cell of strictly lower built cost, and does not cut between two walls
+  -- A move inside that sector: it goes to a cell of strictly lower built cost and does not cut between two walls (demand 3), and passes no wall
+  -- diagonally (02, "Job 7").
   pub record MoveInside (k : ℕ) (p q : Place) : Type 0 where
     pub lower : builtCost (builtAt sight floor steps k) (cellIn q) < builtCost (builtAt sight floor steps k) (cellIn p)
     pub uncut : Cuts (costsAt floor steps k) (targetAt sight floor steps k) (cellIn p) (cellIn q) → ⊥
+    pub clear : PassesWall (costsAt floor steps k) (targetAt sight floor steps k) (cellIn p) (cellIn q) → ⊥
 
   -- Where following in a sector stops. In the goal's sector, that of step 0: anywhere, or at the goal where it is planned without sight. In any other:
   -- at a counting cell of its window, from which a move crosses.

@@ -1,14 +1,17 @@
 -- What is promised of a leg, of whatever equals the definitions.
 --     fits             its steps and its sheet fit each other
+--     part-hundred     a sector's part of a floor has 100 bytes
+--     part-bytes       and they are bytes
 --     leg-planned      each part of the sheet, and demand 3 and arrows clear of walls for every sector that is written
 --     refuses, plans   all that is promised of a number and a sheet
 -- Assumes nothing.
 use mathlib.Core.Path.{_≡_, sym, ap, subst, _∙_}
 use mathlib.Core.Bool.{Bool, false}
 use mathlib.Core.List.{List, []}
-use Prim.Native.Nat.{ℕ, _/_, _<_}
+use Prim.Native.Nat.{ℕ, _+_, _*_, _/_, _<_, _≤_}
 use native.Mathlib.Omega.{arith}
-use lib.ListN.{length, length-take, length-drop}
+use lib.ListN.{length, getD, drop, length-take, length-drop}
+use lib.Seq.{getD-take, getD-drop}
 use borrow.Author.Tests.{ne-eqb}
 use Rattle.route.specs.Step.{stepNumber}
 use Rattle.route.specs.Target.{TargetIn}
@@ -31,6 +34,10 @@ use Rattle.leg_plan.proofs.Sheet.{Fits, full-after, kept, written, buil
 pub part-hundred : (l : List ℕ) (sector : ℕ) → length l ≡ 6400 → sector < 64 → length (part l sector) ≡ 100
 part-hundred l sector e h = simp (length-take, length-drop) (omega arith)
 
+-- the costs of a floor are bytes, and so are a sector's
+pub part-bytes : (l : List ℕ) (sector : ℕ) → ((i : ℕ) → getD l i 0 ≤ 255) → (x : ℕ) → x < 100 → getD (part l sector) x 0 ≤ 255
+part-bytes l sector bytes x h = rw (getD-take 100 (drop (sector * 100) l) x 0 h, getD-drop (sector * 100) l x 0) (bytes (sector * 100 + x))
+
 module _ (sight : Bool) (floor steps sheet : List ℕ) (ready : LegReady floor steps) (sheet-full : length sheet ≡ 6400) where
   pub good : (k : ℕ) → k < length (stepsOf steps) → stepNumber (stepOf (stepsOf steps) k) ≡ 0
   good k h =
@@ -43,9 +50,9 @@ module _ (sight : Bool) (floor steps sheet : List ℕ) (ready : LegReady floor s
   pub target-at : (k : ℕ) → k < length (stepsOf steps) → TargetIn (targetAt sight floor (stepsOf steps) k)
   target-at k h = leg-target-in sight (hasBefore k) (builtBefore sight floor (stepsOf steps) k) (stepOf (stepsOf steps) k) (good k h)
 
-  pub leg-planned : LegPlannedBy sight floor (stepsOf steps) sheet (planned sight floor (stepsOf steps) sheet)
+  pub leg-planned : ((i : ℕ) → getD floor i 0 ≤ 255) → LegPlannedBy sight floor (stepsOf steps) sheet (planned sight floor (stepsOf steps) sheet)
   unfolding planned
-  leg-planned =
+  leg-planned small =
       let wrote = written sight floor (stepsOf steps) fits (ready .named-once) in
       record {
         written = wrote;
@@ -60,7 +67,7 @@ module _ (sight : Bool) (floor steps sheet : List ℕ) (ready : LegReady floor s
             (sym (built-is sight floor (stepsOf steps) k))
             (subst (sector.Planned costs target (sectorField costs target .field) (waveCount costs (started costs target))) (sym (wrote k h))
             (sector-planned costs target (portalAt (stepsOf steps) k) (part-hundred floor (sectorAt (stepsOf steps) k) (ready .floor-full) (fits .in-floor k h))
-            (target-at k h) (hasBefore k) (builtBefore sight floor (stepsOf steps) k)
+            (target-at k h) (hasBefore k) (builtBefore sight floor (stepsOf steps) k) (part-bytes floor (sectorAt (stepsOf steps) k) small)
             (leg-target-on sight (hasBefore k) (builtBefore sight floor (stepsOf steps) k) (stepOf (stepsOf steps) k))));
       }
 
@@ -74,7 +81,7 @@ module _ (sight : Bool) (floor steps sheet : List ℕ) where
   pub refuses : (n : ℕ) → n ≡ legNumberBy sight floor steps sheet → (n ≡ 0 → ⊥) → Promised n sheet
   refuses n e h = (e, (rw (← e, ne-eqb n 0 h), λ z. absurd (h z)))
 
-  pub plans : legNumberBy sight floor steps sheet ≡ 0 → (after : List ℕ) → after ≡ planned sight floor (stepsOf steps) sheet → Promised 0 after
-  plans z after e =
+  pub plans : ((i : ℕ) → getD floor i 0 ≤ 255) → legNumberBy sight floor steps sheet ≡ 0 → (after : List ℕ) → after ≡ planned sight floor (stepsOf steps) sheet → Promised 0 after
+  plans bytes z after e =
       let j = accepted sight floor steps sheet z .0 in
-      (sym z, (rw z e, λ q. subst (LegPlannedBy sight floor (stepsOf steps) sheet) (sym e) (leg-planned sight floor steps sheet (ready j) (j .sheet-full))))
+      (sym z, (rw z e, λ q. subst (LegPlannedBy sight floor (stepsOf steps) sheet) (sym e) (leg-planned sight floor steps sheet (ready j) (j .sheet-full) bytes)))

@@ -74,12 +74,13 @@ module _ (costs : List ℕ) (target : Target) (portal : PortalWindow) where
         let e : b ≡ answerOf 0 costs (started costs target) = q ∙ ap (answerOf 0 costs) p in
         (e, run-bytes has previous (b .field .field) window bytes (ap (λ (a : BuildAnswer). a .field .field) e) w t)
 
-    pub sector-planned : OnEdge portal target
+    -- costs are bytes
+    pub sector-planned : ((x : ℕ) → x < 100 → getD costs x 0 ≤ 255) → OnEdge portal target
         → Planned costs target (sectorField costs target .field) (waveCount costs (started costs target)) (sectorBytes costs target portal has previous)
     unfolding sectorBytes
-    sector-planned on = record {
+    sector-planned byte on = record {
       walks = demand3 costs target full inside;
-      arrows = λ w. arrows-lead costs target w portal has previous;
+      arrows = λ w z. arrows-lead costs target (record { full = full; no-zero = z; byte = byte; target-in = inside; by-window = w }) portal has previous;
       clear = arrows-clear costs target full inside portal on has previous;
     }
 
@@ -143,16 +144,16 @@ module _ (sight : Bool) (costs step : List ℕ) (has : Bool) (previous sheet : L
       let not-zero : r .number ≡ 0 → ⊥ = λ z. h (sym (ap (λ (b : BuildAnswer). b .number) q) ∙ z) in
       (q ∙ rw (← e), (rw (← e, ne-eqb (suc n) 0 h), (λ z. absurd (not-zero z), λ z. absurd (not-zero z))))
 
-  pub accepts : sectorNumber costs step has previous sheet ≡ 0 → (b : BuildAnswer) (bytes : List ℕ)
+  pub accepts : ((x : ℕ) → x < 100 → getD costs x 0 ≤ 255) → sectorNumber costs step has previous sheet ≡ 0 → (b : BuildAnswer) (bytes : List ℕ)
       → b ≡ answerOf 0 costs (started costs target) → bytes ≡ sectorBytes costs target (portalOf step) has previous → Promised b bytes
-  accepts z b bytes e w =
+  accepts byte z b bytes e w =
       let ok = accepted costs step has previous sheet z in
       let inside = sight-in sight (targetOf step) (target-in step (ok .step-good)) in (
         e ∙ rw z,
         (
           w ∙ rw z,
           (
-            λ _. rw (e, w) (sector-planned costs target (portalOf step) (ok .costs-hundred) inside has previous (sight-on sight step)),
+            λ _. rw (e, w) (sector-planned costs target (portalOf step) (ok .costs-hundred) inside has previous byte (sight-on sight step)),
             λ _. rw e (started-positions costs target (ok .costs-hundred) inside),
           ),
         ),

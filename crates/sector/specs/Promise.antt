@@ -2,22 +2,23 @@
 -- bytes that lead; and that its arrows are clear of walls (02, "Job 7").
 -- Assumes nothing.
 use mathlib.Core.Path.{_≡_}
-use mathlib.Core.Bool.{false}
+use mathlib.Core.Bool.{true, false}
 use mathlib.Core.Logic.{_↔_}
 use mathlib.Core.List.{List}
 use Prim.Native.Nat.{ℕ}
 use Rattle.route.specs.Step.{goalOf, isWindow}
-use Rattle.route.specs.Target.{Target, EndCell, withoutSight, targetOf}
+use Rattle.route.specs.Target.{Target, byWindow, EndCell, withoutSight, targetOf}
 use Rattle.integration_field.specs.declared.IntegrationField.{IntegrationField}
 use Rattle.least_walks.specs.Promise.{Demand3}
 use Rattle.least_walks.specs.Goal.{GoalCosts, GoalPositions}
 use Rattle.arrows.specs.Arrows.{ClearArrows, CellsMarked, ArrowsLead}
-use Rattle.arrows.specs.Promise.{WindowSector, NoCostZero}
+use Rattle.arrows.specs.Promise.{NoCostZero}
 
 -- `built` are the cells of the built field, `waves` the count, `bytes` what was written
 pub record Planned (costs : List ℕ) (target : Target) (built : List ℕ) (waves : ℕ) (bytes : List ℕ) : Type 0 where
   pub walks : Demand3 costs target built waves
-  pub arrows : WindowSector costs target → ArrowsLead costs target built bytes
+  -- left by a window, with no cost 0
+  pub arrows : byWindow target ≡ true → NoCostZero costs → ArrowsLead costs target built bytes
   pub clear : ClearArrows costs target bytes
 
 -- What is promised besides of a sector that was planned without sight (our own addition). `field` is the built field; its costs are bytes.

@@ -1,7 +1,10 @@
 -- `sector::plan_by_sight` meets its contract: refused by its number, or what the run of its step's target leaves.
 -- Assumes nothing.
 use mathlib.Core.Path.{_≡_, refl, sym, ap, ap₂, _∙_}
+use Prim.Native.Nat.{ℕ, _≤_, _<_}
+use native.Mathlib.Omega.{arith}
 use denote.Ref.{now}
+use lib.ListN.{getD}
 use Rattle.route.specs.declared.PortalWindow.{PortalWindow}
 use Rattle.route.specs.declared.RouteStep.{RouteStep}
 use Rattle.route.specs.Target.{Target}
@@ -22,12 +25,15 @@ sector-number-requires c κs = search needs
 refused-requires : tie.Need-refused-requires
 refused-requires c κs = search needs
 
--- where the number is known: from there all that is lent is known, and the call
-abbrev lent : tie.After-sector-number → tie.After-slice-known
-lent n = n .before
+-- where the number is known: from there all that is lent is known, the costs first, which are bytes; and the call
+abbrev bytes-known : tie.After-sector-number → tie.After-shared-slice-known
+bytes-known n = n .before .before .before .before
 
 abbrev called : tie.After-sector-number → tie.Start
-called n = lent n .before .before .before .before
+called n = bytes-known n .before
+
+byte : (n : tie.After-sector-number) (x : ℕ) → x < 100 → getD (now (called n .args .costs)) x 0 ≤ 255
+byte n x h = omega (arith, bytes-known n .shared-slice-known .given x)
 
 returns : tie.Need-returns
 returns c =
@@ -88,7 +94,7 @@ returns-2 c =
     let target = seen-target (now (a .step)) (t .before .new .result) (t .as-target .result) (t .before .new .ensures) (t .as-target .ensures)
     (a .sight) (u .by-sight .result) (u .by-sight .ensures) in
     let portal = ap (λ (s : RouteStep). s .portal) (t .before .new .ensures) in
-    accepts (a .sight) costs (now (a .step)) (a .has-previous) (now (a .previous)) (now (a .sheet)) (number t) _ _
+    accepts (a .sight) costs (now (a .step)) (a .has-previous) (now (a .previous)) (now (a .sheet)) (byte (numbered t)) (number t) _ _
     (ran .run .ensures .0 ∙ ap (λ (u : Target). answerOf 0 costs (started costs u)) target)
     (ran .run .ensures .1 ∙ ap₂ (λ (u : Target) (p : PortalWindow). sectorBytes costs u p (a .has-previous) (now (a .previous))) target portal)
 
