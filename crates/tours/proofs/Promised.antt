@@ -1,23 +1,23 @@
 -- What is promised of a tour of windows, of its definition.
 --     tried-is        the number tried is the limit or factorial n - 1, the smaller
 --     best-answer     the best order tried, or no order; and the best there is, if all were tried
---     least-answer    no order's sum goes under the least figure
+--     least-answer    the least figure is the sum of the cheapest entries, and no order's sum goes under it
 -- Assumes nothing.
 use mathlib.Core.Path.{_≡_, refl, sym, ap, _∙_}
 use mathlib.Core.Bool.{true, false}
 use mathlib.Core.Logic.{⊎-elim}
 use mathlib.Core.List.{List, []}
-use Prim.Native.Nat.{ℕ, _-_, _<_, _≤_, min}
+use Prim.Native.Nat.{ℕ, zero, suc, _+_, _-_, _<_, _≤_, min}
 use native.Mathlib.Omega.{arith}
 use native.Mathlib.Decide.{decLt}
 use lib.ListN.{length, getD, take}
-use Rattle.tour_orders.specs.Orders.{orders, factorial}
+use Rattle.tour_orders.specs.Orders.{numbersFrom, orders, factorial}
 use Rattle.tour_orders.specs.Told.{IsOrder}
 use Rattle.tour_orders.proofs.Orders.{count, all-orders}
 use Rattle.tours.specs.declared.Tour.{Tour}
 use Rattle.tours.specs.declared.WindowTour.{WindowTour}
-use Rattle.tours.specs.Tours.{tourSum, noTour, bestTour, triedCount, windowTour}
-use Rattle.tours.specs.Promise.{TourSquare, CountingOrder, Tried, BestTried, NoneTried, BestAnswer, LeastAnswer}
+use Rattle.tours.specs.Tours.{tourSum, noTour, bestTour, cheapestEntry, summed, leastFigure, triedCount, windowTour}
+use Rattle.tours.specs.Promise.{TourSquare, CountingOrder, Tried, BestTried, NoneTried, BestAnswer, overOthers, LeastAnswer}
 use Rattle.tours.proofs.Counting.{counts-told, told-counts}
 use Rattle.tours.proofs.Best.{None, At, Best, best-first, never}
 use Rattle.tours.proofs.Least.{cheapest-entry, under}
@@ -25,6 +25,13 @@ use Rattle.tours.proofs.Least.{cheapest-entry, under}
 pub tried-is : (n limit : ℕ) → triedCount n limit ≡ min limit (factorial (n - 1))
 unfolding triedCount
 tried-is n limit = ap (min limit) (count n)
+
+-- the sum over windows that are listed in order is the sum over their numbers
+over-others : (entry : ℕ → ℕ) (a m : ℕ) → summed entry (numbersFrom (suc a) m) + overOthers entry a ≡ overOthers entry (a + m)
+over-others entry a zero = let same : a ≡ a + zero = omega arith in omega (arith, ap (overOthers entry) same)
+over-others entry a (suc m) =
+    let next : suc a + m ≡ a + suc m = omega arith in
+    omega (arith, over-others entry (suc a) m, ap (overOthers entry) next)
 
 module _ (square : List (List ℕ)) (n limit : ℕ) (s : TourSquare square n) where
   abbrev answer : WindowTour
@@ -113,5 +120,13 @@ module _ (square : List (List ℕ)) (n limit : ℕ) (s : TourSquare square n) wh
       answer-tried = unfold windowTour in refl
 
   pub least-answer : LeastAnswer square n (windowTour square n limit)
-  unfolding windowTour
-  least-answer = record { under = under square n s; cheapest = cheapest-entry square n s }
+  unfolding windowTour leastFigure
+  least-answer =
+      let all : 0 + (n - 1) ≡ n - 1 = omega arith in
+      record {
+        entries = (entry, cheapest-entry square n s, omega (arith, over-others entry 0 (n - 1), ap (overOthers entry) all));
+        under = under square n s;
+      }
+    where
+      entry : ℕ → ℕ
+      entry b = cheapestEntry square b n

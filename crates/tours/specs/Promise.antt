@@ -3,13 +3,13 @@
 use mathlib.Core.Path.{_≡_}
 use mathlib.Core.Bool.{true, false}
 use mathlib.Core.List.{List, []}
-use Prim.Native.Nat.{ℕ, suc, _-_, _<_, _≤_, min}
+use Prim.Native.Nat.{ℕ, zero, suc, _+_, _-_, _<_, _≤_, min}
 use lib.ListN.{length, getD, replicate}
 use Rattle.utilities.specs.Padded.{padded}
 use Rattle.tour_orders.specs.Orders.{orders, factorial}
 use Rattle.tour_orders.specs.Told.{IsOrder}
 use Rattle.tours.specs.declared.WindowTour.{WindowTour}
-use Rattle.tours.specs.Tours.{moveCost, tourSum, cheapestEntry}
+use Rattle.tours.specs.Tours.{moveCost, tourSum}
 
 -- the square of 2 to 8 windows as Job 13 fills it: no cost above 65535
 pub record TourSquare (square : List (List ℕ)) (n : ℕ) : Type 0 where
@@ -54,7 +54,13 @@ pub record CheapestEntry (square : List (List ℕ)) (n b cost : ℕ) : Type 0 wh
   pub at-most : (a : ℕ) → a < n → (a ≡ b → ⊥) → cost ≤ moveCost square a b
   pub met : (a : ℕ) × (a < n) × (a ≡ b → ⊥) × (cost ≡ moveCost square a b)
 
--- no order's sum goes under the least figure, tried or not, counting or not
+-- the sum of a number for each of the windows 1 to m
+abbrev pub overOthers : (ℕ → ℕ) → ℕ → ℕ
+overOthers entry zero = 0
+overOthers entry (suc m) = overOthers entry m + entry (suc m)
+
+-- The least figure is the sum, over the windows but the first, of numbers that are each the cheapest entry into its window; and no order's sum goes
+-- under it, tried or not, counting or not.
 pub record LeastAnswer (square : List (List ℕ)) (n : ℕ) (answer : WindowTour) : Type 0 where
+  pub entries : (entry : ℕ → ℕ) × ((b : ℕ) → b < n → CheapestEntry square n b (entry b)) × (answer .least ≡ overOthers entry (n - 1))
   pub under : (order : List ℕ) → IsOrder n order → answer .least ≤ tourSum square order
-  pub cheapest : (b : ℕ) → b < n → CheapestEntry square n b (cheapestEntry square b n)
