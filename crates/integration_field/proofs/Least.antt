@@ -260,6 +260,7 @@ module _ (costs cells corners : List ℕ) where
     pub waves-counted : Counted costs cells corners (build costs cells corners .cells) n
     waves-counted = rw built-at (record {
       are-waves = waves;
+      by-value = λ k x. (differs-fell k x, fell-differs k x);
       exact = exact;
       at-most = few-waves;
       settled = λ k l. (let e : (k - n) + n ≡ k = omega arith in rw e at (rests (k - n)));

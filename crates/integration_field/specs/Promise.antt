@@ -45,6 +45,9 @@ module _ (costs cells corners : List ℕ) where
   pub record Counted (built : List ℕ) (waves : ℕ) : Type 0 where
     -- they are waves: each cell that the wave before changed offers what that wave left it, and nothing else changes a cell
     pub are-waves : Waves (grid costs cells corners) OpenAt valueAt
+    -- a wave changes a cell's word exactly where it lowers its value
+    pub by-value : (k x : ℕ) → (getD (waveAt costs cells corners (suc k) .cells) x 0 ≡ getD (waveAt costs cells corners k .cells) x 0 → ⊥)
+        ↔ (valueAt (suc k) x < valueAt k x)
     -- wave k changes a cell if and only if k is at least 1 and at most the count
     pub exact : (k : ℕ) → Changes k ↔ ((1 ≤ k) × (k ≤ waves))
     -- no 100th wave changes a cell
