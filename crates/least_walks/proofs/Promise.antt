@@ -21,7 +21,7 @@ use Rattle.integration_field.specs.Listed.{listOf}
 use Rattle.integration_field.specs.declared.IntegrationField.{IntegrationField}
 use Rattle.integration_field.specs.declared.BuildAnswer.{BuildAnswer}
 use Rattle.integration_field.specs.Build.{build}
-use Rattle.integration_field.specs.Answer.{answerOf, allCells, Accepted, buildAnswer}
+use Rattle.integration_field.specs.Answer.{answerOf, allCells, Accepted, buildNumber, buildAnswer}
 use Rattle.integration_field.specs.Position.{positions}
 use Rattle.integration_field.specs.Promise.{LeastWalks, EarliestCorners}
 use Rattle.integration_field.proofs.Answers.{number-accepted}
@@ -32,7 +32,7 @@ use Rattle.started_field.specs.Started.{started, StartedCells, StartedField, in
 use Rattle.started_field.specs.StartedCell.{CornerStarted}
 use Rattle.started_field.proofs.Started.{started-field, accepted-target, answered}
 use Rattle.least_walks.specs.Walks.{Wall}
-use Rattle.least_walks.specs.Promise.{Demand3, StartedPositions, OnceBuilt, BuildsStarted}
+use Rattle.least_walks.specs.Promise.{Demand3, StartedPositions, OnceBuilt, SameStart, BuildsStarted}
 use Rattle.least_walks.specs.Goal.{GoalCosts, GoalPositions}
 use Rattle.least_walks.proofs.Started.{Ground, started-least}
 use Rattle.least_walks.proofs.Ground.{mem-among, goal-ground, window-ground, corner-ground}
@@ -42,6 +42,16 @@ all-below : (l : List ℕ) → ((i : ℕ) → i < length l → getD l i 0 < 100)
 unfolding allCells
 all-below [] h = refl
 all-below (x ∷ xs) h = rw (lt-ltb x 100 (h zero (omega arith))) (all-below xs (λ i g. h (suc i) (omega arith)))
+
+-- fields that start alike are built alike: building reads no positions
+any-positions : (costs : List ℕ) (g : IntegrationField) (positions : List ℕ) (n : ℕ)
+    → answerOf n costs (record { field = g .field; «los_corners» = g .«los_corners»; count = g .count; positions = positions }) ≡ answerOf n costs g
+any-positions costs g positions zero = refl
+any-positions costs g positions (suc n) = refl
+
+same-answer : (costs : List ℕ) (f g : IntegrationField) → SameStart f g → buildAnswer costs f ≡ buildAnswer costs g
+unfolding buildNumber
+same-answer costs f g e = rw (e .cells-same, e .list-same, e .count-same) (any-positions costs g (f .positions) (buildNumber costs g))
 
 -- what a started field's cells and corners are, by the kind of the target
 module _ (costs : List ℕ) (full : length costs ≡ 100) (cells corners : List ℕ) where
@@ -97,11 +107,11 @@ module _ (costs : List ℕ) (target : Target) (full : length costs ≡ 100) (tar
     counted = waves-counted costs cells corners hundred inside;
   }
 
-  -- built by `build`
-  pub built : (f : IntegrationField) → f ≡ started costs target → buildAnswer costs f ≡ answerOf 0 costs (started costs target)
-  built f e = rw (e, number-accepted costs (started costs target) accepts-started)
+  -- built by `build`, which does not read positions
+  pub built : (f : IntegrationField) → SameStart f (started costs target) → buildAnswer costs f ≡ answerOf 0 costs (started costs target)
+  built f e = same-answer costs f (started costs target) e ∙ rw (number-accepted costs (started costs target) accepts-started)
 
-  pub builds : (f : IntegrationField) (r : BuildAnswer) → r ≡ buildAnswer costs f → f ≡ started costs target
+  pub builds : (f : IntegrationField) (r : BuildAnswer) → r ≡ buildAnswer costs f → SameStart f (started costs target)
       → (r .number ≡ 0) × Demand3 costs target (r .field .field) (r .waves)
   builds f r e q = rw (e ∙ built f q) (refl, demand3)
 

@@ -26,7 +26,14 @@ StartedPositions costs target built positions =
 abbrev pub OnceBuilt : List ℕ → Target → IntegrationField → Type 0
 OnceBuilt costs target f = Demand3 costs target (builtField costs f .field) (waveCount costs f)
 
--- of `build`: where the field given is `init`'s for these costs and a step that it accepts, the call is accepted, and demand 3 holds of its answer
+-- a field with the cells and the list of another, whatever its positions
+pub record SameStart (f g : IntegrationField) : Type 0 where
+  pub cells-same : f .field ≡ g .field
+  pub list-same : f .«los_corners» ≡ g .«los_corners»
+  pub count-same : f .count ≡ g .count
+
+-- of `build`: where the field given has the values, flags and list of `init`'s for these costs and a step that it accepts (01: a started field), the
+-- call is accepted, and demand 3 holds of its answer
 pub record BuildsStarted (costs : List ℕ) (f : IntegrationField) (r : BuildAnswer) : Type 0 where
-  pub started-built : (step : List ℕ) → initNumber costs step ≡ 0 → f ≡ started costs (targetOf step)
+  pub started-built : (step : List ℕ) → initNumber costs step ≡ 0 → SameStart f (started costs (targetOf step))
       → (r .number ≡ 0) × Demand3 costs (targetOf step) (r .field .field) (r .waves)
