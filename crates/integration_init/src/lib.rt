@@ -105,18 +105,18 @@ fn mark_line(
     count: usize,
     corner: usize,
     drawn: &[usize; 10],
-    length: usize,
+    size: usize,
     wavefront_cost: u32,
 ) -> usize
-    requires { ⌜ (Ready (now cells) (now corners) count) × ((Indexes 10 (now drawn) length) × ((corner < 100) × («wavefront_cost» ≤ 100))) ⌝ }
-    ensures { λ r. ⌜ Applied (lineMarked «wavefront_cost» 0 corner (take length (now (drawn .entry))))
+    requires { ⌜ (Ready (now cells) (now corners) count) × ((Indexes 10 (now drawn) size) × ((corner < 100) × («wavefront_cost» ≤ 100))) ⌝ }
+    ensures { λ r. ⌜ Applied (lineMarked «wavefront_cost» 0 corner (take size (now (drawn .entry))))
         (now (cells .entry)) (now (corners .entry)) count (now (cells .exit)) (now (corners .exit)) r ⌝ }
 {
     let mut listed = count;
     let mut previous = corner;
     let mut value = wavefront_cost + 1;
     let mut i = 0;
-    while i < length {
+    while i < size {
         let n = drawn[i];
         if is_stopped(cells, previous, n) {
             return listed;
@@ -146,16 +146,8 @@ fn extend_los_corner(
     let from = FieldCell::from_index(corner);
     let end = FieldCell::from_index(line_end_table::read_end(ends, corner, goal));
     let mut drawn: [usize; 10] = [0; 10];
-    let length = bresenham::draw_cells_between_points(from, end, &mut drawn);
-    mark_line(
-        cells,
-        corners,
-        count,
-        corner,
-        &drawn,
-        length,
-        wavefront_cost,
-    )
+    let size = bresenham::draw_cells_between_points(from, end, &mut drawn);
+    mark_line(cells, corners, count, corner, &drawn, size, wavefront_cost)
 }
 
 // Tries one side of a wall that cell `from` met: its side cell is a corner, where neither that nor the side cell of `from` is a wall.

@@ -21,7 +21,7 @@ abbrev μ-loop : tie.MeasureT-loop
 loop-holds : tie.Need-loop-holds Inv-loop μ-loop
 loop-holds c =
     let a = c .args in
-    walk-starts (a .wavefront-cost) (a .corner) (now (a .drawn)) (a .length) (now (a .cells)) (now (a .corners)) (a .count) (c .pre .1 .1 .0) (c .pre .0)
+    walk-starts (a .wavefront-cost) (a .corner) (now (a .drawn)) (a .size) (now (a .cells)) (now (a .corners)) (a .count) (c .pre .1 .1 .0) (c .pre .0)
 
 -- from a turn of the loop: the call, the index of the i-th cell, and that the turn is one of the line's
 module _ (r : tie.In-loop Inv-loop μ-loop) where
@@ -31,17 +31,17 @@ module _ (r : tie.In-loop Inv-loop μ-loop) where
   abbrev index : ℕ
   index = getD (now (start .args .drawn)) (r .before .loop .i) 0
 
-  turn : r .before .loop .i < start .args .length
+  turn : r .before .loop .i < start .args .size
   turn = r .loop-test .taken
 
   cell : index < 100
   cell = start .pre .1 .0 .cells-in (r .before .loop .i) turn
 
-  few : start .args .length ≤ 10
+  few : start .args .size ≤ 10
   few = start .pre .1 .0 .count-in
 
   -- the line fits its array
-  long : start .args .length ≤ length (now (start .args .drawn))
+  long : start .args .size ≤ length (now (start .args .drawn))
   long = omega (arith, start .pre .1 .0 .full, few)
 
   -- the i-th value is below the flags
