@@ -1,6 +1,6 @@
 /*
- * Plans a sector that is drawn as text, and shows its arrows beside its flow bytes; or the practice floor of a seed, and
- * shows the floor beside them; or a whole floor with a leg (floor.c, plan.c, text.c). A floor and a practice floor can also be
+ * Plans a sector that is drawn as text, or the practice floor of a seed, and shows the drawing, its arrows and its flow
+ * bytes side by side; or a whole floor with a leg (floor.c, plan.c, text.c). A floor and a practice floor can also be
  * written as a picture (picture.c). Each is planned with sight, or without where that is asked for.
  * The drawing is turned into costs and a step here; every practice floor comes from hanjolum_practice_floor, every arrow
  * from hanjolum_sector or hanjolum_sector_without_sight, and which arrows never arrive from hanjolum_arrivals. A window wants
@@ -29,6 +29,7 @@ const char *const LETTERS[] = {"N ", "E ", "S ", "W ", "NE", "SE", "SW", "NW"};
 struct drawing {
     const char *name;
     uint8_t costs[HANJOLUM_CELLS];
+    char letters[HANJOLUM_CELLS];   /* as it is shown: as it was drawn, or a practice floor's */
     char mark;
     int marked;
     int first;
@@ -131,6 +132,7 @@ static void read_drawing(struct drawing *drawing, FILE *file)
             fail("%s: row %d has %ld cells, not %d; a whole floor is drawn with --floor", drawing->name, row + 1, length, SIDE);
         for (int column = 0; column < SIDE; column++)
             drawing->costs[row * SIDE + column] = cost_of(drawing, line[column], row, column);
+        memcpy(drawing->letters + row * SIDE, line, SIDE);
         row += 1;
     }
     if (ferror(file))
@@ -174,19 +176,10 @@ static const char *shown(uint8_t byte, uint8_t cost, int ascii)
     return ascii ? "* " : "*";
 }
 
-/* How a cell of a practice floor is drawn. */
-static char cell_of(const struct drawing *drawing, int cell)
+/* A row of a sector: its drawing, its arrows and its flow bytes. */
+static void show_row(const struct drawing *drawing, const uint8_t *sheet, const char *lost, int row, int ascii)
 {
-    if (cell == drawing->first)
-        return 'G';
-    return drawing->costs[cell] == 1 ? '.' : drawing->costs[cell] == 10 ? ':' : '#';
-}
-
-/* A row of a sector: of a practice floor its cells, and of any its arrows and its flow bytes. */
-static void show_row(const struct drawing *drawing, const uint8_t *sheet, const char *lost, int row, int practice, int ascii)
-{
-    for (int column = 0; practice && column < SIDE; column++)
-        printf("%c%s", cell_of(drawing, row * SIDE + column), column == SIDE - 1 ? "   " : "");
+    printf("%.*s   ", SIDE, drawing->letters + row * SIDE);
     for (int column = 0; column < SIDE; column++) {
         int cell = row * SIDE + column;
         printf("%s%c", shown(sheet[cell], drawing->costs[cell], ascii), lost[cell] ? '!' : ' ');
@@ -204,7 +197,7 @@ static void show(const struct drawing *drawing, const uint8_t *sheet, int practi
     for (int cell = 0; cell < HANJOLUM_CELLS; cell++)
         lost[cell] = (char)is_lost(sheet, arrivals.moves, cell);
     for (int row = 0; row < SIDE; row++)
-        show_row(drawing, sheet, lost, row, practice, ascii);
+        show_row(drawing, sheet, lost, row, ascii);
     printf("\n%s wall   x not reached   G goal%s\n", ascii ? "##" : "█", sight ? "   * goal in sight, no arrow needed" : "");
     if (!sight)
         printf("%s\n", SIGHTLESS);
@@ -303,6 +296,8 @@ static struct drawing practice_drawing(const char *seed)
     struct floor floor = practice_floor(seed);
     struct drawing drawing = {.name = seed, .mark = 'G', .marked = 1, .first = floor.goal, .last = floor.goal};
     memcpy(drawing.costs, floor.costs, sizeof drawing.costs);
+    for (int cell = 0; cell < HANJOLUM_CELLS; cell++)
+        drawing.letters[cell] = cell == floor.goal ? 'G' : floor.costs[cell] == 1 ? '.' : floor.costs[cell] == 10 ? ':' : '#';
     return drawing;
 }
 
