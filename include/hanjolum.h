@@ -99,7 +99,7 @@
  *     hanjolum_leg_file_write, sixteen steps                  8         5
  *     hanjolum_leg_file_read, sixteen steps                   8         4
  *     hanjolum_practice_floor                               752       200
- *     hanjolum_init, a goal                               48088      1700
+ *     hanjolum_init, a goal                               42648      1700
  *     hanjolum_build, a goal                              66224      1734
  *     hanjolum_flow_new, a goal                            1088       250
  *     hanjolum_flow_build, a goal                          1344       477
@@ -220,7 +220,8 @@ enum {
  * 100 cells by index, and the indexes of the corners that building starts from: `count` of them, 0 beyond. Once built, the
  * position of a cell is the place in that list, from 0, of the corner that it belongs to: the earliest with a walk that
  * arrives at the cell's built cost, where a corner that building left alone stays put. Before building it is 255, and so it
- * stays in a cell that was wall, in sight or flagged GOAL before, and in one whose cost no corner's walk gives.
+ * stays in a cell that was wall, in sight or flagged GOAL before, and in one whose cost no corner's walk gives. A leg, which
+ * answers no field, starts from the window cells that count alone: there a cell may belong to another one.
  */
 typedef struct {
     uint32_t field[100];
@@ -374,6 +375,8 @@ HanjolumArrivals hanjolum_arrivals(const uint8_t *sheet, size_t sheet_length);
  * cost of one reached, permitted neighbour is strictly below the least cost of all other permitted ones; walls and window
  * cells are not marked. On every floor between, and with any previous field or none, the arrow of a sure cell is the same.
  * A cell that is not marked may have one arrow on all floors as well.
+ * All of this speaks of the step's whole window. In a leg a sector starts from the window cells that count alone: where some
+ * do not, its costs may lie outside these bounds, and a sure cell may have another arrow.
  * Writes nothing. Numbers 1, 3, 4 to 8, 16, 18.
  */
 HanjolumBounds hanjolum_bounds(
@@ -401,8 +404,8 @@ HanjolumWindowCosts hanjolum_window_costs(
  * Orders are tried in dictionary order of the window numbers: 0 1 2 3, 0 1 3 2, 0 2 1 3, .. There are (n - 1)! of n
  * windows, 5,040 of eight; tried is the limit or that many, the smaller. An order with a move of 65535 is tried and does
  * not count. The best order tried has the smallest sum of those that count, and of equals it is the earlier. found is
- * false exactly when none of those tried counts: order and sum are then all 0, tried and least are not. With a limit of
- * (n - 1)! or more it is the best there is.
+ * false exactly when none of those tried counts: order and sum are then all 0, and tried and least are told all the same.
+ * With a limit of (n - 1)! or more it is the best there is.
  * least is the sum, over the windows but the first, of the cheapest entry into each from another, a 65535 taken as 65535:
  * no order's sum goes under it, whether it is tried or not and whether it counts or not.
  * Writes nothing. Numbers 1, 3, 19, and of one step before the next 4 to 8, 16, 20.
