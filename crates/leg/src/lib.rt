@@ -194,7 +194,8 @@ fn build_step(floor: &[u8], step: &[u8], target: Target) -> IntegrationField
     target_field::build_target(&floor[at..end], target)
 }
 
-// Whether a window of the leg has no counting cell: the steps are started and built in order, each with the built cells of the step before.
+// Whether a window of the leg has no counting cell: the steps are started and built in order, each with the built cells of the step before. The last
+// is not built, since no step comes behind it.
 fn is_some_closed(floor: &[u8], steps: &[u8], sight: bool) -> bool
     requires { ⌜ LegReady (now floor) (now steps) ⌝ }
     ensures { λ r. ⌜ r ≡ someClosed sight (now (floor .entry)) (stepsOf (now (steps .entry))) ⌝ }
@@ -208,6 +209,9 @@ fn is_some_closed(floor: &[u8], steps: &[u8], sight: bool) -> bool
         let target = target_of(step, sight, 0 < k, &previous);
         if counting::is_closed(target) {
             return true;
+        }
+        if k + 1 == count {
+            return false;
         }
         let built = build_step(floor, step, target);
         previous = built.field;

@@ -1,7 +1,7 @@
 -- `leg::is_some_closed` meets its contract. The loop's invariant: a window of the leg is closed exactly if one from place k on is, with the built
 -- cells of the step before.
 -- Assumes nothing.
-use mathlib.Core.Path.{_≡_, sym, ap, _∙_}
+use mathlib.Core.Path.{_≡_, refl, sym, ap, _∙_}
 use mathlib.Core.List.{List}
 use Prim.Native.Nat.{ℕ, _+_, _-_, _*_, _/_, _≤_, _<_}
 use native.Mathlib.Omega.{arith}
@@ -61,16 +61,32 @@ returns c =
     sym (l .inv .1 ∙ shut-here (a .sight) (now (a .floor)) (steps p) (tested p .loop-test .taken) (lent-step (steps p) (l .k)) (l .previous)
     (t .target-of .ensures) (closed .is-closed .ensures) (c .if1 .taken))
 
+-- no window is closed where the last step's is open
+returns-2 : tie.Need-returns-2 Inv-loop μ-loop
+returns-2 c =
+    let still = c .before in
+    let closed = still .before in
+    let t = closed .before in
+    let p = t .before .before in
+    let l = here p .loop in
+    let a = start p .args in
+    let done : length (steps p) / 8 ≤ l .k + 1 = omega arith in
+    sym (l .inv .1
+    ∙ shut-more (a .sight) (now (a .floor)) (steps p) (tested p .loop-test .taken) (lent-step (steps p) (l .k)) (l .previous)
+    (t .target-of .ensures) (closed .is-closed .ensures) (still .if1 .left) refl
+    ∙ shut-last (a .sight) (now (a .floor)) (steps p) (l .k + 1) done (ltb 0 (l .k + 1)) _)
+
 build-step-requires : tie.Need-build-step-requires Inv-loop μ-loop
 build-step-requires c κs =
-    let t = c .before .before in
+    let t = c .before .before .before in
     let p = t .before .before in
     (record { floor-full = start p .pre .floor-full; accepted = accepted p }, t .target-of .ensures .held)
 
 loop-again : tie.Need-loop-again Inv-loop μ-loop
 loop-again c =
     let built = c .before in
-    let still = built .before in
+    let more = built .before in
+    let still = more .before in
     let closed = still .before in
     let t = closed .before in
     let p = t .before .before in
@@ -84,8 +100,8 @@ loop-again c =
           (t .target-of .ensures) (closed .is-closed .ensures) (still .if1 .left) cells,
     )
 
-returns-2 : tie.Need-returns-2 Inv-loop μ-loop
-returns-2 c =
+returns-3 : tie.Need-returns-3 Inv-loop μ-loop
+returns-3 c =
     let l = c .before .loop in
     let s = c .before .before .before .before in
     let steps = now (s .args .steps) in
@@ -97,6 +113,8 @@ is-some-closed-spec = tie.close (tie.spec
     Inv-loop μ-loop loop-holds
     (λ c. omega arith) (λ c. omega arith) (λ c. omega arith) (λ c. omega arith) (λ c. omega arith)
     (λ c κs. accepted (c .before)) (λ c κs. search needs)
-    returns build-step-requires
+    returns
+    (λ c. omega arith)
+    returns-2 build-step-requires
     (λ c. omega arith) (λ c. omega arith)
-    loop-again returns-2)
+    loop-again returns-3)
