@@ -87,22 +87,22 @@
  * Below, for each call, its bytes of stack with 101 waves, beside what memcpy and memset need, read off the archive
  * (tools/stack/frames); and its nanoseconds, the median on practice floors (tools/time/header) on one core of an AMD EPYC that
  * did nothing else. Neither is proved, and times belong to the machine. Readers of a byte are alike.
- *     hanjolum_sector, a goal                             68112      3539
- *     hanjolum_sector, a window                           68112      2398
- *     hanjolum_sector_without_sight, a goal               68112      2146
- *     hanjolum_arrivals                                     144      8389
- *     hanjolum_bounds                                     65536      6800
- *     hanjolum_window_costs, eight windows                65408      9881
- *     hanjolum_window_tour, eight windows, all orders     65232    564000
- *     hanjolum_leg, sixteen steps                         64576     47075
- *     hanjolum_leg_without_sight, sixteen steps           64576     43663
+ *     hanjolum_sector, a goal                             68112      3268
+ *     hanjolum_sector, a window                           68112      2400
+ *     hanjolum_sector_without_sight, a goal               68112      2154
+ *     hanjolum_arrivals                                     144      8451
+ *     hanjolum_bounds                                     65536      6769
+ *     hanjolum_window_costs, eight windows                65408      9992
+ *     hanjolum_window_tour, eight windows, all orders     65232    568389
+ *     hanjolum_leg, sixteen steps                         64576     45530
+ *     hanjolum_leg_without_sight, sixteen steps           64576     42903
  *     hanjolum_leg_file_write, sixteen steps                  8         5
  *     hanjolum_leg_file_read, sixteen steps                   8         4
- *     hanjolum_practice_floor                               752       200
- *     hanjolum_init, a goal                               42648      1700
- *     hanjolum_build, a goal                              66224      1734
- *     hanjolum_flow_new, a goal                            1088       250
- *     hanjolum_flow_build, a goal                          1344       477
+ *     hanjolum_practice_floor                               752       199
+ *     hanjolum_init, a goal                               42648      1464
+ *     hanjolum_build, a goal                              66224      1733
+ *     hanjolum_flow_new, a goal                            1088       246
+ *     hanjolum_flow_build, a goal                          1344       476
  *     hanjolum_line                                         664        37
  *     hanjolum_walk_bresenham_shallow                       848        50
  *     hanjolum_walk_bresenham_steep                         848        50
