@@ -61,6 +61,11 @@ index-told {c} {i} h e =
     let k : i ≡ indexOf c = e ∙ rw (lt-ltb (c .column) 10 (h .column-in), lt-ltb (c .row) 10 (h .row-in)) in
     (k, omega (arith, k))
 
+-- what stands for the index of a cell outside the sector, by computation: one column and one row beyond
+pub index-outside : (indexOr 100 (cell 10 0) ≡ 100) × (indexOr 100 (cell 0 10) ≡ 100)
+unfolding indexOr
+index-outside = (refl, refl)
+
 pub index-of-cell : (i : ℕ) → indexOf (cellAt i) ≡ i
 index-of-cell i = omega arith
 

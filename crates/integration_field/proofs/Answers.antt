@@ -6,20 +6,26 @@
 --     answer-counted    the count, of the answer
 --     answer-positions  positions, of the answer
 --     answer-promises   all three, of whatever equals the answer
+--     zero-field        the field of a refused answer, part by part
+--     build-refused     a refused answer, part by part
+--     list-kept         the list of a built field
 -- Assumes nothing.
-use mathlib.Core.Path.{_≡_, refl, sym, _∙_}
+use mathlib.Core.Path.{_≡_, refl, sym, ap, _∙_}
 use mathlib.Core.Bool.{Bool, true, false, not, cond, _||_, and-eq-true-iff}
 use mathlib.Core.List.{List, [], _∷_, List·Memᴰ, List·Memᴰ·head, List·Memᴰ·tail}
 use Prim.Native.Nat.{ℕ, zero, suc, _≤_, _<_}
 use native.Mathlib.Omega.{arith}
 use lib.Dec.{ltb, eqb}
 use lib.ListN.{length, getD}
+use lib.Seq.{getD-take}
 use borrow.Author.Tests.{ltb-true, ltb-false, lt-ltb, le-ltb, eqb-true, eq-eqb, ne-eqb}
+use Rattle.utilities.proofs.Padded.{all-zero}
 use Rattle.integration_field.specs.declared.IntegrationField.{IntegrationField}
 use Rattle.integration_field.specs.declared.BuildAnswer.{BuildAnswer}
-use Rattle.integration_field.specs.Listed.{listOf}
+use Rattle.integration_field.specs.Listed.{listOf, zeroField}
 use Rattle.integration_field.specs.Answer.{answerOf, allCells, buildNumber, Accepted, buildAnswer}
-use Rattle.integration_field.specs.Promise.{LeastWalks, Counted, EarliestCorners}
+use Rattle.integration_field.specs.Promise.{LeastWalks, Counted, EarliestCorners, ListKept, ZeroField, BuildRefused}
+use Rattle.integration_field.proofs.Lists.{padded-at, padded-beyond, corners-length}
 use Rattle.integration_field.proofs.Least.{least-walks, waves-counted}
 use Rattle.integration_field.proofs.Position.{positions-told}
 
@@ -89,3 +95,23 @@ module _ (costs : List ℕ) (f : IntegrationField) (full : length (f .field) ≡
       × ((r .number ≡ 0 → Counted costs (f .field) (listOf f) (r .field .field) (r .waves))
       × (r .number ≡ 0 → EarliestCorners costs (f .field) (listOf f) (r .field .field) (r .field .positions))))
   answer-promises r e = (e, rw e (answer-least, (answer-counted, answer-positions)))
+
+-- ---- lists and refused answers, place by place
+
+pub zero-field : {f : IntegrationField} → f ≡ zeroField → ZeroField f
+zero-field e = rw e (record { cells = all-zero 100 0; corners = all-zero 100 0; count = refl; positions = all-zero 100 0 })
+
+pub build-refused : (n : ℕ) (costs : List ℕ) (f : IntegrationField) (r : BuildAnswer) → r ≡ answerOf n costs f → (r .number ≡ 0 → ⊥) → BuildRefused r
+build-refused zero costs f r e h = absurd (h (ap (λ (a : BuildAnswer). a .number) e))
+build-refused (suc n) costs f r e h = rw e (record { field = zero-field refl; waves = refl })
+
+pub list-kept : (costs : List ℕ) (f : IntegrationField) → length (f .«los_corners») ≡ 100 → (r : BuildAnswer) → r ≡ buildAnswer costs f → r .number ≡ 0
+    → ListKept f (r .field)
+list-kept costs f long r e z =
+    let n : buildNumber costs f ≡ 0 = sym (number-of (buildNumber costs f) costs f) ∙ sym (ap (λ (a : BuildAnswer). a .number) e) ∙ z in
+    let many : length (listOf f) ≡ f .count = corners-length f long (accepted costs f n .count-in) in
+    rw (e, n) (record {
+      beyond = λ i h. padded-beyond (listOf f) i (omega arith);
+      count = many;
+      corners = λ i h. padded-at (listOf f) i (omega arith) ∙ getD-take (f .count) (f .«los_corners») i 0 h;
+    })

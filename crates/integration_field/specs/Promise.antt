@@ -6,7 +6,10 @@ use mathlib.Core.Logic.{_⊎_, _↔_}
 use mathlib.Core.List.{List, [], _∷_}
 use Prim.Native.Nat.{ℕ, zero, suc, _≤_, _<_}
 use lib.ListN.{length, getD}
+use Rattle.utilities.specs.Padded.{ZeroBeyond, AllZero}
 use Rattle.waves.specs.Waves.{Waves}
+use Rattle.integration_field.specs.declared.IntegrationField.{IntegrationField}
+use Rattle.integration_field.specs.declared.BuildAnswer.{BuildAnswer}
 use Rattle.integration_field.specs.Word.{low, isOpen, isGoal, isLos, isImpassable}
 use Rattle.integration_field.specs.Wave.{waveAt}
 use Rattle.integration_field.specs.Walks.{grid, Permitted}
@@ -78,3 +81,23 @@ module _ (costs cells corners : List ℕ) where
   -- each cell of the sector holds its position
   abbrev pub EarliestCorners : List ℕ → List ℕ → Type 0
   EarliestCorners built positions = (x : ℕ) → x < 100 → Position built x (getD positions x 0)
+
+-- ---- lists and refused answers, place by place (01, under the table)
+
+-- the list of a built field: 0 in the places beyond its count, and before them the corners of the field that was given
+pub record ListKept (given built : IntegrationField) : Type 0 where
+  pub beyond : ZeroBeyond 0 (given .count) (built .«los_corners»)
+  pub count : built .count ≡ given .count
+  pub corners : (i : ℕ) → i < given .count → getD (built .«los_corners») i 0 ≡ getD (given .«los_corners») i 0
+
+-- a field that is zero in every part
+pub record ZeroField (f : IntegrationField) : Type 0 where
+  pub cells : AllZero 0 (f .field)
+  pub corners : AllZero 0 (f .«los_corners»)
+  pub count : f .count ≡ 0
+  pub positions : AllZero 0 (f .positions)
+
+-- A refused call answers its number, with every other part of the answer zero.
+pub record BuildRefused (r : BuildAnswer) : Type 0 where
+  pub field : ZeroField (r .field)
+  pub waves : r .waves ≡ 0

@@ -3,6 +3,7 @@
 --     started-field                what it is, for every target inside the sector
 --     accepted, accepted-target    what an accepted `init` is given
 --     answered, answer-told        the same of what `init` answers
+--     init-refused                 a refused answer, part by part
 -- Assumes nothing.
 use mathlib.Core.Path.{_≡_, refl, sym, _∙_, ap}
 use mathlib.Core.Bool.{Bool, true, false, cond, not, true≢false}
@@ -18,7 +19,9 @@ use Rattle.route.proofs.Targets.{target-in}
 use Rattle.route.proofs.Walls.{accepted-on}
 use Rattle.integration_field.specs.declared.IntegrationField.{IntegrationField}
 use Rattle.integration_field.specs.Listed.{withCorners}
-use Rattle.integration_field.proofs.Lists.{padded-length, padded-beyond, corners-listed}
+use Rattle.integration_field.specs.Promise.{ZeroField}
+use Rattle.integration_field.proofs.Answers.{zero-field}
+use Rattle.integration_field.proofs.Lists.{padded-length, padded-beyond, no-position, corners-listed}
 use Rattle.started_field.specs.Sight.{walls, Sight, sightAfter}
 use Rattle.started_field.specs.CornerLine.{cornerLine}
 use Rattle.started_field.specs.Sizes.{Sizes}
@@ -71,6 +74,7 @@ module _ (costs : List ℕ) (hundred : length costs ≡ 100) where
     list-fits = few;
     list-full = padded-length corners few;
     list-beyond = padded-beyond corners;
+    no-positions = no-position;
     cells-are = rw (corners-listed corners cells) told;
     sight-over = over;
   }
@@ -120,3 +124,11 @@ answered costs step P p r e n = go (eqb (initNumber costs step) 0) refl e
 
 pub answer-told : (costs step : List ℕ) (r : InitAnswer) → r ≡ initAnswer costs step → r .number ≡ 0 → StartedField costs (targetOf step) (r .field)
 answer-told costs step = answered costs step (StartedField costs (targetOf step)) (accepted-field costs step)
+
+pub init-refused : (costs step : List ℕ) (r : InitAnswer) → r ≡ initAnswer costs step → (r .number ≡ 0 → ⊥) → ZeroField (r .field)
+unfolding initAnswer
+init-refused costs step r e h = go (eqb (initNumber costs step) 0) e
+  where
+    go : (b : Bool) → r ≡ cond b (initAccepted (started costs (targetOf step))) (initRefused (initNumber costs step)) → ZeroField (r .field)
+    go true f = absurd (h (ap (λ (a : InitAnswer). a .number) f))
+    go false f = zero-field (ap (λ (a : InitAnswer). a .field) f)

@@ -3,9 +3,10 @@
 use mathlib.Core.Path.{_≡_}
 use mathlib.Core.Bool.{cond, not}
 use mathlib.Core.List.{List, [], _∷_}
-use Prim.Native.Nat.{ℕ, _≤_}
+use Prim.Native.Nat.{ℕ, _≤_, _<_}
 use lib.Dec.{eqb}
 use lib.ListN.{length, getD}
+use Rattle.utilities.specs.Padded.{ZeroBeyond}
 use Rattle.route.specs.Step.{stepNumberOn}
 use Rattle.route.specs.Target.{Target, to-goal, to-window, to-corner, targetOf}
 use Rattle.integration_field.specs.declared.IntegrationField.{IntegrationField}
@@ -57,11 +58,12 @@ StartedCells costs (to-goal goal) cells corners = GoalStarted costs goal cells c
 StartedCells costs (to-window window) cells corners = WindowStarted costs window cells corners
 StartedCells costs (to-corner goal) cells corners = CornerStarted costs goal cells corners
 
--- .. and its list of 100 places, which hold 0 beyond the count.
+-- .. its list of 100 places, which hold 0 beyond the count, and no position yet (02, "Job 10").
 pub record StartedField (costs : List ℕ) (target : Target) (f : IntegrationField) : Type 0 where
   pub list-fits : f .count ≤ 100
   pub list-full : length (f .«los_corners») ≡ 100
-  pub list-beyond : (i : ℕ) → f .count ≤ i → getD (f .«los_corners») i 0 ≡ 0
+  pub list-beyond : ZeroBeyond 0 (f .count) (f .«los_corners»)
+  pub no-positions : (x : ℕ) → x < 100 → getD (f .positions) x 0 ≡ 255
   pub cells-are : StartedCells costs target (f .field) (listOf f)
   -- sight has come to its end: every number of waves from 100 on leaves these cells and these corners
   pub sight-over : (goal n : ℕ) → target ≡ to-goal goal → 100 ≤ n

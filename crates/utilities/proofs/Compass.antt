@@ -2,8 +2,10 @@
 --     small                   a direction moves by one at most in each coordinate, and by one in some unless it is Zero
 --     opposite-differences    the opposite direction's differences are as far, the other way
 --     opposite-points         and it is a direction where the other is one
+--     numbers-in-order        the numbers of the directions, by computation
 -- Assumes nothing.
 use mathlib.Core.Path.{_≡_, refl}
+use mathlib.Core.List.{[], _∷_, _++_, map}
 use Prim.Native.Nat.{ℕ, _+_}
 use native.Mathlib.Omega.{arith}
 use lib.Dec.{ltb}
@@ -11,7 +13,8 @@ use lib.IntN.{negℤ}
 use Rattle.utilities.specs.declared.CompassDir.{CompassDir}
 use Rattle.utilities.specs.declared.CompassDir.the-variants.{North, East, South, West, NorthEast, SouthEast, SouthWest, NorthWest, Zero}
 use Rattle.utilities.specs.declared.Differences.{Differences}
-use Rattle.utilities.specs.Compass.{differences, points, rises, falls, opposite}
+use Rattle.utilities.specs.Compass.{differences, points, rises, falls, all, opposite, numberOf}
+use Rattle.utilities.specs.Lists.{below}
 use Rattle.utilities.proofs.Sums.{Single}
 
 -- how many coordinates a pair of differences changes
@@ -58,3 +61,7 @@ opposite-points SouthEast = refl
 opposite-points SouthWest = refl
 opposite-points NorthWest = refl
 opposite-points Zero = refl
+
+-- a direction's number is its place in the order of a look, and Zero's comes behind them
+pub numbers-in-order : map numberOf (all ++ (Zero ∷ [])) ≡ below 9
+numbers-in-order = refl
