@@ -1,6 +1,7 @@
 -- Off the goal's column and row a line ends in the first column whose row leaves 0 to 9, or else in the last (02, "Job 11").
---     end-slanted     the end is as `Slanted` says
---     slanted-only    and no other cell is
+--     SlantedBy       what `Slanted` says (specs/Away.antt), by the helpers of the definition: the edge, what is behind, what is further
+--     slanted-first   the end is so
+--     slanted-once    and no other cell is
 -- Assumes nothing.
 use mathlib.Core.Path.{_≡_, refl, sym, ap, _∙_}
 use mathlib.Core.Bool.{Bool, true, false}
@@ -8,14 +9,33 @@ use mathlib.Core.Logic.{_⊎_, inl, inr}
 use Prim.Native.Nat.{ℕ, zero, suc, _+_, _-_, _<_, _≤_, min}
 use native.Mathlib.Omega.{arith}
 use lib.Dec.{leb, ltb, eqb}
-use borrow.Author.Tests.{ltb-true, ltb-false, leb-true, leb-false, eqb-true, eqb-false, ne-eqb}
+use borrow.Author.Tests.{ltb-true, ltb-false, leb-true, leb-false, eqb-true, eqb-false}
 use Rattle.fields.specs.declared.FieldCell.{FieldCell}
 use Rattle.fields.specs.Cell.{Inside}
 use Rattle.nearest_line.specs.Line.{apart, nearest}
-use Rattle.nearest_line.specs.Nearest.{Between}
+use Rattle.nearest_line.specs.Nearest.{Between, NearestTo}
 use Rattle.nearest_line.proofs.Offset.{nearest-is, nearest-only}
-use Rattle.line_end.specs.Away.{Slanted, Slants, rightward, downward, rowsBehind}
-use Rattle.line_end.specs.LineEnd.{edge, after, further, leaves, firstEnding, firstLeaving, slantedEnd, endBy, lineEnd}
+use Rattle.line_end.specs.LineEnd.{edge, after, further, leaves, firstEnding, firstLeaving, slantedEnd}
+
+module _ (corner goal : FieldCell) where
+  abbrev pub rightward : Bool
+  rightward = ltb (goal .column) (corner .column)
+
+  abbrev pub downward : Bool
+  downward = ltb (goal .row) (corner .row)
+
+  -- the rows that are behind the goal's, toward the corner's side: a row that is further off leaves 0 to 9
+  abbrev pub rowsBehind : ℕ
+  rowsBehind = after downward (goal .row)
+
+  pub record SlantedBy (end : FieldCell) : Type 0 where
+    pub rows : ℕ → ℕ
+    pub nearest-rows : (c : ℕ)
+        → NearestTo (apart (goal .row) (corner .row)) (apart (goal .column) (corner .column)) (apart (goal .column) c) (rows c)
+    pub tried : Between (corner .column) (edge rightward) (end .column)
+    pub none-before : (c : ℕ) → Between (corner .column) (end .column) c → (c ≡ end .column → ⊥) → rows c ≤ rowsBehind
+    pub leaves-there : rowsBehind < rows (end .column) → end .row ≡ edge downward
+    pub else-last : rows (end .column) ≤ rowsBehind → (end .column ≡ edge rightward) × (end .row ≡ further downward (goal .row) (rows (end .column)))
 
 -- ---- the first that ends, of those from j to j + n
 record First (ends : ℕ → Bool) (j n end : ℕ) : Type 0 where
@@ -150,7 +170,7 @@ module _ (corner goal : FieldCell) (corner-in : Inside corner) (apart-columns : 
   row-there : rowIn (further right (corner .column) end) ≡ nearest rise span (span + end)
   row-there = ap (nearest rise span) (last-off right (corner .column) (goal .column) end side end-to)
 
-  pub slanted-first : Slanted corner goal (slantedEnd right down corner goal)
+  pub slanted-first : SlantedBy corner goal (slantedEnd right down corner goal)
   unfolding slantedEnd
   slanted-first =
       record {
@@ -181,11 +201,6 @@ module _ (corner goal : FieldCell) (corner-in : Inside corner) (apart-columns : 
           let t = ltb-true room (nearest rise span (span + end)) (first .ends-there (λ q. eqb-false end columns e (omega arith))) in
           absurd (omega arith)
 
-pub end-slanted : (corner goal : FieldCell) → Inside corner → (corner .column ≡ goal .column → ⊥) → (corner .row ≡ goal .row → ⊥)
-    → Slanted corner goal (lineEnd corner goal)
-unfolding lineEnd endBy
-end-slanted corner goal h p q = rw (ne-eqb (corner .column) (goal .column) p, ne-eqb (corner .row) (goal .row) q) (slanted-first corner goal h p)
-
 -- ---- no other cell is
 -- of two columns on the way to the edge, one lies on the way to the other
 nearer : (corner edge c d : ℕ) → Between corner edge c → Between corner edge d → (b : Bool) → leb corner edge ≡ b
@@ -204,7 +219,7 @@ short-of-edge corner edge c d p q e = omega (arith, p .from, p .to, q .from, q .
 
 module _ (corner goal : FieldCell) (apart-columns : corner .column ≡ goal .column → ⊥) where
   abbrev Ends : FieldCell → Type 0
-  Ends = Slanted corner goal
+  Ends = SlantedBy corner goal
 
   same-rows : (e f : FieldCell) (p : Ends e) (q : Ends f) (c : ℕ) → p .rows c ≡ q .rows c
   same-rows e f p q c =
@@ -245,8 +260,3 @@ module _ (corner goal : FieldCell) (apart-columns : corner .column ≡ goal .col
 
   pub slanted-once : (e f : FieldCell) → Ends e → Ends f → e ≡ f
   slanted-once e f p q = rw (same-column e f p q, same-row e f p q)
-
-pub slanted-only : (corner goal end : FieldCell) → Slants corner goal → Slanted corner goal end → end ≡ lineEnd corner goal
-slanted-only corner goal end s p =
-    slanted-once corner goal (s .columns-differ) end (lineEnd corner goal) p
-    (end-slanted corner goal (s .corner-in) (s .columns-differ) (s .rows-differ))

@@ -2,6 +2,7 @@
 --     end-answered    the call never refuses a corner and a goal of the sector: it answers the end
 --     end-inside      the end lies in the sector
 --     end-away        the end lies at or beyond the corner, away from the goal
+--     end-straight    in the goal's column and in its row the end is as `Straight` says
 --     misses-goal     no cell between a corner other than the goal and its line's end is the goal
 -- Assumes nothing.
 use mathlib.Core.Path.{_≡_, refl}
@@ -16,7 +17,7 @@ use Rattle.fields.proofs.Steps.{true-inside}
 use Rattle.nearest_line.specs.Line.{apart}
 use Rattle.nearest_line.specs.Nearest.{Spanned}
 use Rattle.nearest_line.proofs.Offset.{nearest-ge}
-use Rattle.line_end.specs.Away.{Away}
+use Rattle.line_end.specs.Away.{EdgeAway, Straight}
 use Rattle.line_end.specs.LineEnd.{edge, after, further, slantedEnd, endBy, lineEnd, answer, lineEndAnswer}
 use Rattle.line_end.proofs.First.{slanted-first}
 
@@ -55,6 +56,16 @@ unfolding lineEnd
 end-inside corner goal h = by-inside (eqb (corner .column) (goal .column)) (eqb (corner .row) (goal .row)) corner goal h refl
 
 -- ---- the end lies away from the goal
+-- A cell that lies at or beyond the corner, away from the goal. In the goal's column and in its row it lies on the line through both;
+-- up the column, and where the corner is the goal, on row 0.
+pub record Away (corner goal end : FieldCell) : Type 0 where
+  pub right : goal .column < corner .column → corner .column ≤ end .column
+  pub left : corner .column < goal .column → end .column ≤ corner .column
+  pub in-column : corner .column ≡ goal .column → end .column ≡ corner .column
+  pub down : corner .column ≡ goal .column → goal .row < corner .row → corner .row ≤ end .row
+  pub up : corner .column ≡ goal .column → corner .row ≤ goal .row → end .row ≡ 0
+  pub in-row : (corner .column ≡ goal .column → ⊥) → corner .row ≡ goal .row → end .row ≡ corner .row
+
 -- the edge away from the goal, of a column or a row
 record Edge (corner goal end : ℕ) : Type 0 where
   beyond : goal < corner → corner ≤ end
@@ -112,6 +123,50 @@ by-away false false corner goal h e f =
 pub end-away : (corner goal : FieldCell) → Inside corner → Away corner goal (lineEnd corner goal)
 unfolding lineEnd
 end-away corner goal h = by-away (eqb (corner .column) (goal .column)) (eqb (corner .row) (goal .row)) corner goal h refl refl
+
+-- ---- in the goal's column and in its row
+edge-there : (goal corner : ℕ) → EdgeAway goal corner (edge (ltb goal corner))
+edge-there goal corner = go (ltb goal corner) refl
+  where
+    go : (b : Bool) → ltb goal corner ≡ b → EdgeAway goal corner (edge b)
+    go true e = record { beyond = λ l. refl; before = λ l. absurd (omega (arith, ltb-true goal corner e)) }
+    go false e = record { beyond = λ l. absurd (omega (arith, ltb-false goal corner e)); before = λ l. refl }
+
+by-straight : (p q : Bool) (corner goal : FieldCell) → Inside corner → eqb (corner .column) (goal .column) ≡ p → eqb (corner .row) (goal .row) ≡ q
+    → Straight corner goal (endBy p q corner goal)
+unfolding endBy
+by-straight true q corner goal h e f =
+    let k : corner .column ≡ goal .column = eqb-true (corner .column) (goal .column) e in
+    record {
+      in-column = λ l. refl;
+      down = λ l. edge-there (goal .row) (corner .row) .beyond;
+      up = λ l. edge-away (corner .row) (goal .row) (h .row-in) .back;
+      in-row = λ l. absurd (l k);
+      edge-column = λ l. absurd (l k);
+    }
+by-straight false true corner goal h e f =
+    let k : corner .column ≡ goal .column → ⊥ = eqb-false (corner .column) (goal .column) e in
+    record {
+      in-column = λ l. absurd (k l);
+      down = λ l. absurd (k l);
+      up = λ l. absurd (k l);
+      in-row = λ l m. refl;
+      edge-column = λ l m. edge-there (goal .column) (corner .column);
+    }
+by-straight false false corner goal h e f =
+    let k : corner .column ≡ goal .column → ⊥ = eqb-false (corner .column) (goal .column) e in
+    let r : corner .row ≡ goal .row → ⊥ = eqb-false (corner .row) (goal .row) f in
+    record {
+      in-column = λ l. absurd (k l);
+      down = λ l. absurd (k l);
+      up = λ l. absurd (k l);
+      in-row = λ l m. absurd (r m);
+      edge-column = λ l m. absurd (r m);
+    }
+
+pub end-straight : (corner goal : FieldCell) → Inside corner → Straight corner goal (lineEnd corner goal)
+unfolding lineEnd
+end-straight corner goal h = by-straight (eqb (corner .column) (goal .column)) (eqb (corner .row) (goal .row)) corner goal h refl refl
 
 -- ---- the goal does not lie between the corner and the end
 same-cell : (a b : FieldCell) → a .column ≡ b .column → a .row ≡ b .row → a ≡ b

@@ -1,49 +1,57 @@
--- What is promised of a line's end, and what its laws speak of: where the end lies, apart from how it is worked out.
+-- What is promised of a line's end: where it lies, told by none of the helpers that work it out.
 -- Assumes nothing.
 use mathlib.Core.Path.{_≡_}
-use mathlib.Core.Bool.{Bool}
-use Prim.Native.Nat.{ℕ, _<_, _≤_}
-use lib.Dec.{ltb}
+use Prim.Native.Nat.{ℕ, _+_, _<_, _≤_}
 use Rattle.fields.specs.declared.FieldCell.{FieldCell}
 use Rattle.fields.specs.Cell.{Inside}
 use Rattle.nearest_line.specs.Line.{apart}
 use Rattle.nearest_line.specs.Nearest.{Between, NearestTo}
 use Rattle.line_end.specs.declared.LineEnd.{LineEnd}
-use Rattle.line_end.specs.LineEnd.{edge, after, further}
 
--- A cell that lies at or beyond the corner, away from the goal. In the goal's column and in its row it lies on the line through both;
--- up the column, and where the corner is the goal, on row 0.
-pub record Away (corner goal end : FieldCell) : Type 0 where
-  pub right : goal .column < corner .column → corner .column ≤ end .column
-  pub left : corner .column < goal .column → end .column ≤ corner .column
+-- ---- of a column or a row: the goal's, the corner's, and one that lies away from the goal, on the corner's side
+module _ (goal corner : ℕ) where
+  -- x lies from the corner's on, away from the goal, and no further than the edge
+  pub record Onward (x : ℕ) : Type 0 where
+    pub beyond : goal < corner → (corner ≤ x) × (x ≤ 9)
+    pub before : corner < goal → x ≤ corner
+
+  -- x is the edge there
+  pub record EdgeAway (x : ℕ) : Type 0 where
+    pub beyond : goal < corner → x ≡ 9
+    pub before : corner < goal → x ≡ 0
+
+  -- x lies n from the goal's there
+  pub record Off (n x : ℕ) : Type 0 where
+    pub beyond : goal < corner → x ≡ goal + n
+    pub before : corner < goal → x + n ≡ goal
+
+  -- what lies n from the goal's there has left 0 to 9
+  pub record Leaves (n : ℕ) : Type 0 where
+    pub beyond : goal < corner → 9 < goal + n
+    pub before : corner < goal → goal < n
+
+-- The end in the goal's column and in its row (01, "Integration: init", third paragraph): the edge row away from the goal, row 0 where the corner is the
+-- goal; and the edge column away.
+pub record Straight (corner goal end : FieldCell) : Type 0 where
   pub in-column : corner .column ≡ goal .column → end .column ≡ corner .column
-  pub down : corner .column ≡ goal .column → goal .row < corner .row → corner .row ≤ end .row
+  pub down : corner .column ≡ goal .column → goal .row < corner .row → end .row ≡ 9
   pub up : corner .column ≡ goal .column → corner .row ≤ goal .row → end .row ≡ 0
   pub in-row : (corner .column ≡ goal .column → ⊥) → corner .row ≡ goal .row → end .row ≡ corner .row
+  pub edge-column : (corner .column ≡ goal .column → ⊥) → corner .row ≡ goal .row → EdgeAway (goal .column) (corner .column) (end .column)
 
--- The end where the corner lies in neither the goal's column nor its row (02, "Job 11"). Rows are counted from the goal's, toward the corner's side:
--- a row leaves 0 to 9 where it is further off than the rows that are behind the goal's there.
-module _ (corner goal : FieldCell) where
-  abbrev pub rightward : Bool
-  rightward = ltb (goal .column) (corner .column)
-
-  abbrev pub downward : Bool
-  downward = ltb (goal .row) (corner .row)
-
-  abbrev pub rowsBehind : ℕ
-  rowsBehind = after downward (goal .row)
-
-  pub record Slanted (end : FieldCell) : Type 0 where
-    -- the nearest row of each column to the exact ray from goal through corner, and of two equally near the one nearer the goal's
-    pub rows : ℕ → ℕ
-    pub nearest-rows : (c : ℕ)
-        → NearestTo (apart (goal .row) (corner .row)) (apart (goal .column) (corner .column)) (apart (goal .column) c) (rows c)
-    -- the first column whose row leaves, of those from the corner's own to the edge column away from the goal
-    pub tried : Between (corner .column) (edge rightward) (end .column)
-    pub none-before : (c : ℕ) → Between (corner .column) (end .column) c → (c ≡ end .column → ⊥) → rows c ≤ rowsBehind
-    -- it ends the line on that edge row; where none leaves, the edge column ends it, on its row
-    pub leaves-there : rowsBehind < rows (end .column) → end .row ≡ edge downward
-    pub else-last : rows (end .column) ≤ rowsBehind → (end .column ≡ edge rightward) × (end .row ≡ further downward (goal .row) (rows (end .column)))
+-- The end where the corner lies in neither the goal's column nor its row (02, "Job 11"). Rows are counted from the goal's, toward the corner's side.
+pub record Slanted (corner goal end : FieldCell) : Type 0 where
+  -- the nearest row of each column to the exact ray from goal through corner, and of two equally near the one nearer the goal's
+  pub rows : ℕ → ℕ
+  pub nearest-rows : (c : ℕ)
+      → NearestTo (apart (goal .row) (corner .row)) (apart (goal .column) (corner .column)) (apart (goal .column) c) (rows c)
+  -- the first column whose row leaves, of those from the corner's own to the edge column away from the goal
+  pub tried : Onward (goal .column) (corner .column) (end .column)
+  pub none-before : (c : ℕ) → Between (corner .column) (end .column) c → (c ≡ end .column → ⊥) → Leaves (goal .row) (corner .row) (rows c) → ⊥
+  -- it ends the line on that edge row; where none leaves, the edge column ends it, on its row
+  pub leaves-there : Leaves (goal .row) (corner .row) (rows (end .column)) → EdgeAway (goal .row) (corner .row) (end .row)
+  pub else-last : (Leaves (goal .row) (corner .row) (rows (end .column)) → ⊥)
+      → EdgeAway (goal .column) (corner .column) (end .column) × Off (goal .row) (corner .row) (rows (end .column)) (end .row)
 
 -- a pair of the sector, of unequal columns and unequal rows
 pub record Slants (corner goal : FieldCell) : Type 0 where
@@ -55,3 +63,12 @@ pub record Slants (corner goal : FieldCell) : Type 0 where
 -- what the call promises of such a pair's end
 abbrev pub HoldsSlanted : FieldCell → FieldCell → LineEnd → Type 0
 HoldsSlanted corner goal r = Slants corner goal → Slanted corner goal (r .cell)
+
+-- and of a pair of the sector that is none
+abbrev pub HoldsStraight : FieldCell → FieldCell → LineEnd → Type 0
+HoldsStraight corner goal r = Inside corner → Inside goal → Straight corner goal (r .cell)
+
+-- A refused call answers its number alone (01, under the table: with every other part of the answer zero).
+pub record EndRefused (r : LineEnd) : Type 0 where
+  pub column : r .cell .column ≡ 0
+  pub row : r .cell .row ≡ 0

@@ -6,7 +6,7 @@ ghost use lib.Dec.{ltb};
 ghost use Rattle.fields.specs.Cell.{Inside};
 ghost use Rattle.nearest_line.specs.Line.{nearest};
 ghost use Rattle.line_end.specs.LineEnd.{edge, after, further, firstLeaving, slantedEnd, lineEnd, lineEndAnswer};
-ghost use Rattle.line_end.specs.Away.{HoldsSlanted};
+ghost use Rattle.line_end.specs.Away.{HoldsSlanted, HoldsStraight, EndRefused};
 ghost use Rattle.line_end.specs.Mirror.{HoldsMirrored};
 
 // What the call answers: 0 and the cell that the line ends in, or the number of a refusal.
@@ -110,7 +110,9 @@ fn corner_line_end(corner: FieldCell, goal: FieldCell) -> FieldCell
 pub fn check_los_corner_propagation(corner: FieldCell, goal: FieldCell) -> LineEnd
     ensures answer { λ r. ⌜ r ≡ lineEndAnswer corner goal ⌝ }
     ensures slanted { λ r. ⌜ HoldsSlanted corner goal r ⌝ }
+    ensures straight { λ r. ⌜ HoldsStraight corner goal r ⌝ }
     ensures mirrored { λ r. ⌜ HoldsMirrored corner goal r ⌝ }
+    ensures refused { λ r. ⌜ ((r .number ≡ 0 → ⊥) → EndRefused r) ⌝ }
 {
     if corner.is_inside() {
         if goal.is_inside() {
