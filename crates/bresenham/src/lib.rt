@@ -9,7 +9,7 @@ ghost use lib.ListN.{length, take};
 ghost use Rattle.fields.specs.Cell.{cell, inside, Inside, indexOf, cellAt};
 ghost use Rattle.nearest_line.specs.Line.{apart, toward, placed, walkCells, line, answered, refused, called, lineCall, shallowCall, steepCall};
 ghost use Rattle.bresenham.specs.Inner.{placeOf, listed, blank, DrawnIn};
-ghost use Rattle.nearest_line.specs.Nearest.{columnOf, rowOf, HoldsNearestLine, HoldsNearestWalk};
+ghost use Rattle.nearest_line.specs.Nearest.{columnOf, rowOf, HoldsNearestLine, HoldsNearestWalk, CellsBeyond, LineRefused};
 
 // An answer without cells.
 fn empty(number: u8) -> Line
@@ -149,6 +149,8 @@ fn walk_alone(steep: bool, major_0: usize, minor_0: usize, major_1: usize, minor
 pub fn walk_bresenham_shallow(col_0: usize, row_0: usize, col_1: usize, row_1: usize) -> Line
     ensures answer { λ r. ⌜ r ≡ shallowCall (cell col_0 row_0) (cell col_1 row_1) ⌝ }
     ensures nearest { λ r. ⌜ HoldsNearestWalk columnOf rowOf (cell col_0 row_0) (cell col_1 row_1) r ⌝ }
+    ensures list { λ r. ⌜ CellsBeyond r ⌝ }
+    ensures refused { λ r. ⌜ ((r .number ≡ 0 → ⊥) → LineRefused r) ⌝ }
 {
     walk_alone(false, col_0, row_0, col_1, row_1)
 }
@@ -158,6 +160,8 @@ pub fn walk_bresenham_shallow(col_0: usize, row_0: usize, col_1: usize, row_1: u
 pub fn walk_bresenham_steep(col_0: usize, row_0: usize, col_1: usize, row_1: usize) -> Line
     ensures answer { λ r. ⌜ r ≡ steepCall (cell col_0 row_0) (cell col_1 row_1) ⌝ }
     ensures nearest { λ r. ⌜ HoldsNearestWalk rowOf columnOf (cell col_0 row_0) (cell col_1 row_1) r ⌝ }
+    ensures list { λ r. ⌜ CellsBeyond r ⌝ }
+    ensures refused { λ r. ⌜ ((r .number ≡ 0 → ⊥) → LineRefused r) ⌝ }
 {
     walk_alone(true, row_0, col_0, row_1, col_1)
 }
@@ -191,6 +195,8 @@ pub fn draw_cells_between_points(
 pub fn get_cells_between_points(source: FieldCell, target: FieldCell) -> Line
     ensures answer { λ r. ⌜ r ≡ lineCall source target ⌝ }
     ensures nearest { λ r. ⌜ HoldsNearestLine source target r ⌝ }
+    ensures list { λ r. ⌜ CellsBeyond r ⌝ }
+    ensures refused { λ r. ⌜ ((r .number ≡ 0 → ⊥) → LineRefused r) ⌝ }
 {
     if !both_inside(source, target) {
         return empty(13);

@@ -140,7 +140,7 @@ part-of file = record { refused = λ h. rw h; empty = λ z. ⊎-elim (λ h. absu
         let e : length (drop 6 file) ≡ 0 = ap length (sym (part-read file h) ∙ z) in
         omega (arith, length-drop 6 file)
 
-part-refused : (file : List ℕ) → (fileNumber file ≡ 0 → ⊥) → fileSteps file ≡ []
+pub part-refused : (file : List ℕ) → (fileNumber file ≡ 0 → ⊥) → fileSteps file ≡ []
 unfolding fileSteps
 part-refused file bad = rw (ne-eqb (fileNumber file) 0 bad)
 

@@ -4,6 +4,7 @@ use mathlib.Core.Path.{_≡_}
 use mathlib.Core.List.{List, []}
 use Prim.Native.Nat.{ℕ, _+_, _*_, _≤_}
 use lib.ListN.{length, drop}
+use Rattle.leg_file.specs.declared.LegFile.{LegFile}
 use Rattle.leg_file.specs.File.{writeNumber, writtenFile, fileNumber, fileSteps}
 
 -- every list of 1 to 16 steps written is read back the same: `before` and `after` are the buffer at entry and at exit
@@ -22,3 +23,8 @@ pub record PartOf (file steps : List ℕ) : Type 0 where
   pub refused : fileNumber file ≡ 14 → steps ≡ []
   pub empty : steps ≡ [] → fileNumber file ≡ 14
   pub read : fileNumber file ≡ 0 → steps ≡ drop 6 file
+
+-- A refused call answers its number, with every other part of the answer zero (01, under the table).
+pub record FileRefused (r : LegFile) : Type 0 where
+  pub start : r .start ≡ 0
+  pub length : r .length ≡ 0

@@ -4,7 +4,7 @@ ghost use mathlib.Core.Path.{_≡_};
 ghost use Prim.Native.Nat.{_<_, _≤_};
 ghost use lib.ListN.{length, take, drop};
 ghost use Rattle.leg_file.specs.File.{isMarked, versionOf, fileNumber, fileSteps, fileAnswer};
-ghost use Rattle.leg_file.specs.Promise.{WrittenSame, PartOf};
+ghost use Rattle.leg_file.specs.Promise.{WrittenSame, PartOf, FileRefused};
 
 fn wide(byte: u8) -> usize
     ensures { λ r. ⌜ (r ≡ byte) × (r < 256) ⌝ }
@@ -79,6 +79,7 @@ pub fn locate(file: &[u8]) -> LegFile
     ensures answer { λ r. ⌜ r ≡ fileAnswer (now (file .entry)) ⌝ }
     ensures part { λ r. ⌜ take (r .length) (drop (r .start) (now (file .entry))) ≡ fileSteps (now (file .entry)) ⌝ }
     ensures same { λ r. ⌜ WrittenSame (now (file .entry)) (take (r .length) (drop (r .start) (now (file .entry)))) ⌝ }
+    ensures refused { λ r. ⌜ ((r .number ≡ 0 → ⊥) → FileRefused r) ⌝ }
 {
     let number = number(file);
     let steps = read(file);

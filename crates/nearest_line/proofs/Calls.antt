@@ -1,7 +1,7 @@
--- What the line calls answer, by the tests that they make, and that their answers hold Bresenham's line and walks.
+-- What the line calls answer, by the tests that they make; that their answers hold Bresenham's line and walks; and what the places of an answer hold.
 -- Assumes nothing.
-use mathlib.Core.Path.{_≡_, refl, _∙_}
-use mathlib.Core.Bool.{Bool, true, false, _&&_}
+use mathlib.Core.Path.{_≡_, refl, ap, _∙_}
+use mathlib.Core.Bool.{Bool, true, false, cond, _&&_}
 use mathlib.Core.List.{List, [], reverse}
 use Prim.Native.Nat.{ℕ, _+_, _-_, _<_, _≤_}
 use native.Mathlib.Omega.{arith}
@@ -9,12 +9,13 @@ use lib.Dec.{ltb}
 use lib.ListN.{take}
 use lib.Seq.{take-append-seam}
 use borrow.Author.Tests.{ltb-true, lt-ltb, le-ltb, le-leb, lt-leb}
+use Rattle.utilities.proofs.Padded.{all-zero, padded-beyond}
 use Rattle.fields.specs.declared.FieldCell.{FieldCell}
-use Rattle.fields.specs.Cell.{Inside, inside}
+use Rattle.fields.specs.Cell.{cell, Inside, inside}
 use Rattle.nearest_line.specs.declared.Line.{Line}
 use Rattle.nearest_line.specs.Table.{table}
 use Rattle.nearest_line.specs.Line.{apart, placed, walkCells, shallow, steep, line, answered, refused, called, lineCall}
-use Rattle.nearest_line.specs.Nearest.{NearestLine, HoldsNearestLine, Walked, HoldsNearestWalk, columnOf, rowOf}
+use Rattle.nearest_line.specs.Nearest.{NearestLine, HoldsNearestLine, Walked, HoldsNearestWalk, columnOf, rowOf, CellsBeyond, LineRefused}
 use Rattle.nearest_line.proofs.Walks.{shallow-walked, steep-walked}
 use Rattle.nearest_line.proofs.Theorem.{nearest-line}
 
@@ -48,10 +49,19 @@ module _ (s t : FieldCell) where
     held : (r : Line) (P : List FieldCell → Type 0) → r ≡ called s t l → P l → Inside s → Inside t → P (take (r .count) (r .cells))
     held r P e p i j = let f : r ≡ answered l = e ∙ accepted (in-both i j) in rw (f, take-append-seam l) p
 
+    -- the places of an answer, and a refused one, part by part
+    pub places : (r : Line) → r ≡ called s t l → CellsBeyond r × ((r .number ≡ 0 → ⊥) → LineRefused r)
+    places r e = go (inside s && inside t) e
+      where
+        go : (b : Bool) → r ≡ cond b (answered l) (refused 13) → CellsBeyond r × ((r .number ≡ 0 → ⊥) → LineRefused r)
+        go true q = (rw q (padded-beyond 10 (cell 0 0) l), λ h. absurd (h (ap (λ (a : Line). a .number) q)))
+        go false q = rw q (λ i h. all-zero 10 (cell 0 0) i, λ h. record { count = refl; cells = all-zero 10 (cell 0 0) })
+
   -- the answer holds Bresenham's line
-  pub promised : (r : Line) → r ≡ lineCall s t → (r ≡ lineCall s t) × HoldsNearestLine s t r
+  pub promised : (r : Line) → r ≡ lineCall s t
+      → (r ≡ lineCall s t) × (HoldsNearestLine s t r × (CellsBeyond r × ((r .number ≡ 0 → ⊥) → LineRefused r)))
   unfolding lineCall
-  promised r e = (e, held (line s t) r (NearestLine s t) e (nearest-line s t))
+  promised r e = (e, (held (line s t) r (NearestLine s t) e (nearest-line s t), places (line s t) r e))
 
   -- and that of a walk alone the nearest walk, where the pair is one of its kind
   pub shallow-held : (r : Line) → r ≡ called s t (shallow s t) → HoldsNearestWalk columnOf rowOf s t r

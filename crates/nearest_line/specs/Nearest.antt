@@ -4,6 +4,7 @@ use mathlib.Core.Path.{_≡_}
 use mathlib.Core.List.{List}
 use Prim.Native.Nat.{ℕ, _+_, _-_, _*_, _<_, _≤_, min, max}
 use lib.ListN.{length, getD, take}
+use Rattle.utilities.specs.Padded.{ZeroBeyond, AllZero}
 use Rattle.fields.specs.declared.FieldCell.{FieldCell}
 use Rattle.fields.specs.Cell.{cell, Inside}
 use Rattle.nearest_line.specs.declared.Line.{Line}
@@ -75,3 +76,12 @@ HoldsNearestLine s t r = Inside s → Inside t → NearestLine s t (take (r .cou
 abbrev pub HoldsNearestWalk : (FieldCell → ℕ) → (FieldCell → ℕ) → FieldCell → FieldCell → Line → Type 0
 HoldsNearestWalk major minor s t r =
     Inside s → Inside t → major s ≤ major t → apart (minor s) (minor t) ≤ major t - major s → Walked major minor s t s t (take (r .count) (r .cells))
+
+-- the places of an answer beyond the count of its cells hold 0 (01, under the table)
+abbrev pub CellsBeyond : Line → Type 0
+CellsBeyond r = ZeroBeyond (cell 0 0) (r .count) (r .cells)
+
+-- A refused call answers its number, with every other part of the answer zero (01, under the table).
+pub record LineRefused (r : Line) : Type 0 where
+  pub count : r .count ≡ 0
+  pub cells : AllZero (cell 0 0) (r .cells)

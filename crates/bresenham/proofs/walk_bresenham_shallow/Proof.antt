@@ -3,7 +3,7 @@
 use borrow.Author.Needs.{needs}
 use Rattle.fields.specs.Cell.{cell}
 use Rattle.nearest_line.specs.Line.{shallow}
-use Rattle.nearest_line.proofs.Calls.{shallow-held}
+use Rattle.nearest_line.proofs.Calls.{places, shallow-held}
 use Rattle.bresenham.proofs.walk_bresenham_shallow.Statement.{statement}
 use Rattle.bresenham.proofs.walk_bresenham_shallow.Tie as tie
 
@@ -15,7 +15,10 @@ unfolding shallow
 returns c =
     let a = c .before .args in
     let e = c .walk-alone .ensures in
-    (e, shallow-held (cell (a .col-0) (a .row-0)) (cell (a .col-1) (a .row-1)) (c .walk-alone .result) e)
+    let s = cell (a .col-0) (a .row-0) in
+    let t = cell (a .col-1) (a .row-1) in
+    let r = c .walk-alone .result in
+    (e, (shallow-held s t r e, places s t (shallow s t) r e))
 
 pub walk-bresenham-shallow-spec : {M : Type 1} → statement M
 walk-bresenham-shallow-spec = tie.close (tie.spec walk-alone-requires returns)

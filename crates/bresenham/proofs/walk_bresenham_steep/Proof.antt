@@ -3,7 +3,7 @@
 use borrow.Author.Needs.{needs}
 use Rattle.fields.specs.Cell.{cell}
 use Rattle.nearest_line.specs.Line.{steep}
-use Rattle.nearest_line.proofs.Calls.{steep-held}
+use Rattle.nearest_line.proofs.Calls.{places, steep-held}
 use Rattle.bresenham.proofs.walk_bresenham_steep.Statement.{statement}
 use Rattle.bresenham.proofs.walk_bresenham_steep.Tie as tie
 
@@ -15,7 +15,10 @@ unfolding steep
 returns c =
     let a = c .before .args in
     let e = c .walk-alone .ensures in
-    (e, steep-held (cell (a .col-0) (a .row-0)) (cell (a .col-1) (a .row-1)) (c .walk-alone .result) e)
+    let s = cell (a .col-0) (a .row-0) in
+    let t = cell (a .col-1) (a .row-1) in
+    let r = c .walk-alone .result in
+    (e, (steep-held s t r e, places s t (steep s t) r e))
 
 pub walk-bresenham-steep-spec : {M : Type 1} → statement M
 walk-bresenham-steep-spec = tie.close (tie.spec walk-alone-requires returns)

@@ -5,7 +5,7 @@ use mathlib.Core.Path.{_≡_, refl, sym, _∙_}
 use borrow.Author.Needs.{needs}
 use borrow.Author.Tests.{ne-eqb}
 use Rattle.leg_file.specs.File.{fileAnswer, fileNumber}
-use Rattle.leg_file.proofs.Laws.{place-read, place-refused, written-same}
+use Rattle.leg_file.proofs.Laws.{part-refused, place-read, place-refused, written-same}
 use Rattle.leg_reader.proofs.locate.Statement.{statement}
 use Rattle.leg_reader.proofs.locate.Tie as tie
 
@@ -23,7 +23,7 @@ returns c =
     let n = judged .number .ensures in
     let part = c .before .read .ensures .0 in
     let z = sym n ∙ c .if1 .taken in
-    rw (n, part, place-read file z) (rw z, (refl, written-same file))
+    rw (n, part, place-read file z) (rw z, (refl, (written-same file, λ h. absurd (h z))))
 
 returns-2 : tie.Need-returns-2
 unfolding fileAnswer
@@ -33,7 +33,7 @@ returns-2 c =
     let n = judged .number .ensures in
     let part = c .before .read .ensures .0 in
     let bad : fileNumber file ≡ 0 → ⊥ = λ z. c .if1 .left (n ∙ z) in
-    rw (n, part, place-refused file bad) (rw (ne-eqb (fileNumber file) 0 bad), (refl, written-same file))
+    rw (n, part, place-refused file bad) (rw (ne-eqb (fileNumber file) 0 bad), (refl, (written-same file, λ h. record { start = refl; length = rw (part-refused file bad) })))
 
 pub locate-spec : {M : Type 1} → statement M
 locate-spec = tie.close (tie.spec number-requires read-requires returns returns-2)
