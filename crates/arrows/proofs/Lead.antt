@@ -4,7 +4,9 @@
 --     marked-told      the latter with costs of 0 too
 --     arrows-lead      the same of a sector left by a window
 --     build-arrows     the same as it is promised of `FlowField::build`
+--     made-arrows, once-built-arrows, started-arrows    and of `init` and of building a field
 --     window-flow      a window cell's byte: its flags, and the bits of its window
+--     points-flow      the byte of a reached cell where arrows do not end: a direction
 --     end-flow         the byte of a cell where arrows end: its flags, and bits below 0x20
 --     leads-once       following is determined: two ways to follow the arrows from a cell make as many moves
 --     move-read        and is the same by the direction that a byte reads as
@@ -26,22 +28,28 @@ use Rattle.fields.proofs.Beside.{beside-flip}
 use Rattle.route.specs.declared.PortalWindow.{PortalWindow}
 use Rattle.route.specs.Step.{portalOf}
 use Rattle.route.specs.Target.{Target, to-goal, to-window, to-corner, windowOf, EndCell, endsOf, isSightless, TargetIn, targetOf}
+use Rattle.integration_field.specs.declared.IntegrationField.{IntegrationField}
+use Rattle.integration_field.specs.declared.BuildAnswer.{BuildAnswer}
 use Rattle.integration_field.specs.Word.{low, isGoal, isPortal}
 use Rattle.integration_field.specs.Word as word
 use Rattle.integration_field.specs.Diagonal.{wallAt, passesWall}
 use Rattle.integration_field.specs.Listed.{listOf}
+use Rattle.integration_field.specs.Answer.{buildAnswer}
 use Rattle.integration_field.proofs.Flags.{small-flag}
 use Rattle.started_field.specs.StartedCell.{Among}
-use Rattle.started_field.specs.Started.{started}
+use Rattle.started_field.specs.declared.InitAnswer.{InitAnswer}
+use Rattle.started_field.specs.Started.{started, initNumber, initAnswer}
+use Rattle.started_field.proofs.Started.{accepted-target, answered}
 use Rattle.least_walks.specs.Walks.{Wall}
 use Rattle.least_walks.proofs.Ground.{among-mem, mem-among}
+use Rattle.least_walks.proofs.Promise.{built}
 use Rattle.flow_byte.specs.declared.Look.{Look}
 use Rattle.flow_byte.specs.declared.Look.the-variants.{Looking, Taken, Ended}
 use Rattle.flow_bits.specs.Byte.{bitsOf, dirOf, isImpassable}
 use Rattle.flow_byte.specs.New.{startOf, windowBits, newBytes}
 use Rattle.flow_byte.specs.Look.{lookedByte, lookAround, pointed, flowBuild}
 use Rattle.arrows.specs.Arrows.{Reached, arrow, Away, Cuts, Move, Leads, ends, moves, CellsMarked, ArrowsLead}
-use Rattle.arrows.specs.Promise.{WindowSector, SightlessSector, builtCells, BuildArrows}
+use Rattle.arrows.specs.Promise.{WindowSector, SightlessSector, builtCells, BuildArrows, MadeArrows, OnceBuiltArrows, StartedArrows}
 use Rattle.arrows.proofs.Fall.{end-open, EndSector, value, word-low, Plain, end-word, wall-word, by-kind, Beside, lower-beside, entered-from}
 use Rattle.arrows.proofs.Fall.{falls, rank, rank-less, rank-few}
 use Rattle.arrows.proofs.Around.{Sees, differ, near-in, reached-there, reached-back, sees-beside}
@@ -157,6 +165,12 @@ module _ (costs : List ℕ) (target : Target) (sightless : isSightless target �
       }
       go (Ended best) e q = absurd q
 
+  -- the byte of a reached cell where arrows do not end: a direction and no flag but that of a path
+  cell-points : (x : ℕ) → x < 100 → value s x < 65535 → (EndCell target x → ⊥) → (d : CompassDir) × (getD bytes x 0 ≡ pointed 0 d)
+  cell-points x h v o =
+      by-kind s x h (λ a e. absurd (o (among-mem x ends-in a))) (λ c a e. absurd (omega (arith, ap low e)))
+      (λ p l. let n = next-of (suc (value s x)) x (omega arith) (entered-from s x p v) p l v in (n .way, n .byte))
+
   -- ---- all of 0xE0
 
   -- nothing seen from an unreached cell is reached
@@ -269,6 +283,15 @@ end-flow costs target w portal has previous x h m =
     let s = end-sector costs target (w .full) (w .target-in) (w .sightless) (w .byte) in
     end-byte s (windowOf target) (window-listed target) portal has previous x h (end-word s x (mem-among x (endsOf target) m))
 
+-- the byte there of a reached cell where they do not end
+pub points-flow : (costs : List ℕ) (target : Target) → length costs ≡ 100 → TargetIn target → isSightless target ≡ true
+    → ((x : ℕ) → x < 100 → getD costs x 0 ≤ 255) → (portal : PortalWindow) (has : Bool) (previous : List ℕ)
+    → (x : ℕ) → x < 100 → Reached (builtCells costs target) x → (EndCell target x → ⊥)
+    → (d : CompassDir) × (getD (flowBuild (builtCells costs target) (newBytes portal (windowOf target) (builtCells costs target) has previous)) x 0 ≡ pointed 0 d)
+points-flow costs target full inside e byte portal has previous x h r =
+    cell-points costs target e (started costs target .field) (listOf (started costs target)) (builtCells costs target)
+    (end-sector costs target full inside e byte) portal has previous x h r
+
 -- a window cell's byte there: its flags, and the bits of its window
 pub window-flow : (costs window : List ℕ) → WindowSector costs (to-window window) → (portal : PortalWindow) (has : Bool) (previous : List ℕ)
     → (x : ℕ) → x < 100 → List·Memᴰ x window
@@ -289,6 +312,27 @@ build-arrows cells entry exit writes = record {
       (let made : exit ≡ flowBuild cells entry = writes (ap length e ∙ new-length (portalOf step) (windowOf (targetOf step)) cells has previous) in
       rw (made, e, c) (arrows-clear costs (targetOf step) full inside (portalOf step) (target-on step) has previous));
 }
+
+-- of the built cells of an accepted step; costs are bytes
+module _ (costs : List ℕ) (byte : (x : ℕ) → x < 100 → getD costs x 0 ≤ 255) where
+  made-arrows : (step : List ℕ) → initNumber costs step ≡ 0 → MadeArrows costs step (builtCells costs (targetOf step))
+  made-arrows step good =
+      let a = accepted-target costs step good in
+      record {
+        lead = λ w z has previous.
+            arrows-lead costs (targetOf step) (record { full = a .0; no-zero = z; byte = byte; target-in = a .1; by-window = w }) (portalOf step) has previous;
+        clear = λ has previous. arrows-clear costs (targetOf step) (a .0) (a .1) (portalOf step) (target-on step) has previous;
+      }
+
+  pub once-built-arrows : (step : List ℕ) (r : InitAnswer) → r ≡ initAnswer costs step → r .number ≡ 0 → OnceBuiltArrows costs step (r .field)
+  once-built-arrows step = answered costs step (OnceBuiltArrows costs step) (made-arrows step)
+
+  pub started-arrows : (f : IntegrationField) (r : BuildAnswer) → r ≡ buildAnswer costs f → StartedArrows costs f (r .field .field)
+  started-arrows f r e step good q =
+      let a = accepted-target costs step good in
+      let cells : r .field .field ≡ builtCells costs (targetOf step) =
+      ap (λ (b : BuildAnswer). b .field .field) (e ∙ built costs (targetOf step) (a .0) (a .1) f q) in
+      rw cells (made-arrows step good)
 
 -- ---- following is determined
 

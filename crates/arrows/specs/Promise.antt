@@ -7,9 +7,12 @@ use mathlib.Core.List.{List}
 use Prim.Native.Nat.{ℕ, _≤_, _<_}
 use lib.ListN.{length, getD}
 use Rattle.route.specs.Target.{Target, byWindow, isSightless, TargetIn, targetOf}
+use Rattle.integration_field.specs.declared.IntegrationField.{IntegrationField}
 use Rattle.integration_field.specs.Built.{builtField}
-use Rattle.started_field.specs.Started.{started}
+use Rattle.started_field.specs.Started.{started, initNumber}
+use Rattle.least_walks.specs.Promise.{SameStart}
 use Rattle.flow_byte.specs.New.{flowNew}
+use Rattle.flow_byte.specs.Look.{flowBuild}
 use Rattle.arrows.specs.Arrows.{ClearArrows, ArrowsLead}
 
 -- no cost 0 is drawn
@@ -44,3 +47,22 @@ pub record BuildArrows (cells entry exit : List ℕ) : Type 0 where
       → entry ≡ flowNew step cells has previous → ArrowsLead costs (targetOf step) cells exit
   pub clear : (costs step : List ℕ) (has : Bool) (previous : List ℕ) → length costs ≡ 100 → TargetIn (targetOf step) → cells ≡ builtCells costs (targetOf step)
       → entry ≡ flowNew step cells has previous → ClearArrows costs (targetOf step) exit
+
+-- what the flow field's `new` and `build`, one after the other, make of built cells for a step, with a previous field or none
+abbrev pub flowMade : List ℕ → List ℕ → Bool → List ℕ → List ℕ
+flowMade step cells has previous = flowBuild cells (flowNew step cells has previous)
+
+-- Demand 3's arrows, owed of `init` and of building a field (01, "Agreed between us"): those that are made of the built cells, with any previous field or
+-- none. Left by a window, with no cost 0, they lead; and in every sector they are clear of walls (02, "Job 7").
+pub record MadeArrows (costs step cells : List ℕ) : Type 0 where
+  pub lead : byWindow (targetOf step) ≡ true → NoCostZero costs → (has : Bool) (previous : List ℕ)
+      → ArrowsLead costs (targetOf step) cells (flowMade step cells has previous)
+  pub clear : (has : Bool) (previous : List ℕ) → ClearArrows costs (targetOf step) (flowMade step cells has previous)
+
+-- of `init`: a field that it answers, once built
+abbrev pub OnceBuiltArrows : List ℕ → List ℕ → IntegrationField → Type 0
+OnceBuiltArrows costs step f = MadeArrows costs step (builtField costs f .field)
+
+-- of `build`: where the field given is a started one, its positions aside, the cells that are answered
+abbrev pub StartedArrows : List ℕ → IntegrationField → List ℕ → Type 0
+StartedArrows costs f cells = (step : List ℕ) → initNumber costs step ≡ 0 → SameStart f (started costs (targetOf step)) → MadeArrows costs step cells

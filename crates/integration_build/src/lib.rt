@@ -14,8 +14,9 @@ ghost use Rattle.fields.specs.Cell.{cellAt, stepped};
 ghost use Rattle.integration_field.specs.Listed.{listOf, padded, Indexes};
 ghost use Rattle.integration_field.specs.Wave.{isWritten, relaxed, offered, offeredAround, offeredBy};
 ghost use Rattle.integration_field.specs.Answer.{answerOf, allCells, Accepted, buildAnswer};
-ghost use Rattle.integration_field.specs.Promise.{LeastWalks, Counted, EarliestCorners};
+ghost use Rattle.integration_field.specs.Promise.{LeastWalks, Counted, EarliestCorners, ListKept, BuildRefused};
 ghost use Rattle.least_walks.specs.Promise.{BuildsStarted};
+ghost use Rattle.arrows.specs.Promise.{StartedArrows};
 ghost use Rattle.integration_build.specs.Without.{answerWithout, withPositions, BuiltFrom};
 ghost use Rattle.integration_build.specs.Wavefront.{Settles};
 ghost use Rattle.integration_build.specs.Inner.{NotBelowAll, ChangedCells};
@@ -276,6 +277,9 @@ pub fn build(costs: &[u8], field: IntegrationField) -> BuildAnswer
     ensures counted { λ r. ⌜ (r .number ≡ 0 → Counted (now (costs .entry)) (field .field) (listOf field) (r .field .field) (r .waves)) ⌝ }
     ensures positions { λ r. ⌜ (r .number ≡ 0 → EarliestCorners (now (costs .entry)) (field .field) (listOf field) (r .field .field) (r .field .positions)) ⌝ }
     ensures started { λ r. ⌜ BuildsStarted (now (costs .entry)) field r ⌝ }
+    ensures arrows { λ r. ⌜ StartedArrows (now (costs .entry)) field (r .field .field) ⌝ }
+    ensures list { λ r. ⌜ (r .number ≡ 0 → ListKept field (r .field)) ⌝ }
+    ensures refused { λ r. ⌜ ((r .number ≡ 0 → ⊥) → BuildRefused r) ⌝ }
 {
     if costs.len() != 100 {
         return integration_field::refused(1);

@@ -1,19 +1,22 @@
 -- What `init` answers, by its numbers.
 --     costs-refused, step-refused, accepts    each way to answer
---     promised                                with each answer goes what an accepted field is, and what it is once built
+--     promised                                with each answer goes what an accepted field is, what it is once built, the arrows made of it, and a refused one
 -- Assumes nothing.
 use mathlib.Core.Path.{_≡_}
 use mathlib.Core.List.{List}
-use Prim.Native.Nat.{ℕ}
-use lib.ListN.{length}
+use Prim.Native.Nat.{ℕ, _≤_, _<_}
+use lib.ListN.{length, getD}
 use borrow.Author.Tests.{eq-eqb, ne-eqb}
 use Rattle.route.specs.Step.{stepNumberOn}
 use Rattle.route.specs.Target.{targetOf}
+use Rattle.integration_field.specs.Promise.{ZeroField}
 use Rattle.started_field.specs.declared.InitAnswer.{InitAnswer}
 use Rattle.started_field.specs.Started.{started, initNumber, initRefused, initAccepted, initAnswer, StartedField}
-use Rattle.started_field.proofs.Started.{answer-told}
+use Rattle.started_field.proofs.Started.{answer-told, init-refused}
 use Rattle.least_walks.specs.Promise.{OnceBuilt}
 use Rattle.least_walks.proofs.Promise.{once-built}
+use Rattle.arrows.specs.Promise.{OnceBuiltArrows}
+use Rattle.arrows.proofs.Lead.{once-built-arrows}
 
 module _ (costs step : List ℕ) where
   pub costs-refused : (length costs ≡ 100 → ⊥) → initRefused 1 ≡ initAnswer costs step
@@ -29,7 +32,11 @@ module _ (costs step : List ℕ) where
     unfolding initAnswer initNumber
     accepts e = rw (eq-eqb (length costs) 100 hundred, e)
 
-  pub promised : (r : InitAnswer) → r ≡ initAnswer costs step
+  -- costs are bytes
+  pub promised : ((x : ℕ) → x < 100 → getD costs x 0 ≤ 255) → (r : InitAnswer) → r ≡ initAnswer costs step
       → (r ≡ initAnswer costs step)
-      × ((r .number ≡ 0 → StartedField costs (targetOf step) (r .field)) × (r .number ≡ 0 → OnceBuilt costs (targetOf step) (r .field)))
-  promised r e = (e, (answer-told costs step r e, once-built costs step r e))
+      × ((r .number ≡ 0 → StartedField costs (targetOf step) (r .field))
+      × ((r .number ≡ 0 → OnceBuilt costs (targetOf step) (r .field))
+      × ((r .number ≡ 0 → OnceBuiltArrows costs step (r .field)) × ((r .number ≡ 0 → ⊥) → ZeroField (r .field)))))
+  promised byte r e =
+      (e, (answer-told costs step r e, (once-built costs step r e, (once-built-arrows costs byte step r e, init-refused costs step r e))))

@@ -21,6 +21,7 @@ ghost use lib.ListN.{length, take};
 ghost use Rattle.utilities.specs.Compass.{orthogonal};
 ghost use Rattle.fields.specs.Cell.{cellAt, stepped};
 ghost use Rattle.integration_field.specs.Listed.{Indexes};
+ghost use Rattle.integration_field.specs.Promise.{ZeroField};
 ghost use Rattle.route.specs.Target.{targetOf};
 ghost use Rattle.integration_field.specs.Word.{isLos, isGoal, isBlocked, isImpassable};
 ghost use Rattle.integration_field.specs.Diagonal.{wallAt};
@@ -31,6 +32,7 @@ ghost use Rattle.started_field.specs.CornerLine.{cornerLine};
 ghost use Rattle.started_field.specs.Sight.{wallOr, walls, marked, stopped, lineMarked, extended, unlessWall, sideTried, wallMet};
 ghost use Rattle.started_field.specs.Sight.{neighbourLooked, looked, lookedAround, waveLooked, sightAfter};
 ghost use Rattle.least_walks.specs.Promise.{OnceBuilt};
+ghost use Rattle.arrows.specs.Promise.{OnceBuiltArrows};
 ghost use Rattle.integration_init.specs.Held.{sightOf, Holds, Ready, Applied, AppliedAll, HoldsAll, ReadyAll, NoWall, Lent, InWave};
 
 // How many corners are listed, and how many cells the wave has queued.
@@ -593,6 +595,8 @@ pub fn init(costs: &[u8], step: &[u8]) -> InitAnswer
     ensures answer { λ r. ⌜ r ≡ initAnswer (now (costs .entry)) (now (step .entry)) ⌝ }
     ensures started { λ r. ⌜ (r .number ≡ 0 → StartedField (now (costs .entry)) (targetOf (now (step .entry))) (r .field)) ⌝ }
     ensures built { λ r. ⌜ (r .number ≡ 0 → OnceBuilt (now (costs .entry)) (targetOf (now (step .entry))) (r .field)) ⌝ }
+    ensures arrows { λ r. ⌜ (r .number ≡ 0 → OnceBuiltArrows (now (costs .entry)) (now (step .entry)) (r .field)) ⌝ }
+    ensures refused { λ r. ⌜ ((r .number ≡ 0 → ⊥) → ZeroField (r .field)) ⌝ }
 {
     if costs.len() != 100 {
         return refused(1);

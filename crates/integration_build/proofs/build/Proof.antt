@@ -1,27 +1,36 @@
 -- `integration_build::build` meets its contract. Each return is a line of the table.
 -- Assumes nothing.
 use mathlib.Core.Path.{_≡_, sym, _∙_}
-use lib.ListN.{length}
+use Prim.Native.Nat.{ℕ, _<_, _≤_}
+use native.Mathlib.Omega.{arith}
+use lib.ListN.{getD}
 use denote.Ref.{now}
 use borrow.Author.Needs.{needs}
 use Rattle.integration_field.specs.Answer.{Accepted}
 use Rattle.integration_field.proofs.Answers.{number-costs, number-count, number-corners, number-accepted}
-use Rattle.integration_build.proofs.Promised.{promised}
+use Rattle.integration_build.proofs.Promised.{Given, promised}
 use Rattle.integration_build.proofs.build.Statement.{statement}
 use Rattle.integration_build.proofs.build.Tie as tie
 
-full : (s : tie.Start) → length (s .args .t2 .field) ≡ 100
-full s = search needs
+-- where the costs are lent: the call, and what it is given
+abbrev called : tie.After-shared-slice-known → tie.Start
+called l = l .before
+
+byte : (l : tie.After-shared-slice-known) (x : ℕ) → x < 100 → getD (now (called l .args .costs)) x 0 ≤ 255
+byte l x h = omega (arith, l .shared-slice-known .given x)
+
+given : (l : tie.After-shared-slice-known) → Given (now (called l .args .costs)) (called l .args .t2)
+given l = record { byte = byte l; cells-hundred = search needs; corners-hundred = search needs }
 
 refused-requires : tie.Need-refused-requires
 refused-requires c κs = search needs
 
 returns : tie.Need-returns
 returns c =
-    let s = c .before .before .before in
-    let costs = now (s .args .costs) in
-    let f = s .args .t2 in
-    promised costs f (full s) 1 (number-costs costs f (c .before .if1 .taken)) _ (c .refused .ensures)
+    let lent = c .before .before in
+    let costs = now (called lent .args .costs) in
+    let f = called lent .args .t2 in
+    promised costs f (given lent) 1 (number-costs costs f (c .before .if1 .taken)) _ (c .refused .ensures)
 
 refused-requires-2 : tie.Need-refused-requires-2
 refused-requires-2 c κs = search needs
@@ -29,20 +38,23 @@ refused-requires-2 c κs = search needs
 returns-2 : tie.Need-returns-2
 returns-2 c =
     let hundred = c .before .before in
-    let s = hundred .before .before in
-    let costs = now (s .args .costs) in
-    let f = s .args .t2 in
-    promised costs f (full s) 11 (number-count costs f (hundred .if1 .left) (c .before .if2 .taken)) _ (c .refused2 .ensures)
+    let lent = hundred .before in
+    let costs = now (called lent .args .costs) in
+    let f = called lent .args .t2 in
+    promised costs f (given lent) 11 (number-count costs f (hundred .if1 .left) (c .before .if2 .taken)) _ (c .refused2 .ensures)
 
 corners-inside-requires : tie.Need-corners-inside-requires
 corners-inside-requires c κs = search needs
 
--- the test of the count, and the call, from the place where the corners are tested
+-- from the place where the corners are tested: the test of the count, where the costs are lent, and the call
 abbrev few : tie.After-corners-inside → tie.Else2
 few c = c .before .before .before
 
+abbrev lent : tie.After-corners-inside → tie.After-shared-slice-known
+lent c = few c .before .before
+
 abbrev start : tie.After-corners-inside → tie.Start
-start c = few c .before .before .before
+start c = called (lent c)
 
 accepts : (c : tie.Then3) → Accepted (now (start (c .before) .args .costs)) (start (c .before) .args .t2)
 accepts c = record {
@@ -59,7 +71,7 @@ returns-3 c =
     let s = start (c .before .before) in
     let costs = now (s .args .costs) in
     let f = s .args .t2 in
-    promised costs f (full s) 0 (number-accepted costs f (accepts (c .before))) _ (c .built .ensures)
+    promised costs f (given (lent (c .before .before))) 0 (number-accepted costs f (accepts (c .before))) _ (c .built .ensures)
 
 refused-requires-3 : tie.Need-refused-requires-3
 refused-requires-3 c κs = search needs
@@ -70,7 +82,7 @@ returns-4 c =
     let s = start tested in
     let costs = now (s .args .costs) in
     let f = s .args .t2 in
-    promised costs f (full s) 11
+    promised costs f (given (lent tested)) 11
     (number-corners costs f (few tested .before .if1 .left) (few tested .if2 .left) (sym (tested .corners-inside .ensures) ∙ c .before .if3 .left))
     _ (c .refused3 .ensures)
 
