@@ -34,6 +34,7 @@ use Rattle.leg_plan.specs.Leg.{part, planned}
 use Rattle.step_list.specs.Steps.{stepOf}
 use Rattle.leg_plan.specs.Promise.{sectorAt, portalAt, costsAt, hasBefore, builtAt, builtBefore, targetAt, LegPlannedBy}
 use Rattle.step_list.proofs.Steps.{steps-count}
+use Rattle.leg_plan.proofs.Before.{first-goal, later-window, sector-before}
 use Rattle.leg_plan.proofs.Numbers.{Judged, ready}
 use Rattle.leg_plan.proofs.Planned as plan
 use Rattle.leg_plan.proofs.Sheet.{built-is}
@@ -42,7 +43,6 @@ use Rattle.journey.specs.Journey as journey
 use Rattle.journey.specs.Journey.{ReachedIn, MoveInside, Stops, Journey, NoZeroFrom, NoZero, LegArrives, LegArrivesAtGoal}
 use Rattle.journey.proofs.Places.{sector-in, cell-in, arrow-is, inside}
 use Rattle.journey.proofs.Crossing.{Landing, crossing}
-use Rattle.journey.proofs.Before.{first-goal, later-window, sector-before}
 
 -- bits of the low half, or-ed onto a window cell's flags, are the arrow
 low-half : (b : ℕ) → b < 16 → bitOr 0x90 b % 16 ≡ b
@@ -74,7 +74,7 @@ module _ (sight : Bool) (floor steps sheet : List ℕ) (j : Judged floor steps s
 
   -- what is known of them
   so : LegPlannedBy sight floor ss sheet after
-  so = plan.leg-planned sight floor steps sheet (ready j) (j .sheet-full) bytes
+  so = plan.leg-planned sight floor steps sheet (ready j) (j .sheet-full) (j .ordered) bytes
 
   good : (k : ℕ) → k < length ss → stepNumber (stepOf ss k) ≡ 0
   good = plan.good sight floor steps sheet (ready j) (j .sheet-full)

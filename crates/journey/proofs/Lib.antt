@@ -1,6 +1,5 @@
 pub mod Places
 pub mod Crossing
-pub mod Before
 pub mod Arrives
 pub mod Promised
 pub mod Once

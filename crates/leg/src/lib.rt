@@ -7,6 +7,7 @@ use sectors::Across;
 use utilities::CompassDir;
 ghost use mathlib.Core.Path.{_≡_};
 ghost use mathlib.Core.Bool.{true, false};
+ghost use mathlib.Core.Logic.{_↔_};
 ghost use mathlib.Core.List.{List};
 ghost use Prim.Native.Nat.{ℕ, _≤_};
 ghost use lib.ListN.{length};
@@ -17,6 +18,8 @@ ghost use Rattle.route.specs.Inner.{heldTarget, TargetHeld};
 ghost use Rattle.sector.specs.Sector.{sectorField};
 ghost use Rattle.sectors.specs.Floor.{across};
 ghost use Rattle.step_list.specs.Steps.{stepsOf};
+ghost use Rattle.leg_plan.specs.Closed.{LegClosed};
+ghost use Rattle.leg_plan.specs.Walls.{LegOnWall};
 ghost use Rattle.leg_plan.specs.Leg.{names, namesTwice, someGoal, outOfOrder, isSector, apart, floorNumber, eachRows, judgedRows};
 ghost use Rattle.leg_plan.specs.Leg.{part, stepField, stepBytes, someClosed, withPart, planned, legNumber, legSheet, legNumberBy, legSheetBy};
 ghost use Rattle.leg_plan.specs.Inner.{LegReady};
@@ -273,6 +276,8 @@ fn plan_by_sight(floor: &[u8], steps: &[u8], sight: bool, sheet: &mut [u8]) -> u
     ensures sheet { λ _. ⌜ now (sheet .exit) ≡ legSheetBy sight (now (floor .entry)) (now (steps .entry)) (now (sheet .entry)) ⌝ }
     ensures planned { λ r. ⌜ (r ≡ 0 → LegPlannedBy sight (now (floor .entry)) (stepsOf (now (steps .entry))) (now (sheet .entry)) (now (sheet .exit))) ⌝ }
     ensures arrives { λ r. ⌜ (r ≡ 0 → Arrives sight (now (floor .entry)) (stepsOf (now (steps .entry))) (now (sheet .exit))) ⌝ }
+    ensures fifteen { λ r. ⌜ (r ≡ 15) ↔ LegClosed sight (now (floor .entry)) (now (steps .entry)) (now (sheet .entry)) ⌝ }
+    ensures sixteen { λ r. ⌜ (r ≡ 16) ↔ LegOnWall (now (floor .entry)) (now (steps .entry)) (now (sheet .entry)) ⌝ }
 {
     let number = leg_number(floor, steps, sheet.len());
     if number != 0 {
@@ -291,6 +296,8 @@ pub fn plan_leg(floor: &[u8], steps: &[u8], sheet: &mut [u8]) -> u8
     ensures sheet { λ _. ⌜ now (sheet .exit) ≡ legSheet (now (floor .entry)) (now (steps .entry)) (now (sheet .entry)) ⌝ }
     ensures planned { λ r. ⌜ (r ≡ 0 → LegPlanned (now (floor .entry)) (stepsOf (now (steps .entry))) (now (sheet .entry)) (now (sheet .exit))) ⌝ }
     ensures arrives { λ r. ⌜ (r ≡ 0 → LegArrives (now (floor .entry)) (stepsOf (now (steps .entry))) (now (sheet .exit))) ⌝ }
+    ensures fifteen { λ r. ⌜ (r ≡ 15) ↔ LegClosed true (now (floor .entry)) (now (steps .entry)) (now (sheet .entry)) ⌝ }
+    ensures sixteen { λ r. ⌜ (r ≡ 16) ↔ LegOnWall (now (floor .entry)) (now (steps .entry)) (now (sheet .entry)) ⌝ }
 {
     plan_by_sight(floor, steps, true, sheet)
 }
@@ -302,6 +309,8 @@ pub fn plan_leg_without_sight(floor: &[u8], steps: &[u8], sheet: &mut [u8]) -> u
     ensures sheet { λ _. ⌜ now (sheet .exit) ≡ legSheetBy false (now (floor .entry)) (now (steps .entry)) (now (sheet .entry)) ⌝ }
     ensures planned { λ r. ⌜ (r ≡ 0 → LegPlannedBy false (now (floor .entry)) (stepsOf (now (steps .entry))) (now (sheet .entry)) (now (sheet .exit))) ⌝ }
     ensures arrives { λ r. ⌜ (r ≡ 0 → LegArrivesAtGoal (now (floor .entry)) (stepsOf (now (steps .entry))) (now (sheet .exit))) ⌝ }
+    ensures fifteen { λ r. ⌜ (r ≡ 15) ↔ LegClosed false (now (floor .entry)) (now (steps .entry)) (now (sheet .entry)) ⌝ }
+    ensures sixteen { λ r. ⌜ (r ≡ 16) ↔ LegOnWall (now (floor .entry)) (now (steps .entry)) (now (sheet .entry)) ⌝ }
 {
     plan_by_sight(floor, steps, false, sheet)
 }

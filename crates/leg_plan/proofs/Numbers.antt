@@ -138,7 +138,7 @@ module _ (sight : Bool) (floor steps sheet : List ℕ) where
   judged-first h = rows-first (judgedRows floor steps sheet) (row 15 (someClosed sight floor (stepsOf steps)) ∷ []) h
 
   -- else 15 decides
-  last-number : Judged floor steps sheet → legNumberBy sight floor steps sheet ≡ cond (someClosed sight floor (stepsOf steps)) 15 0
+  pub last-number : Judged floor steps sheet → legNumberBy sight floor steps sheet ≡ cond (someClosed sight floor (stepsOf steps)) 15 0
   unfolding legNumberBy judgedRows
   last-number j = rw (eq-eqb (length floor) 6400 (j .floor-full), eq-eqb (length sheet) 6400 (j .sheet-full), j .list)
       (ap firstNumber (append-assoc (eachRows floor (stepsOf steps)) _ _) ∙ each-none floor (stepsOf steps) _ (j .each) ∙ rw (j .ordered, j .faced))

@@ -2,19 +2,21 @@
 --     fits             its steps and its sheet fit each other
 --     part-hundred     a sector's part of a floor has 100 bytes
 --     part-bytes       and they are bytes
+--     counting-at      a later step starts from the cells that count
 --     leg-planned      each part of the sheet, and demand 3 and arrows clear of walls for every sector that is written
 --     refuses, plans   all that is promised of a number and a sheet
 -- Assumes nothing.
 use mathlib.Core.Path.{_≡_, sym, ap, subst, _∙_}
 use mathlib.Core.Bool.{Bool, false}
+use mathlib.Core.Logic.{_↔_}
 use mathlib.Core.List.{List, []}
-use Prim.Native.Nat.{ℕ, _+_, _*_, _/_, _<_, _≤_}
+use Prim.Native.Nat.{ℕ, suc, _+_, _*_, _/_, _<_, _≤_}
 use native.Mathlib.Omega.{arith}
 use lib.ListN.{length, getD, drop, length-take, length-drop}
 use lib.Seq.{getD-take, getD-drop}
 use borrow.Author.Tests.{ne-eqb}
 use Rattle.route.specs.Step.{stepNumber}
-use Rattle.route.specs.Target.{TargetIn}
+use Rattle.route.specs.Target.{TargetIn, WindowCell}
 use Rattle.route.proofs.Accepted.{accepted-step}
 use Rattle.integration_field.specs.Built.{waveCount}
 use Rattle.started_field.specs.Started.{started}
@@ -22,13 +24,16 @@ use Rattle.sector.specs.Sector.{sectorField}
 use Rattle.sector.specs.Promise as sector
 use Rattle.sector.proofs.Planned.{sector-planned}
 use Rattle.step_list.specs.Steps.{stepsOf}
-use Rattle.leg_plan.specs.Leg.{part, legNumberBy, plannedFrom, planned, legSheetBy}
+use Rattle.leg_plan.specs.Leg.{part, outOfOrder, legNumberBy, plannedFrom, planned, legSheetBy}
 use Rattle.leg_plan.specs.Inner.{LegReady}
 use Rattle.step_list.specs.Steps.{stepOf}
 use Rattle.leg_plan.specs.Promise.{sectorAt, targetAt, portalAt, hasBefore, costsAt, builtAt, builtBefore, LegPlannedBy}
 use Rattle.step_list.proofs.Steps.{steps-count, step-of}
 use Rattle.leg_plan.proofs.Numbers.{accepted, ready}
+use Rattle.counting.specs.Counting.{CountingCell}
 use Rattle.counting.proofs.Counting.{leg-target-in, leg-target-on}
+use Rattle.counting.proofs.Told.{counting-told}
+use Rattle.leg_plan.proofs.Before.{later-window}
 use Rattle.leg_plan.proofs.Sheet.{Fits, full-after, kept, written, built-is}
 
 pub part-hundred : (l : List ℕ) (sector : ℕ) → length l ≡ 6400 → sector < 64 → length (part l sector) ≡ 100
@@ -50,14 +55,22 @@ module _ (sight : Bool) (floor steps sheet : List ℕ) (ready : LegReady floor s
   pub target-at : (k : ℕ) → k < length (stepsOf steps) → TargetIn (targetAt sight floor (stepsOf steps) k)
   target-at k h = leg-target-in sight (hasBefore k) (builtBefore sight floor (stepsOf steps) k) (stepOf (stepsOf steps) k) (good k h)
 
-  pub leg-planned : ((i : ℕ) → getD floor i 0 ≤ 255) → LegPlannedBy sight floor (stepsOf steps) sheet (planned sight floor (stepsOf steps) sheet)
+  -- the window cells that a later step starts from are those that count
+  pub counting-at : outOfOrder (stepsOf steps) ≡ false → (k : ℕ) → suc k < length (stepsOf steps) → (x : ℕ)
+      → WindowCell (targetAt sight floor (stepsOf steps) (suc k)) x ↔ CountingCell (stepOf (stepsOf steps) (suc k)) (builtAt sight floor (stepsOf steps) k) x
+  counting-at ordered k h =
+      counting-told (stepOf (stepsOf steps) (suc k)) (builtAt sight floor (stepsOf steps) k) (good (suc k) h) (later-window (stepsOf steps) ordered k h)
+
+  pub leg-planned : outOfOrder (stepsOf steps) ≡ false → ((i : ℕ) → getD floor i 0 ≤ 255)
+      → LegPlannedBy sight floor (stepsOf steps) sheet (planned sight floor (stepsOf steps) sheet)
   unfolding planned
-  leg-planned small =
+  leg-planned ordered small =
       let wrote = written sight floor (stepsOf steps) fits (ready .named-once) in
       record {
         written = wrote;
         kept = kept sight floor (stepsOf steps) false [] fits;
         same-length = full-after sight floor (stepsOf steps) false [] fits ∙ sym sheet-full;
+        counting = counting-at ordered;
         demand3 =
             λ k h.
             let costs = costsAt floor (stepsOf steps) k in
@@ -84,4 +97,4 @@ module _ (sight : Bool) (floor steps sheet : List ℕ) where
   pub plans : ((i : ℕ) → getD floor i 0 ≤ 255) → legNumberBy sight floor steps sheet ≡ 0 → (after : List ℕ) → after ≡ planned sight floor (stepsOf steps) sheet → Promised 0 after
   plans bytes z after e =
       let j = accepted sight floor steps sheet z .0 in
-      (sym z, (rw z e, λ q. subst (LegPlannedBy sight floor (stepsOf steps) sheet) (sym e) (leg-planned sight floor steps sheet (ready j) (j .sheet-full) bytes)))
+      (sym z, (rw z e, λ q. subst (LegPlannedBy sight floor (stepsOf steps) sheet) (sym e) (leg-planned sight floor steps sheet (ready j) (j .sheet-full) (j .ordered) bytes)))

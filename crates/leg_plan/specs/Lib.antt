@@ -2,3 +2,4 @@ pub mod Leg
 pub mod Inner
 pub mod Promise
 pub mod Walls
+pub mod Closed

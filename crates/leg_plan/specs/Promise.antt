@@ -2,18 +2,19 @@
 -- Assumes nothing.
 use mathlib.Core.Path.{_≡_}
 use mathlib.Core.Bool.{Bool, true, false}
+use mathlib.Core.Logic.{_↔_}
 use mathlib.Core.List.{List, []}
 use Prim.Native.Nat.{ℕ, zero, suc, _<_}
 use lib.ListN.{length}
 use Rattle.route.specs.declared.PortalWindow.{PortalWindow}
 use Rattle.route.specs.Step.{sectorOf, portalOf}
-use Rattle.route.specs.Target.{Target}
+use Rattle.route.specs.Target.{Target, WindowCell}
 use Rattle.step_list.specs.Steps.{stepOf}
 use Rattle.integration_field.specs.Built.{waveCount}
 use Rattle.started_field.specs.Started.{started}
 use Rattle.sector.specs.Sector.{sectorField, sectorBytes}
 use Rattle.sector.specs.Promise.{Planned}
-use Rattle.counting.specs.Counting.{legTarget}
+use Rattle.counting.specs.Counting.{legTarget, CountingCell}
 use Rattle.leg_plan.specs.Leg.{part, names}
 
 -- the sector that it names
@@ -58,6 +59,8 @@ module _ (sight : Bool) (floor : List ℕ) (steps : List (List ℕ)) where
     -- every other byte is as it was
     pub kept : (sector : ℕ) → names sector steps ≡ false → part after sector ≡ part before sector
     pub same-length : length after ≡ length before
+    -- a later step starts from the cells of its window that count (02, Job 2), as its bytes, rows and columns tell them
+    pub counting : (k : ℕ) → suc k < length steps → (x : ℕ) → WindowCell (targetAt (suc k)) x ↔ CountingCell (stepOf steps (suc k)) (builtAt k) x
     -- demand 3, and arrows clear of walls (02, Job 7), for every sector that is written
     pub demand3 : (k : ℕ) → k < length steps
         → Planned (costsAt floor steps k) (targetAt k) (builtAt k)

@@ -9,3 +9,4 @@ pub mod Facing
 pub mod Targets
 pub mod Selected
 pub mod Walls
+pub mod NoneIs

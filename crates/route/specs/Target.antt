@@ -3,6 +3,7 @@
 -- Assumes nothing.
 use mathlib.Core.Path.{_≡_}
 use mathlib.Core.Bool.{Bool, true, false, cond}
+use mathlib.Core.Logic.{_↔_}
 use mathlib.Core.List.{List, [], _∷_, List·Memᴰ}
 use Prim.Native.Nat.{ℕ, _/_, _%_, _<_, _≤_}
 use lib.ListN.{length, getD}
@@ -97,6 +98,11 @@ pub record StepWindow (step : List ℕ) (x : ℕ) : Type 0 where
   pub on-edge : OnNamedEdge (boundaryByte step) x
   pub from : firstOf step ≤ x
   pub to : x ≤ lastOf step
+
+-- a step's target, told by these cells
+pub record TargetTold (step : List ℕ) : Type 0 where
+  pub goal : (x : ℕ) → GoalCell (targetOf step) x ↔ StepGoal step x
+  pub window : (x : ℕ) → WindowCell (targetOf step) x ↔ StepWindow step x
 
 -- Number 16's condition (02, "Job 3") for a step that is not refused with 3 to 8, told by these cells: the goal, or a window cell, has cost 255.
 -- That a step is refused with 16 exactly then is `sixteen-told`, `proofs/Walls.antt`.

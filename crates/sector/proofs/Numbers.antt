@@ -2,22 +2,24 @@
 --     accepted           what is known of a call that is not refused
 --     last-two           where 1, 2, 3 to 8 and 16 are not due, 17 decides, and then 12
 --     seventeen-told     a call is refused with 17 exactly if 1, 2, 3 to 8 and 16 are not due, the mark is 1 and no previous field is lent
+--     sixteen-due        and with 16 exactly if 1, 2 and 3 to 8 are not due, and its goal or a window cell has cost 255
 --     either-first       17 and 12 are never both due: the one or the other may stand first
 -- Assumes nothing.
 use mathlib.Core.Path.{_≡_, refl}
-use mathlib.Core.Bool.{Bool, true, false, and-eq-true-iff, cond, not, _&&_}
+use mathlib.Core.Bool.{Bool, true, false, cond, not, _&&_}
 use mathlib.Core.Logic.{_↔_}
 use mathlib.Core.List.{List, [], _∷_}
-use Prim.Native.Nat.{ℕ, _≤_}
+use Prim.Native.Nat.{ℕ}
 use native.Mathlib.Omega.{arith}
-use lib.Dec.{leb, eqb}
+use lib.Dec.{eqb}
 use lib.ListN.{length}
-use borrow.Author.Tests.{leb-true, eqb-true, eq-eqb}
-use Rattle.route.specs.Table.{Row, row, firstNumber}
+use borrow.Author.Tests.{eqb-true, eq-eqb}
+use Rattle.route.specs.Table.{row, firstNumber}
 use Rattle.route.specs.Step.{isWindow, stepNumber, stepRowsOn, stepNumberOn}
-use Rattle.route.proofs.Walls.{accepted-on}
+use Rattle.route.proofs.Walls.{accepted-on, sixteen-told}
+use Rattle.route.proofs.NoneIs.{none-is}
 use Rattle.sector.specs.Sector.{lacksPrevious, sectorNumber}
-use Rattle.sector.specs.Previous.{WithoutPrevious}
+use Rattle.sector.specs.Previous.{WithoutPrevious, TargetOnWall}
 
 pub record Accepted (costs step : List ℕ) (has : Bool) (previous sheet : List ℕ) : Type 0 where
   pub costs-hundred : length costs ≡ 100
@@ -26,23 +28,10 @@ pub record Accepted (costs step : List ℕ) (has : Bool) (previous sheet : List 
   pub window-lent : lacksPrevious step has ≡ false
   pub previous-fits : (has && not (eqb (length previous) 100)) ≡ false
 
--- where no line of a table has a number above n, its first has none
-abbrev noneAbove : ℕ → List Row → Bool
-noneAbove n [] = true
-noneAbove n (r ∷ rs) = leb (r .number) n && noneAbove n rs
-
-none-above : (n : ℕ) (rs : List Row) → noneAbove n rs ≡ true → firstNumber rs ≤ n
-none-above n [] e = omega arith
-none-above n (r ∷ rs) e = let p = and-eq-true-iff (leb (r .number) n) (noneAbove n rs) .0 e in go (r .holds) (leb-true _ _ (p .0)) (none-above n rs (p .1))
-  where
-    go : (b : Bool) → r .number ≤ n → firstNumber rs ≤ n → cond b (r .number) (firstNumber rs) ≤ n
-    go true h t = h
-    go false h t = t
-
--- a step's number is at most 16
+-- a step's number is never 17
 never : (costs step : List ℕ) → stepNumberOn costs step ≡ 17 → ⊥
 unfolding stepNumberOn
-never costs step e = let h = none-above 16 (row 3 (not (eqb (length step) 8)) ∷ stepRowsOn costs step) refl in omega (arith, h, e)
+never costs step = none-is 16 (row 3 (not (eqb (length step) 8)) ∷ stepRowsOn costs step) refl
 
 -- 17 and 12 by a window, a previous field that is lent, and one that is other than 100 numbers: in either order the same
 not-both : (w h m : Bool) → _≡_ {A = ℕ} (cond (w && not h) 17 (cond (h && m) 12 0)) (cond (h && m) 12 (cond (w && not h) 17 0))
@@ -113,6 +102,26 @@ module _ (costs step : List ℕ) (has : Bool) (previous sheet : List ℕ) where
       so : WithoutPrevious costs step has sheet → sectorNumber costs step has previous sheet ≡ 17
       so w =
           rw (eq-eqb _ 100 (w .costs-hundred), eq-eqb _ 100 (w .sheet-hundred), eq-eqb _ 0 (w .step-taken), eq-eqb _ 1 (w .mark), w .none-lent)
+
+  pub sixteen-due : (sectorNumber costs step has previous sheet ≡ 16) ↔ TargetOnWall costs step sheet
+  unfolding sectorNumber
+  sixteen-due =
+      (to (eqb (length costs) 100) (eqb (length sheet) 100) (eqb (stepNumberOn costs step) 0) (lacksPrevious step has) misfit refl refl refl, so)
+    where
+      to : (a b d l e : Bool) → eqb (length costs) 100 ≡ a → eqb (length sheet) 100 ≡ b → eqb (stepNumberOn costs step) 0 ≡ d
+          → tested a b d l e ≡ 16 → TargetOnWall costs step sheet
+      to false b d l e p q r n = absurd (omega arith)
+      to true false d l e p q r n = absurd (omega arith)
+      to true true false l e p q r n =
+          let w = sixteen-told costs step .0 n in
+          record { costs-hundred = eqb-true _ _ p; sheet-hundred = eqb-true _ _ q; step-good = w .0; wall = w .1 }
+      to true true true true e p q r n = absurd (omega arith)
+      to true true true false true p q r n = absurd (omega arith)
+      to true true true false false p q r n = absurd (omega arith)
+
+      so : TargetOnWall costs step sheet → sectorNumber costs step has previous sheet ≡ 16
+      so w =
+          rw (eq-eqb _ 100 (w .costs-hundred), eq-eqb _ 100 (w .sheet-hundred), sixteen-told costs step .1 (w .step-good, w .wall))
 
   pub either-first : sectorNumber costs step has previous sheet
       ≡ firstNumber (row 1 (not (eqb (length costs) 100)) ∷ row 2 (not (eqb (length sheet) 100))

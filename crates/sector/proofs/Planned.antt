@@ -12,6 +12,7 @@
 -- Assumes nothing.
 use mathlib.Core.Path.{_≡_, refl, sym, ap, ap₂, _∙_}
 use mathlib.Core.Bool.{Bool, true, false, not, _&&_}
+use mathlib.Core.Logic.{_↔_}
 use mathlib.Core.List.{List}
 use Prim.Native.Nat.{ℕ, zero, suc, _<_, _≤_}
 use lib.Dec.{eqb}
@@ -20,12 +21,15 @@ use borrow.Author.Tests.{eq-eqb, ne-eqb}
 use Rattle.utilities.proofs.Lists.{table-length}
 use Rattle.route.specs.declared.PortalWindow.{PortalWindow}
 use Rattle.route.specs.Step.{goalOf, isWindow, portalOf, stepNumber}
-use Rattle.route.specs.Target.{Target, to-corner, windowOf, isSightless, withoutSight, bySight, TargetIn, targetOf}
-use Rattle.route.proofs.Targets.{target-goal, target-window, target-in, sight-in, sight-window, without-sightless, goal-end}
+use Rattle.route.specs.Target.{Target, to-corner, windowOf, isSightless, withoutSight, bySight, TargetIn, targetOf, TargetTold}
+use Rattle.route.proofs.Targets.{target-goal, target-window, target-in, sight-in, sight-window, without-sightless, goal-end, window-told}
+use Rattle.route.proofs.Targets as targets
 use Rattle.integration_field.specs.declared.IntegrationField.{IntegrationField}
 use Rattle.integration_field.specs.declared.BuildAnswer.{BuildAnswer}
 use Rattle.integration_field.specs.Built.{waveCount}
 use Rattle.integration_field.specs.Answer.{refusal, answerOf}
+use Rattle.integration_field.specs.Promise.{BuildRefused}
+use Rattle.integration_field.proofs.Answers.{build-refused}
 use Rattle.started_field.specs.Started.{started}
 use Rattle.least_walks.specs.Promise.{StartedPositions}
 use Rattle.least_walks.specs.Goal.{GoalCosts, GoalPositions}
@@ -40,8 +44,9 @@ use Rattle.arrows.proofs.Clear.{OnEdge, arrows-clear, target-on}
 use Rattle.arrows.proofs.Lead.{arrows-led, marked-told, arrows-lead}
 use Rattle.sector.specs.Sector.{sectorNumber, sectorField, sectorBytes, sectorAnswer, sectorSheet, sectorAnswerBy, sectorSheetBy}
 use Rattle.sector.specs.Inner.{flowBytes}
+use Rattle.sector.specs.Previous.{WithoutPrevious, TargetOnWall}
 use Rattle.sector.specs.Promise.{Planned, PlannedWithout}
-use Rattle.sector.proofs.Numbers.{Accepted, accepted}
+use Rattle.sector.proofs.Numbers.{Accepted, accepted, seventeen-told, sixteen-due}
 
 -- what `new` and `build` leave, one after the other
 pub written : (portal : PortalWindow) (window cells : List ℕ) (has : Bool) (previous new bytes : List ℕ)
@@ -130,19 +135,33 @@ module _ (sight : Bool) (costs step : List ℕ) (has : Bool) (previous sheet : L
   abbrev target : Target
   target = bySight sight (targetOf step)
 
+  -- its target, and 16 and 17, by what they are told by
+  abbrev Told : BuildAnswer → Type 0
+  Told r =
+      (r .number ≡ 0 → TargetTold step)
+      × (((r .number ≡ 16) ↔ TargetOnWall costs step sheet) × ((r .number ≡ 17) ↔ WithoutPrevious costs step has sheet))
+
+  told : (r : BuildAnswer) → r .number ≡ sectorNumber costs step has previous sheet → Told r
+  told r e = rw e (
+    λ z. (let good = accepted costs step has previous sheet z .step-good in record { goal = targets.goal-told step good; window = window-told step good }),
+    (sixteen-due costs step has previous sheet, seventeen-told costs step has previous sheet),
+  )
+
   -- an answer, and the sheet that is left with it
   abbrev Promised : BuildAnswer → List ℕ → Type 0
   Promised r bytes =
       (r ≡ sectorAnswerBy sight costs step has previous sheet)
       × ((bytes ≡ sectorSheetBy sight costs step has previous sheet)
       × ((r .number ≡ 0 → Planned costs target (r .field .field) (r .waves) bytes)
-      × (r .number ≡ 0 → StartedPositions costs target (r .field .field) (r .field .positions))))
+      × ((r .number ≡ 0 → StartedPositions costs target (r .field .field) (r .field .positions))
+      × (((r .number ≡ 0 → ⊥) → BuildRefused r) × Told r))))
 
   pub refuses : (n : ℕ) → n ≡ sectorNumber costs step has previous sheet → (n ≡ 0 → ⊥) → (r : BuildAnswer) → r ≡ refusal n → Promised r sheet
   refuses zero e h r q = absurd (h refl)
   refuses (suc n) e h r q =
       let not-zero : r .number ≡ 0 → ⊥ = λ z. h (sym (ap (λ (b : BuildAnswer). b .number) q) ∙ z) in
-      (q ∙ rw (← e), (rw (← e, ne-eqb (suc n) 0 h), (λ z. absurd (not-zero z), λ z. absurd (not-zero z))))
+      let zero-parts = build-refused (suc n) costs (started costs target) r q in
+      (q ∙ rw (← e), (rw (← e, ne-eqb (suc n) 0 h), (λ z. absurd (not-zero z), (λ z. absurd (not-zero z), (zero-parts, told r (ap (λ (b : BuildAnswer). b .number) q ∙ e))))))
 
   pub accepts : ((x : ℕ) → x < 100 → getD costs x 0 ≤ 255) → sectorNumber costs step has previous sheet ≡ 0 → (b : BuildAnswer) (bytes : List ℕ)
       → b ≡ answerOf 0 costs (started costs target) → bytes ≡ sectorBytes costs target (portalOf step) has previous → Promised b bytes
@@ -154,7 +173,10 @@ module _ (sight : Bool) (costs step : List ℕ) (has : Bool) (previous sheet : L
           w ∙ rw z,
           (
             λ _. rw (e, w) (sector-planned costs target (portalOf step) (ok .costs-hundred) inside has previous byte (sight-on sight step)),
-            λ _. rw e (started-positions costs target (ok .costs-hundred) inside),
+            (
+              λ _. rw e (started-positions costs target (ok .costs-hundred) inside),
+              (build-refused 0 costs (started costs target) b e, told b (ap (λ (a : BuildAnswer). a .number) e ∙ sym z)),
+            ),
           ),
         ),
       )

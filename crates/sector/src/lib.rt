@@ -6,16 +6,19 @@ use route::RouteStep;
 use route::Target;
 use route::WindowCells;
 ghost use mathlib.Core.Path.{_≡_};
+ghost use mathlib.Core.Logic.{_↔_};
 ghost use mathlib.Core.Bool.{true, false};
 ghost use mathlib.Core.List.{List};
 ghost use Prim.Native.Nat.{ℕ};
 ghost use lib.ListN.{length};
 ghost use Rattle.route.specs.Step.{isWindow};
-ghost use Rattle.route.specs.Target.{targetOf, withoutSight, bySight};
+ghost use Rattle.route.specs.Target.{targetOf, withoutSight, bySight, TargetTold};
 ghost use Rattle.route.specs.Inner.{heldCells, heldTarget, WindowHeld};
+ghost use Rattle.integration_field.specs.Promise.{BuildRefused};
 ghost use Rattle.integration_field.specs.Answer.{answerOf};
 ghost use Rattle.started_field.specs.Started.{started};
 ghost use Rattle.least_walks.specs.Promise.{StartedPositions};
+ghost use Rattle.sector.specs.Previous.{WithoutPrevious, TargetOnWall};
 ghost use Rattle.sector.specs.Sector.{lacksPrevious, sectorNumber, sectorBytes, sectorAnswer, sectorSheet, sectorAnswerBy, sectorSheetBy};
 ghost use Rattle.sector.specs.Inner.{flowBytes, RunReady};
 ghost use Rattle.sector.specs.Promise.{Planned, PlannedWithout};
@@ -114,6 +117,10 @@ fn plan_by_sight(
         → Planned (now (costs .entry)) (bySight sight (targetOf (now (step .entry)))) (r .field .field) (r .waves) (now (sheet .exit))) ⌝ }
     ensures positions { λ r. ⌜ (r .number ≡ 0
         → StartedPositions (now (costs .entry)) (bySight sight (targetOf (now (step .entry)))) (r .field .field) (r .field .positions)) ⌝ }
+    ensures refused { λ r. ⌜ ((r .number ≡ 0 → ⊥) → BuildRefused r) ⌝ }
+    ensures target { λ r. ⌜ (r .number ≡ 0 → TargetTold (now (step .entry))) ⌝ }
+    ensures sixteen { λ r. ⌜ (r .number ≡ 16) ↔ TargetOnWall (now (costs .entry)) (now (step .entry)) (now (sheet .entry)) ⌝ }
+    ensures seventeen { λ r. ⌜ (r .number ≡ 17) ↔ WithoutPrevious (now (costs .entry)) (now (step .entry)) «has_previous» (now (sheet .entry)) ⌝ }
 {
     let number = sector_number(costs, step, has_previous, previous, sheet.len());
     if number != 0 {
@@ -146,6 +153,10 @@ pub fn plan_sector(
     ensures planned { λ r. ⌜ (r .number ≡ 0 → Planned (now (costs .entry)) (targetOf (now (step .entry))) (r .field .field) (r .waves) (now (sheet .exit))) ⌝ }
     ensures positions { λ r. ⌜ (r .number ≡ 0
         → StartedPositions (now (costs .entry)) (targetOf (now (step .entry))) (r .field .field) (r .field .positions)) ⌝ }
+    ensures refused { λ r. ⌜ ((r .number ≡ 0 → ⊥) → BuildRefused r) ⌝ }
+    ensures target { λ r. ⌜ (r .number ≡ 0 → TargetTold (now (step .entry))) ⌝ }
+    ensures sixteen { λ r. ⌜ (r .number ≡ 16) ↔ TargetOnWall (now (costs .entry)) (now (step .entry)) (now (sheet .entry)) ⌝ }
+    ensures seventeen { λ r. ⌜ (r .number ≡ 17) ↔ WithoutPrevious (now (costs .entry)) (now (step .entry)) «has_previous» (now (sheet .entry)) ⌝ }
 {
     plan_by_sight(costs, step, true, has_previous, previous, sheet)
 }
@@ -171,6 +182,10 @@ pub fn plan_sector_without_sight(
     ensures window { λ r. ⌜ (isWindow (now (step .entry)) ≡ true
         → (r ≡ sectorAnswer (now (costs .entry)) (now (step .entry)) «has_previous» (now (previous .entry)) (now (sheet .entry)))
         × (now (sheet .exit) ≡ sectorSheet (now (costs .entry)) (now (step .entry)) «has_previous» (now (previous .entry)) (now (sheet .entry)))) ⌝ }
+    ensures refused { λ r. ⌜ ((r .number ≡ 0 → ⊥) → BuildRefused r) ⌝ }
+    ensures target { λ r. ⌜ (r .number ≡ 0 → TargetTold (now (step .entry))) ⌝ }
+    ensures sixteen { λ r. ⌜ (r .number ≡ 16) ↔ TargetOnWall (now (costs .entry)) (now (step .entry)) (now (sheet .entry)) ⌝ }
+    ensures seventeen { λ r. ⌜ (r .number ≡ 17) ↔ WithoutPrevious (now (costs .entry)) (now (step .entry)) «has_previous» (now (sheet .entry)) ⌝ }
 {
     plan_by_sight(costs, step, false, has_previous, previous, sheet)
 }

@@ -37,7 +37,7 @@ returns c =
     _ _ (e .0) (e .1 .0) in
     let same = window-same (now (a .costs)) (now (a .step)) (λ x h. byte called x) (a .has-previous) (now (a .previous)) (now (a .sheet))
     _ _ (e .0) (e .1 .0) in
-    (e .0, (e .1 .0, (e .1 .1 .0, (e .1 .1 .1, (told, same)))))
+    (e .0, (e .1 .0, (e .1 .1 .0, (e .1 .1 .1 .0, (told, (same, e .1 .1 .1 .1))))))
 
 pub plan-sector-without-sight-spec : {M : Type 1} → statement M
 plan-sector-without-sight-spec = tie.close (tie.spec plan-by-sight-requires same-length returns)
