@@ -5,6 +5,7 @@
 -- Assumes nothing.
 use mathlib.Core.Path.{_≡_, sym, ap, _∙_}
 use mathlib.Core.Bool.{Bool, true, false, _||_}
+use mathlib.Core.Logic.{_↔_}
 use mathlib.Core.List.{List, [], _∷_, _++_, map}
 use Prim.Native.Nat.{ℕ, suc, _≤_, _<_}
 use lib.ListN.{length, getD}
@@ -21,10 +22,10 @@ use Rattle.arrows.specs.Promise.{builtCells}
 use Rattle.sector.specs.Sector.{sectorBytes}
 use Rattle.cost_bounds.specs.declared.Bounds.{Bounds}
 use Rattle.cost_bounds.specs.Bounds.{someOf, boundsNumber, isSure, refusedBounds, acceptedBounds, boundsAnswer}
-use Rattle.cost_bounds.specs.Promise.{CostBounds, SureMarks}
+use Rattle.cost_bounds.specs.Promise.{CostBounds, SureMarks, BoundsRefused, NoBounds}
 use Rattle.cost_bounds.proofs.Marks.{told-some}
 use Rattle.cost_bounds.proofs.Promise.{cost-bounds, sure-marks, portals}
-use Rattle.cost_bounds.proofs.Numbers.{accepted, ranged, by-window}
+use Rattle.cost_bounds.proofs.Numbers.{accepted, eighteen-told, ranged, zero-bounds, by-window}
 use Rattle.bounds.specs.Promise.{floorBytes}
 
 -- ---- all cells, one after the other
@@ -64,14 +65,17 @@ module _ (low high step : List ℕ) where
   Promised r =
       (r ≡ boundsAnswer low high step)
       × ((r .number ≡ 0 → CostBounds low high (targetOf step) (r .least) (r .greatest))
-      × (r .number ≡ 0 → SureMarks low high (targetOf step) (floorBytes step) (r .least) (r .greatest) (r .sure)))
+      × ((r .number ≡ 0 → SureMarks low high (targetOf step) (floorBytes step) (r .least) (r .greatest) (r .sure))
+      × (((r .number ≡ 0 → ⊥) → BoundsRefused r) × ((r .number ≡ 18) ↔ NoBounds low high step))))
 
   -- of a refused call nothing is promised but its answer, whatever is promised of an accepted one
   pub refuses : {Bounded Sure : Type 0} → (n : ℕ) → n ≡ boundsNumber low high step → (n ≡ 0 → ⊥) → (r : Bounds) → r ≡ refusedBounds n
-      → (r ≡ boundsAnswer low high step) × ((r .number ≡ 0 → Bounded) × (r .number ≡ 0 → Sure))
+      → (r ≡ boundsAnswer low high step) × ((r .number ≡ 0 → Bounded) × ((r .number ≡ 0 → Sure)
+      × (((r .number ≡ 0 → ⊥) → BoundsRefused r) × ((r .number ≡ 18) ↔ NoBounds low high step))))
   refuses n e h r q =
       let z : r .number ≡ n = ap (λ (b : Bounds). b .number) q in
-      (q ∙ rw (← e, ne-eqb n 0 h), (λ f. absurd (h (sym z ∙ f)), λ f. absurd (h (sym z ∙ f))))
+      let zero-parts : BoundsRefused r = rw q (zero-bounds n) in
+      (q ∙ rw (← e, ne-eqb n 0 h), (λ f. absurd (h (sym z ∙ f)), (λ f. absurd (h (sym z ∙ f)), (λ f. zero-parts, rw (z, e) (eighteen-told low high step)))))
 
   pub accepts : ((x : ℕ) → x < 100 → getD high x 0 ≤ 255) → boundsNumber low high step ≡ 0 → (r : Bounds)
       → r ≡ acceptedBounds low high (targetOf step) → Promised r
@@ -83,4 +87,6 @@ module _ (low high step : List ℕ) where
       let window = by-window step (ok .window-step) in
       let bounded = cost-bounds low high (targetOf step) floors inside window in
       let sure = sure-marks low high (targetOf step) floors inside window (portalOf step) in
-      (e ∙ rw z, (λ f. rw e bounded, λ f. rw e sure))
+      let n : r .number ≡ 0 = ap (λ (b : Bounds). b .number) e in
+      let told : (r .number ≡ 18) ↔ NoBounds low high step = rw (n ∙ sym z) (eighteen-told low high step) in
+      (e ∙ rw z, (λ f. rw e bounded, (λ f. rw e sure, (λ f. absurd (f n), told))))

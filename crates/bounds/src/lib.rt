@@ -4,6 +4,7 @@ use cost_bounds::Bounds;
 use route::RouteStep;
 use route::Target;
 ghost use mathlib.Core.Path.{_≡_};
+ghost use mathlib.Core.Logic.{_↔_};
 ghost use mathlib.Core.Bool.{not, _&&_, _||_};
 ghost use lib.Dec.{ltb, eqb};
 ghost use lib.ListN.{length};
@@ -11,7 +12,7 @@ ghost use Rattle.utilities.specs.Lists.{below};
 ghost use Rattle.route.specs.Target.{targetOf};
 ghost use Rattle.route.specs.Inner.{heldTarget};
 ghost use Rattle.cost_bounds.specs.Bounds.{someOf, noRange, boundsNumber, refusedBounds, acceptedBounds, boundsAnswer};
-ghost use Rattle.cost_bounds.specs.Promise.{CostBounds, SureMarks};
+ghost use Rattle.cost_bounds.specs.Promise.{CostBounds, SureMarks, BoundsRefused, NoBounds};
 ghost use Rattle.bounds.specs.Inner.{FloorsReady};
 ghost use Rattle.bounds.specs.Promise.{floorBytes};
 
@@ -108,6 +109,8 @@ pub fn bounds(low: &[u8], high: &[u8], step: &[u8]) -> Bounds
     ensures bounded { λ r. ⌜ (r .number ≡ 0 → CostBounds (now (low .entry)) (now (high .entry)) (targetOf (now (step .entry))) (r .least) (r .greatest)) ⌝ }
     ensures sure { λ r. ⌜ (r .number ≡ 0 → SureMarks (now (low .entry)) (now (high .entry)) (targetOf (now (step .entry)))
         (floorBytes (now (step .entry))) (r .least) (r .greatest) (r .sure)) ⌝ }
+    ensures refused { λ r. ⌜ ((r .number ≡ 0 → ⊥) → BoundsRefused r) ⌝ }
+    ensures eighteen { λ r. ⌜ (r .number ≡ 18) ↔ NoBounds (now (low .entry)) (now (high .entry)) (now (step .entry)) ⌝ }
 {
     let number = bounds_number(low, high, step);
     if number != 0 {

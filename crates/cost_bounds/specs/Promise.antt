@@ -3,20 +3,23 @@
 -- Assumes nothing.
 use mathlib.Core.Path.{_≡_}
 use mathlib.Core.Bool.{Bool, true, false}
-use mathlib.Core.Logic.{_↔_}
+use mathlib.Core.Logic.{_⊎_, _↔_}
 use mathlib.Core.List.{List, List·Memᴰ}
 use Prim.Native.Nat.{ℕ, _≤_, _<_}
 use lib.ListN.{length, getD}
 use Rattle.utilities.specs.declared.CompassDir.{CompassDir}
 use Rattle.utilities.specs.Compass.{all}
+use Rattle.utilities.specs.Padded.{AllZero}
 use Rattle.fields.specs.declared.Stepped.the-variants.{Cell}
 use Rattle.fields.specs.Cell.{cellAt, stepped}
+use Rattle.route.specs.Step.{markOf, stepNumberOn}
 use Rattle.route.specs.Target.{Target, WindowCell}
 use Rattle.least_walks.specs.Walks.{Wall}
 use Rattle.flow_byte.specs.declared.Look.the-variants.{Looking}
 use Rattle.flow_byte.specs.Look.{lookAt}
 use Rattle.arrows.specs.Arrows.{builtCost, Reached, arrow, Away, PassesWall}
 use Rattle.arrows.specs.Promise.{builtCells}
+use Rattle.cost_bounds.specs.declared.Bounds.{Bounds}
 
 -- a floor between two others (02, "Job 9": all floors between them): each cell costs at least what it costs on the low one, and at most what it
 -- costs on the high one
@@ -95,3 +98,24 @@ pub record SureMarks (low high : List ℕ) (target : Target) (bytes : List ℕ �
   -- the permitted neighbours on each of these floors, by rows and columns
   pub places : (costs : List ℕ) → FloorBetween low high costs → (x : ℕ) → x < 100 → (n : ℕ)
       → PermittedNeighbour (builtCells costs target) x n ↔ PermittedPlace costs target x n
+
+-- A refused call answers its number, with every other part of the answer zero (01, under the table).
+pub record BoundsRefused (r : Bounds) : Type 0 where
+  pub least : AllZero 0 (r .least)
+  pub greatest : AllZero 0 (r .greatest)
+  pub sure : AllZero false (r .sure)
+
+-- cell x's two costs are no from-to (02, "Job 9"): low above high, or 255 in only one of the two
+pub data NoRange (low high : List ℕ) (x : ℕ) : Type 0 where
+  above : getD high x 0 < getD low x 0 → NoRange low high x
+  low-wall : getD low x 0 ≡ 255 → (getD high x 0 ≡ 255 → ⊥) → NoRange low high x
+  high-wall : getD high x 0 ≡ 255 → (getD low x 0 ≡ 255 → ⊥) → NoRange low high x
+
+-- The call is refused with 18 exactly then: 1 is due for neither floor, 3 to 8 and 16 are due on neither, and the step has no window, or some cell's costs
+-- are no from-to.
+pub record NoBounds (low high step : List ℕ) : Type 0 where
+  pub low-hundred : length low ≡ 100
+  pub high-hundred : length high ≡ 100
+  pub taken-low : stepNumberOn low step ≡ 0
+  pub taken-high : stepNumberOn high step ≡ 0
+  pub why : (markOf step ≡ 0) ⊎ ((x : ℕ) × (x < 100) × NoRange low high x)

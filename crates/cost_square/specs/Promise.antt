@@ -4,10 +4,11 @@
 use mathlib.Core.Path.{_≡_}
 use mathlib.Core.Logic.{_⊎_, _↔_}
 use mathlib.Core.List.{List, []}
-use Prim.Native.Nat.{ℕ, _≤_, _<_}
+use Prim.Native.Nat.{ℕ, _%_, _≤_, _<_}
 use lib.ListN.{length, getD}
+use Rattle.route.specs.Step.{sectorOf, markOf, stepNumberOn}
 use Rattle.route.specs.Target.{Target, GoalCell, targetOf, StepWindow}
-use Rattle.step_list.specs.Steps.{stepOf}
+use Rattle.step_list.specs.Steps.{stepsOf, stepOf}
 use Rattle.integration_field.specs.Listed.{listOf}
 use Rattle.integration_field.specs.Built.{waveCount}
 use Rattle.started_field.specs.Started.{started}
@@ -46,3 +47,34 @@ pub record WindowSquare (costs : List ℕ) (steps : List (List ℕ)) (square : L
   pub own : (i : ℕ) → i < length steps → costAt square i i ≡ 0
   -- unused places are 65535
   pub unused : (i j : ℕ) → i < 8 → j < 8 → (length steps ≤ i) ⊎ (length steps ≤ j) → costAt square i j ≡ 65535
+
+-- a refused call answers its number, with every other part of the answer zero (01, under the table)
+abbrev pub SquareRefused : List (List ℕ) → Type 0
+SquareRefused square = (i j : ℕ) → costAt square i j ≡ 0
+
+-- ---- 19 and 20, by bytes and by the step's mark and sector, and not by the table's lines
+
+-- The call is refused with 19 exactly then: 1 and 3 are not due, and there are fewer than 2 steps or more than 8, of 8 bytes each.
+pub record WrongCount (costs steps : List ℕ) : Type 0 where
+  pub costs-hundred : length costs ≡ 100
+  pub whole : length steps % 8 ≡ 0
+  pub count : (length steps < 16) ⊎ (64 < length steps)
+
+-- a step that is not refused on these costs, with a window, in this sector
+pub record AmongWindows (costs : List ℕ) (sector : ℕ) (step : List ℕ) : Type 0 where
+  pub taken : stepNumberOn costs step ≡ 0
+  pub mark : markOf step ≡ 1
+  pub same : sectorOf step ≡ sector
+
+-- The call is refused with 20 exactly then: 1, 3 and 19 are not due, and some step, which is not refused with 4 to 8 or 16, has no window or is in another
+-- sector than the first, and no step before it is refused. Whether a number of a later step is due is not asked.
+pub record NotAmong (costs steps : List ℕ) : Type 0 where
+  pub costs-hundred : length costs ≡ 100
+  pub whole : length steps % 8 ≡ 0
+  pub some : 16 ≤ length steps
+  pub few : length steps ≤ 64
+  pub place : ℕ
+  pub inside : place < length (stepsOf steps)
+  pub taken : stepNumberOn costs (stepOf (stepsOf steps) place) ≡ 0
+  pub why : (markOf (stepOf (stepsOf steps) place) ≡ 0) ⊎ (sectorOf (stepOf (stepsOf steps) place) ≡ sectorOf (stepOf (stepsOf steps) 0) → ⊥)
+  pub before : (j : ℕ) → j < place → AmongWindows costs (sectorOf (stepOf (stepsOf steps) 0)) (stepOf (stepsOf steps) j)

@@ -2,9 +2,11 @@
 use tour_plan::PlannedTour;
 use tours::WindowTour;
 ghost use mathlib.Core.Path.{_≡_};
+ghost use mathlib.Core.Logic.{_↔_};
 ghost use Rattle.step_list.specs.Steps.{stepsOf};
+ghost use Rattle.cost_square.specs.Promise.{WrongCount, NotAmong};
 ghost use Rattle.tour_plan.specs.Plan.{refusedTour, acceptedTour, tourIn, tourAnswer};
-ghost use Rattle.tour_plan.specs.Promise.{TourPlanned};
+ghost use Rattle.tour_plan.specs.Promise.{TourPlanned, TourRefused};
 
 // A refused answer: its number, and every other part zero.
 fn refused(number: u8) -> PlannedTour
@@ -40,6 +42,9 @@ fn accepted(tour: WindowTour) -> PlannedTour
 pub fn plan_tour(costs: &[u8], steps: &[u8], limit: u16) -> PlannedTour
     ensures answer { λ r. ⌜ r ≡ tourAnswer (now (costs .entry)) (now (steps .entry)) limit ⌝ }
     ensures planned { λ r. ⌜ (r .number ≡ 0 → TourPlanned (now (costs .entry)) (stepsOf (now (steps .entry))) limit (tourIn r)) ⌝ }
+    ensures refused { λ r. ⌜ ((r .number ≡ 0 → ⊥) → TourRefused r) ⌝ }
+    ensures nineteen { λ r. ⌜ (r .number ≡ 19) ↔ WrongCount (now (costs .entry)) (now (steps .entry)) ⌝ }
+    ensures twenty { λ r. ⌜ (r .number ≡ 20) ↔ NotAmong (now (costs .entry)) (now (steps .entry)) ⌝ }
 {
     let number = window_steps::window_costs_number(costs, steps);
     if number != 0 {

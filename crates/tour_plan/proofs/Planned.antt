@@ -3,7 +3,7 @@
 --     tour-square       so that it is one that a tour goes over
 --     refuses, accepts  all that is promised of a refused call, and of an accepted one
 -- Assumes nothing.
-use mathlib.Core.Path.{_≡_, sym, ap, subst, _∙_}
+use mathlib.Core.Path.{_≡_, refl, sym, ap, subst, _∙_}
 use mathlib.Core.Bool.{Bool, true, false, cond, _&&_}
 use mathlib.Core.List.{List, []}
 use Prim.Native.Nat.{ℕ, _/_, _≤_, _<_}
@@ -12,6 +12,7 @@ use native.Mathlib.Decide.{decLt}
 use lib.Dec.{ltb}
 use lib.ListN.{length, getD, List·getD-eq-default}
 use borrow.Author.Tests.{ne-eqb}
+use Rattle.utilities.proofs.Padded.{all-zero}
 use Rattle.route.specs.Step.{windowCells}
 use Rattle.route.specs.Target.{targetOf}
 use Rattle.step_list.specs.Steps.{stepsOf, stepOf}
@@ -22,6 +23,7 @@ use Rattle.cost_square.specs.Promise.{costAt}
 use Rattle.cost_square.specs.Inner.{WindowsReady}
 use Rattle.cost_square.proofs.Least.{least-small}
 use Rattle.cost_square.proofs.Numbers.{ready}
+use Rattle.cost_square.proofs.Calls.{NumbersTold, numbers}
 use Rattle.cost_square.proofs.Promise.{entry-at, row-long, rows-eight, square-told}
 use Rattle.tour_orders.specs.Orders.{orders}
 use Rattle.tour_orders.specs.Told.{AllOrders}
@@ -30,7 +32,7 @@ use Rattle.tours.specs.Tours.{windowTour}
 use Rattle.tours.specs.Promise.{TourSquare, BestAnswer, LeastAnswer}
 use Rattle.tour_plan.specs.declared.PlannedTour.{PlannedTour}
 use Rattle.tour_plan.specs.Plan.{refusedTour, acceptedTour, tourIn, tourAnswer}
-use Rattle.tour_plan.specs.Promise.{TourPlanned}
+use Rattle.tour_plan.specs.Promise.{TourPlanned, TourRefused}
 
 -- ---- the square
 
@@ -67,10 +69,11 @@ tour-square costs steps r = record { some = r .some; few = r .few; costs = squar
 module _ (costs steps : List ℕ) (limit : ℕ) where
   -- of a refused call nothing is promised but its answer, whatever is promised of an accepted one
   pub refuses : {Told : Type 0} → (n : ℕ) → n ≡ windowCostsNumber costs steps → (n ≡ 0 → ⊥) → (r : PlannedTour) → r ≡ refusedTour n
-      → (r ≡ tourAnswer costs steps limit) × (r .number ≡ 0 → Told)
+      → (r ≡ tourAnswer costs steps limit) × ((r .number ≡ 0 → Told) × (((r .number ≡ 0 → ⊥) → TourRefused r) × NumbersTold costs steps (r .number)))
   refuses n e h r q =
       let z : r .number ≡ n = ap (λ (w : PlannedTour). w .number) q in
-      (q ∙ rw (← e, ne-eqb n 0 h), λ f. absurd (h (sym z ∙ f)))
+      let zero-parts : TourRefused r = rw q (record { found = refl; order = all-zero 8 0; sum = refl; tried = refl; least = refl }) in
+      (q ∙ rw (← e, ne-eqb n 0 h), (λ f. absurd (h (sym z ∙ f)), (λ f. zero-parts, numbers costs steps (r .number) (z ∙ e))))
 
   -- a tour of n windows over the square, as it is promised
   abbrev pub Told : WindowTour → ℕ → Type 0
@@ -80,7 +83,9 @@ module _ (costs steps : List ℕ) (limit : ℕ) where
 
   pub accepts : ((x : ℕ) → x < 100 → getD costs x 0 ≤ 255) → windowCostsNumber costs steps ≡ 0 → (t : WindowTour) → Told t (length steps / 8)
       → (r : PlannedTour) → r ≡ acceptedTour t
-      → (r ≡ tourAnswer costs steps limit) × (r .number ≡ 0 → TourPlanned costs (stepsOf steps) limit (tourIn r))
+      → (r ≡ tourAnswer costs steps limit)
+      × ((r .number ≡ 0 → TourPlanned costs (stepsOf steps) limit (tourIn r))
+      × (((r .number ≡ 0 → ⊥) → TourRefused r) × NumbersTold costs steps (r .number)))
   accepts byte z t lent r made =
       let told = subst (Told t) (sym (steps-count steps)) lent in
       let planned : TourPlanned costs (stepsOf steps) limit t = record {
@@ -89,4 +94,5 @@ module _ (costs steps : List ℕ) (limit : ℕ) where
         best = told .1 .1 .0;
         under = told .1 .1 .1;
       } in
-      (made ∙ ap acceptedTour (told .0) ∙ rw z, λ f. rw made planned)
+      let n : r .number ≡ 0 = ap (λ (w : PlannedTour). w .number) made in
+      (made ∙ ap acceptedTour (told .0) ∙ rw z, (λ f. rw made planned, (λ f. absurd (f n), numbers costs steps (r .number) (n ∙ sym z))))

@@ -2,11 +2,12 @@
 use cost_square::WindowCosts;
 use cost_square::WindowRow;
 ghost use mathlib.Core.Path.{_≡_};
+ghost use mathlib.Core.Logic.{_↔_};
 ghost use mathlib.Core.List.{map};
 ghost use Rattle.utilities.specs.Lists.{below};
 ghost use Rattle.step_list.specs.Steps.{stepsOf};
 ghost use Rattle.cost_square.specs.Square.{squareEntry, costSquare, squareIn, refusedWindowCosts, windowCostsAnswer};
-ghost use Rattle.cost_square.specs.Promise.{WindowSquare};
+ghost use Rattle.cost_square.specs.Promise.{WindowSquare, SquareRefused, WrongCount, NotAmong};
 ghost use Rattle.cost_square.specs.Inner.{WindowsReady};
 
 // One place of each row: what it costs from each window to the one at place j, for which alone the floor is built.
@@ -49,6 +50,9 @@ fn refused(number: u8) -> WindowCosts
 pub fn window_costs(costs: &[u8], steps: &[u8]) -> WindowCosts
     ensures answer { λ r. ⌜ r ≡ windowCostsAnswer (now (costs .entry)) (now (steps .entry)) ⌝ }
     ensures least { λ r. ⌜ (r .number ≡ 0 → WindowSquare (now (costs .entry)) (stepsOf (now (steps .entry))) (squareIn (r .rows))) ⌝ }
+    ensures refused { λ r. ⌜ ((r .number ≡ 0 → ⊥) → SquareRefused (squareIn (r .rows))) ⌝ }
+    ensures nineteen { λ r. ⌜ (r .number ≡ 19) ↔ WrongCount (now (costs .entry)) (now (steps .entry)) ⌝ }
+    ensures twenty { λ r. ⌜ (r .number ≡ 20) ↔ NotAmong (now (costs .entry)) (now (steps .entry)) ⌝ }
 {
     let number = window_steps::window_costs_number(costs, steps);
     if number != 0 {
