@@ -10,6 +10,8 @@ use native.Mathlib.Omega.{arith}
 use lib.ListN.{length, getD, replicate}
 use borrow.Author.Tests.{eq-eqb, ne-eqb}
 use Rattle.utilities.specs.Lists.{below}
+use Rattle.utilities.specs.Padded.{AllZero}
+use Rattle.utilities.proofs.Padded.{all-zero}
 use Rattle.fields.specs.declared.FieldCell.{FieldCell}
 use Rattle.fields.specs.declared.Stepped.the-variants.{Cell, Outside}
 use Rattle.fields.specs.Cell.{indexOf}
@@ -58,7 +60,8 @@ abbrev Promised : List ℕ → Arrivals → Type 0
 Promised sheet r =
     (r ≡ arrivalsAnswer sheet)
     × ((r .number ≡ 0 → ArrivalsTold sheet (r .moves)) × ((r .number ≡ 0 → WindowArrives sheet (r .moves))
-    × ((r .number ≡ 0 → LegTold sheet (r .moves)) × (r .number ≡ 0 → SightlessArrives sheet (r .moves)))))
+    × ((r .number ≡ 0 → LegTold sheet (r .moves)) × ((r .number ≡ 0 → SightlessArrives sheet (r .moves))
+    × ((r .number ≡ 0 → ⊥) → AllZero 0 (r .moves))))))
 
 pub accepts : (sheet moves : List ℕ) → length sheet ≡ 100 → moves ≡ map (movesFrom sheet) (below 100)
     → Promised sheet (record { number = 0; moves = moves })
@@ -66,10 +69,11 @@ unfolding arrivalsAnswer
 accepts sheet moves full e =
     let so = told sheet moves e in (
       rw (eq-eqb (length sheet) 100 full, e),
-      (λ z. so, (λ z. window-arrives sheet moves e, (λ z. leg-told sheet moves so, λ z. sightless-arrives sheet moves e))),
+      (λ z. so, (λ z. window-arrives sheet moves e, (λ z. leg-told sheet moves so, (λ z. sightless-arrives sheet moves e, λ z. absurd (z refl))))),
     )
 
 pub refuses : (sheet : List ℕ) → (length sheet ≡ 100 → ⊥) → Promised sheet (record { number = 2; moves = replicate 100 0 })
 unfolding arrivalsAnswer
 refuses sheet other =
-    (rw (ne-eqb (length sheet) 100 other), (λ z. absurd (omega arith), (λ z. absurd (omega arith), (λ z. absurd (omega arith), λ z. absurd (omega arith)))))
+    let no : _≡_ {A = ℕ} 2 0 → ⊥ = λ z. omega arith in
+    (rw (ne-eqb (length sheet) 100 other), (λ z. absurd (no z), (λ z. absurd (no z), (λ z. absurd (no z), (λ z. absurd (no z), λ z. all-zero 100 0)))))

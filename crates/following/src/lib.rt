@@ -11,6 +11,7 @@ ghost use Rattle.fields.specs.Cell.{cellAt, stepped};
 ghost use Rattle.flow_bits.specs.Byte.{dirOf};
 ghost use Rattle.arrivals.specs.Following.{isArrival};
 ghost use Rattle.arrivals.specs.Arrivals.{movesFrom, arrivalsAnswer};
+ghost use Rattle.utilities.specs.Padded.{AllZero};
 ghost use Rattle.arrivals.specs.Promise.{ArrivalsTold};
 ghost use Rattle.planned_arrivals.specs.Promise.{WindowArrives, SightlessArrives, LegTold};
 
@@ -82,6 +83,7 @@ pub fn arrivals(sheet: &[u8]) -> Arrivals
     ensures by_window { λ r. ⌜ (r .number ≡ 0 → WindowArrives (now (sheet .entry)) (r .moves)) ⌝ }
     ensures whole_way { λ r. ⌜ (r .number ≡ 0 → LegTold (now (sheet .entry)) (r .moves)) ⌝ }
     ensures without_sight { λ r. ⌜ (r .number ≡ 0 → SightlessArrives (now (sheet .entry)) (r .moves)) ⌝ }
+    ensures refused { λ r. ⌜ ((r .number ≡ 0 → ⊥) → AllZero 0 (r .moves)) ⌝ }
 {
     if sheet.len() != 100 {
         return Arrivals {

@@ -8,7 +8,7 @@ use Prim.Native.Nat.{ℕ, zero, suc, _+_, _≤_, _<_}
 use lib.ListN.{length, getD}
 use Rattle.route.specs.declared.PortalWindow.{PortalWindow}
 use Rattle.route.specs.Target.{Target}
-use Rattle.arrows.specs.Arrows.{Reached}
+use Rattle.arrows.specs.Arrows.{Reached, Leads}
 use Rattle.arrows.specs.Promise.{WindowSector, SightlessSector, builtCells}
 use Rattle.sector.specs.Sector.{sectorBytes}
 use Rattle.leg_plan.specs.Leg.{part}
@@ -17,10 +17,12 @@ use Rattle.journey.specs.Place.{Place, placeOf, FloorMove}
 use Rattle.journey.specs.Journey.{NoZero, LegArrives}
 use Rattle.arrivals.specs.Following.{isArrival, Comes}
 
--- Where the sheet is what the sector call's definition gives for a sector of some kind, no reached cell holds 255: its arrows arrive in at most 99 moves.
+-- Where the sheet is what the sector call's definition gives for a sector of some kind, the number of every reached cell is that of the moves by which its
+-- arrows lead (demand 3): no such cell holds 255.
 pub record SectorArrives (Kind : List ℕ → Target → Type 0) (bytes moves : List ℕ) : Type 0 where
   pub arrives : (costs : List ℕ) (target : Target) (portal : PortalWindow) (has : Bool) (previous : List ℕ) → Kind costs target
-      → bytes ≡ sectorBytes costs target portal has previous → (x : ℕ) → x < 100 → Reached (builtCells costs target) x → getD moves x 0 ≤ 99
+      → bytes ≡ sectorBytes costs target portal has previous → (x : ℕ) → x < 100 → Reached (builtCells costs target) x
+      → Leads costs target (builtCells costs target) bytes (getD moves x 0) x
 
 -- of a sector left by a window, with no cost 0; and of one planned without sight, with the goal in it too, with no cost 0
 abbrev pub WindowArrives : List ℕ → List ℕ → Type 0
