@@ -6,8 +6,10 @@ use mathlib.Core.Bool.{Bool, true, false, cond}
 use mathlib.Core.List.{List, [], _∷_, _++_, map}
 use Prim.Native.Nat.{ℕ}
 use lib.ListN.{getD, set, replicate}
+use Rattle.utilities.specs.declared.CompassDir.the-variants.{Zero}
+use Rattle.utilities.specs.Compass.{all, numberOf}
 use Rattle.fields.specs.declared.FieldCell.{FieldCell}
-use Rattle.fields.specs.Cell.{cell, stepped}
+use Rattle.fields.specs.Cell.{cell, indexOr, stepped}
 use Rattle.nearest_line.specs.Table.{table}
 use Rattle.nearest_line.specs.Line.{toward, nearest, shallow, steep, line}
 use Rattle.line_end.specs.LineEnd.{firstEnding, slantedEnd, endBy, lineEnd}
@@ -141,12 +143,25 @@ cases =
     -- Line end of corner (5,3), goal (4,4): (9,0). Since 02, "Job 11", corner (4,3), goal (5,4): (0,0); corner (9,7), goal (2,9): (9,7).
     ∷ case (coordinates (lineEnd (cell 5 3) (cell 4 4) ∷ lineEnd (cell 4 3) (cell 5 4) ∷ lineEnd (cell 9 7) (cell 2 9) ∷ []))
     (9 ∷ 0 ∷ 0 ∷ 0 ∷ 9 ∷ 7 ∷ [])
+    -- Straight rays (01, "Integration: init", third paragraph): corners right of, left of, below and above the goal (4,4), and the goal itself.
+    ∷ case (coordinates (lineEnd (cell 6 4) (cell 4 4) ∷ lineEnd (cell 2 4) (cell 4 4) ∷ lineEnd (cell 4 6) (cell 4 4) ∷ lineEnd (cell 4 2) (cell 4 4) ∷ []))
+    (9 ∷ 4 ∷ 0 ∷ 4 ∷ 4 ∷ 9 ∷ 4 ∷ 0 ∷ [])
+    ∷ case (coordinates (lineEnd (cell 4 4) (cell 4 4) ∷ [])) (4 ∷ 0 ∷ [])
+    -- Before building no cell has a position (02, "Job 10"), and the places of the corner list beyond its count hold 0: of a goal with one wall, of a window.
+    ∷ case (words (started (wallAnd 55 ones) (targetOf (goal 44)) .positions) (0 ∷ 44 ∷ 55 ∷ 99 ∷ [])) (255 ∷ 255 ∷ 255 ∷ 255 ∷ [])
+    ∷ case (words (started ones (targetOf (window 3 5 0)) .«los_corners») (0 ∷ 1 ∷ 2 ∷ 3 ∷ 99 ∷ [])) (3 ∷ 4 ∷ 5 ∷ 0 ∷ 0 ∷ [])
+    -- What an end cell of a window does not see counts as above every value: where all that it sees is unreached it stays straight.
+    ∷ case (facing 65535 65535 65535 ++ facing 65535 5 65535) (0x91 ∷ 0x91 ∷ 0x91 ∷ 0x93 ∷ 0x91 ∷ 0x99 ∷ [])
+    -- The numbers of the directions: N, E, S, W, NE, SE, SW, NW, none.
+    ∷ case (map numberOf (all ++ (Zero ∷ []))) (0 ∷ 1 ∷ 2 ∷ 3 ∷ 4 ∷ 5 ∷ 6 ∷ 7 ∷ 8 ∷ [])
+    -- A cell's index, and what stands for a cell outside the sector.
+    ∷ case (indexOr 100 (cell 3 4) ∷ indexOr 100 (cell 10 0) ∷ indexOr 100 (cell 0 10) ∷ []) (43 ∷ 100 ∷ 100 ∷ [])
     -- Byte 0xF3 reads as goal, portal goal and in sight, not wall.
     ∷ case (read 0xF3) (1 ∷ 1 ∷ 1 ∷ 0 ∷ [])
     ∷ []
 
 pub as-expected : map (λ (c : Case). c .given) cases ≡ map (λ (c : Case). c .expected) cases
-unfolding onEdge stepped table toward nearest shallow steep line firstEnding slantedEnd endBy lineEnd edge cellsBetween targetOf
+unfolding onEdge indexOr stepped table toward nearest shallow steep line firstEnding slantedEnd endBy lineEnd edge cellsBetween targetOf
     passesWall relaxed offeredAround offeredBy changedFrom next total isEmpty settle build firstPosition arrivesFrom
     walls withPortals withGoal marked lineMarked seen extended sideTried wallMet neighbourLooked lookedAround waveLooked sightAfter
     cornerLine sightFrom startedFrom startedAt started initNumber stepNumberOn sectorNumber
