@@ -13,43 +13,48 @@ use started_field::InitAnswer;
 use tour_plan::PlannedTour;
 ghost use mathlib.Core.Bool.{true, false};
 ghost use mathlib.Core.Path.{_≡_};
+ghost use mathlib.Core.Logic.{_↔_};
 ghost use lib.ListN.{take, drop};
 ghost use Rattle.utilities.specs.Compass.{numberOf};
+ghost use Rattle.utilities.specs.Padded.{AllZero};
 ghost use Rattle.fields.specs.Cell.{cell};
 ghost use Rattle.nearest_line.specs.Line.{lineCall, shallowCall, steepCall};
-ghost use Rattle.nearest_line.specs.Nearest.{columnOf, rowOf, HoldsNearestLine, HoldsNearestWalk};
+ghost use Rattle.nearest_line.specs.Nearest.{columnOf, rowOf, HoldsNearestLine, HoldsNearestWalk, CellsBeyond, LineRefused};
 ghost use Rattle.line_end.specs.LineEnd.{lineEndAnswer};
-ghost use Rattle.line_end.specs.Away.{HoldsSlanted};
+ghost use Rattle.line_end.specs.Away.{HoldsSlanted, HoldsStraight, EndRefused};
 ghost use Rattle.line_end.specs.Mirror.{HoldsMirrored};
 ghost use Rattle.route.specs.Step.{isWindow};
-ghost use Rattle.route.specs.Target.{targetOf, withoutSight};
+ghost use Rattle.route.specs.Target.{targetOf, withoutSight, TargetTold};
 ghost use Rattle.integration_field.specs.Listed.{listOf};
 ghost use Rattle.integration_field.specs.Answer.{buildAnswer};
-ghost use Rattle.integration_field.specs.Promise.{LeastWalks, Counted, EarliestCorners};
+ghost use Rattle.integration_field.specs.Promise.{LeastWalks, Counted, EarliestCorners, ListKept, ZeroField, BuildRefused};
 ghost use Rattle.started_field.specs.Started.{initAnswer, StartedField};
 ghost use Rattle.least_walks.specs.Promise.{StartedPositions, OnceBuilt, BuildsStarted};
 ghost use Rattle.flow_bits.specs.Byte.{dirOf, isPathable, hasLineOfSight, isGoal, isPortalGoal, isWall};
-ghost use Rattle.arrows.specs.Promise.{BuildArrows};
+ghost use Rattle.arrows.specs.Promise.{BuildArrows, OnceBuiltArrows, StartedArrows};
 ghost use Rattle.arrivals.specs.Arrivals.{arrivalsAnswer};
 ghost use Rattle.arrivals.specs.Promise.{ArrivalsTold};
 ghost use Rattle.planned_arrivals.specs.Promise.{WindowArrives, SightlessArrives, LegTold};
 ghost use Rattle.flow_new.specs.Flow.{newNumber, newSheet};
 ghost use Rattle.flow_build.specs.Flow.{buildNumber, buildSheet};
 ghost use Rattle.sector.specs.Sector.{sectorAnswer, sectorSheet, sectorAnswerBy, sectorSheetBy};
+ghost use Rattle.sector.specs.Previous.{WithoutPrevious, TargetOnWall};
 ghost use Rattle.sector.specs.Promise.{Planned, PlannedWithout};
 ghost use Rattle.cost_bounds.specs.Bounds.{boundsAnswer};
-ghost use Rattle.cost_bounds.specs.Promise.{CostBounds, SureMarks};
+ghost use Rattle.cost_bounds.specs.Promise.{CostBounds, SureMarks, BoundsRefused, NoBounds};
 ghost use Rattle.bounds.specs.Promise.{floorBytes};
 ghost use Rattle.cost_square.specs.Square.{squareIn, windowCostsAnswer};
-ghost use Rattle.cost_square.specs.Promise.{WindowSquare};
+ghost use Rattle.cost_square.specs.Promise.{WindowSquare, SquareRefused, WrongCount, NotAmong};
 ghost use Rattle.tour_plan.specs.Plan.{tourIn, tourAnswer};
-ghost use Rattle.tour_plan.specs.Promise.{TourPlanned};
+ghost use Rattle.tour_plan.specs.Promise.{TourPlanned, TourRefused};
 ghost use Rattle.step_list.specs.Steps.{stepsOf};
 ghost use Rattle.leg_plan.specs.Leg.{legNumber, legSheet, legNumberBy, legSheetBy};
+ghost use Rattle.leg_plan.specs.Closed.{LegClosed};
+ghost use Rattle.leg_plan.specs.Walls.{LegOnWall};
 ghost use Rattle.leg_plan.specs.Promise.{LegPlanned, LegPlannedBy};
 ghost use Rattle.journey.specs.Journey.{LegArrives, LegArrivesAtGoal};
 ghost use Rattle.leg_file.specs.File.{writeNumber, writtenFile, fileSteps, fileAnswer};
-ghost use Rattle.leg_file.specs.Promise.{ReadBack, WrittenSame};
+ghost use Rattle.leg_file.specs.Promise.{ReadBack, WrittenSame, FileRefused};
 ghost use Rattle.practice.specs.Floor.{practiceFloor};
 ghost use Rattle.practice.specs.Promise.{PracticeTold};
 
@@ -68,6 +73,10 @@ pub extern "C" fn hanjolum_sector(
     ensures planned { λ r. ⌜ (r .number ≡ 0 → Planned (now (costs .entry)) (targetOf (now (step .entry))) (r .field .field) (r .waves) (now (sheet .exit))) ⌝ }
     ensures positions { λ r. ⌜ (r .number ≡ 0
         → StartedPositions (now (costs .entry)) (targetOf (now (step .entry))) (r .field .field) (r .field .positions)) ⌝ }
+    ensures refused { λ r. ⌜ ((r .number ≡ 0 → ⊥) → BuildRefused r) ⌝ }
+    ensures target { λ r. ⌜ (r .number ≡ 0 → TargetTold (now (step .entry))) ⌝ }
+    ensures sixteen { λ r. ⌜ (r .number ≡ 16) ↔ TargetOnWall (now (costs .entry)) (now (step .entry)) (now (sheet .entry)) ⌝ }
+    ensures seventeen { λ r. ⌜ (r .number ≡ 17) ↔ WithoutPrevious (now (costs .entry)) (now (step .entry)) «has_previous» (now (sheet .entry)) ⌝ }
 {
     sector::plan_sector(costs, step, has_previous, previous, sheet)
 }
@@ -94,6 +103,10 @@ pub extern "C" fn hanjolum_sector_without_sight(
     ensures window { λ r. ⌜ (isWindow (now (step .entry)) ≡ true
         → (r ≡ sectorAnswer (now (costs .entry)) (now (step .entry)) «has_previous» (now (previous .entry)) (now (sheet .entry)))
         × (now (sheet .exit) ≡ sectorSheet (now (costs .entry)) (now (step .entry)) «has_previous» (now (previous .entry)) (now (sheet .entry)))) ⌝ }
+    ensures refused { λ r. ⌜ ((r .number ≡ 0 → ⊥) → BuildRefused r) ⌝ }
+    ensures target { λ r. ⌜ (r .number ≡ 0 → TargetTold (now (step .entry))) ⌝ }
+    ensures sixteen { λ r. ⌜ (r .number ≡ 16) ↔ TargetOnWall (now (costs .entry)) (now (step .entry)) (now (sheet .entry)) ⌝ }
+    ensures seventeen { λ r. ⌜ (r .number ≡ 17) ↔ WithoutPrevious (now (costs .entry)) (now (step .entry)) «has_previous» (now (sheet .entry)) ⌝ }
 {
     sector::plan_sector_without_sight(costs, step, has_previous, previous, sheet)
 }
@@ -106,6 +119,8 @@ pub extern "C" fn hanjolum_bounds(low: &[u8], high: &[u8], step: &[u8]) -> Bound
     ensures sure { λ r. ⌜ (r .number ≡ 0
         → SureMarks (now (low .entry)) (now (high .entry)) (targetOf (now (step .entry)))
         (floorBytes (now (step .entry))) (r .least) (r .greatest) (r .sure)) ⌝ }
+    ensures refused { λ r. ⌜ ((r .number ≡ 0 → ⊥) → BoundsRefused r) ⌝ }
+    ensures eighteen { λ r. ⌜ (r .number ≡ 18) ↔ NoBounds (now (low .entry)) (now (high .entry)) (now (step .entry)) ⌝ }
 {
     bounds::bounds(low, high, step)
 }
@@ -115,6 +130,9 @@ pub extern "C" fn hanjolum_bounds(low: &[u8], high: &[u8], step: &[u8]) -> Bound
 pub extern "C" fn hanjolum_window_costs(costs: &[u8], steps: &[u8]) -> WindowCosts
     ensures answer { λ r. ⌜ r ≡ windowCostsAnswer (now (costs .entry)) (now (steps .entry)) ⌝ }
     ensures least { λ r. ⌜ (r .number ≡ 0 → WindowSquare (now (costs .entry)) (stepsOf (now (steps .entry))) (squareIn (r .rows))) ⌝ }
+    ensures refused { λ r. ⌜ ((r .number ≡ 0 → ⊥) → SquareRefused (squareIn (r .rows))) ⌝ }
+    ensures nineteen { λ r. ⌜ (r .number ≡ 19) ↔ WrongCount (now (costs .entry)) (now (steps .entry)) ⌝ }
+    ensures twenty { λ r. ⌜ (r .number ≡ 20) ↔ NotAmong (now (costs .entry)) (now (steps .entry)) ⌝ }
 {
     window_costs::window_costs(costs, steps)
 }
@@ -124,6 +142,9 @@ pub extern "C" fn hanjolum_window_costs(costs: &[u8], steps: &[u8]) -> WindowCos
 pub extern "C" fn hanjolum_window_tour(costs: &[u8], steps: &[u8], limit: u16) -> PlannedTour
     ensures answer { λ r. ⌜ r ≡ tourAnswer (now (costs .entry)) (now (steps .entry)) limit ⌝ }
     ensures planned { λ r. ⌜ (r .number ≡ 0 → TourPlanned (now (costs .entry)) (stepsOf (now (steps .entry))) limit (tourIn r)) ⌝ }
+    ensures refused { λ r. ⌜ ((r .number ≡ 0 → ⊥) → TourRefused r) ⌝ }
+    ensures nineteen { λ r. ⌜ (r .number ≡ 19) ↔ WrongCount (now (costs .entry)) (now (steps .entry)) ⌝ }
+    ensures twenty { λ r. ⌜ (r .number ≡ 20) ↔ NotAmong (now (costs .entry)) (now (steps .entry)) ⌝ }
 {
     tour::plan_tour(costs, steps, limit)
 }
@@ -135,6 +156,8 @@ pub extern "C" fn hanjolum_leg(floor: &[u8], steps: &[u8], sheet: &mut [u8]) -> 
     ensures sheet { λ _. ⌜ now (sheet .exit) ≡ legSheet (now (floor .entry)) (now (steps .entry)) (now (sheet .entry)) ⌝ }
     ensures planned { λ r. ⌜ (r ≡ 0 → LegPlanned (now (floor .entry)) (stepsOf (now (steps .entry))) (now (sheet .entry)) (now (sheet .exit))) ⌝ }
     ensures arrives { λ r. ⌜ (r ≡ 0 → LegArrives (now (floor .entry)) (stepsOf (now (steps .entry))) (now (sheet .exit))) ⌝ }
+    ensures fifteen { λ r. ⌜ (r ≡ 15) ↔ LegClosed true (now (floor .entry)) (now (steps .entry)) (now (sheet .entry)) ⌝ }
+    ensures sixteen { λ r. ⌜ (r ≡ 16) ↔ LegOnWall (now (floor .entry)) (now (steps .entry)) (now (sheet .entry)) ⌝ }
 {
     leg::plan_leg(floor, steps, sheet)
 }
@@ -146,6 +169,8 @@ pub extern "C" fn hanjolum_leg_without_sight(floor: &[u8], steps: &[u8], sheet: 
     ensures sheet { λ _. ⌜ now (sheet .exit) ≡ legSheetBy false (now (floor .entry)) (now (steps .entry)) (now (sheet .entry)) ⌝ }
     ensures planned { λ r. ⌜ (r ≡ 0 → LegPlannedBy false (now (floor .entry)) (stepsOf (now (steps .entry))) (now (sheet .entry)) (now (sheet .exit))) ⌝ }
     ensures arrives { λ r. ⌜ (r ≡ 0 → LegArrivesAtGoal (now (floor .entry)) (stepsOf (now (steps .entry))) (now (sheet .exit))) ⌝ }
+    ensures fifteen { λ r. ⌜ (r ≡ 15) ↔ LegClosed false (now (floor .entry)) (now (steps .entry)) (now (sheet .entry)) ⌝ }
+    ensures sixteen { λ r. ⌜ (r ≡ 16) ↔ LegOnWall (now (floor .entry)) (now (steps .entry)) (now (sheet .entry)) ⌝ }
 {
     leg::plan_leg_without_sight(floor, steps, sheet)
 }
@@ -158,6 +183,7 @@ pub extern "C" fn hanjolum_arrivals(sheet: &[u8]) -> Arrivals
     ensures by_window { λ r. ⌜ (r .number ≡ 0 → WindowArrives (now (sheet .entry)) (r .moves)) ⌝ }
     ensures whole_way { λ r. ⌜ (r .number ≡ 0 → LegTold (now (sheet .entry)) (r .moves)) ⌝ }
     ensures without_sight { λ r. ⌜ (r .number ≡ 0 → SightlessArrives (now (sheet .entry)) (r .moves)) ⌝ }
+    ensures refused { λ r. ⌜ ((r .number ≡ 0 → ⊥) → AllZero 0 (r .moves)) ⌝ }
 {
     following::arrivals(sheet)
 }
@@ -178,6 +204,7 @@ pub extern "C" fn hanjolum_leg_file_read(file: &[u8]) -> LegFile
     ensures answer { λ r. ⌜ r ≡ fileAnswer (now (file .entry)) ⌝ }
     ensures part { λ r. ⌜ take (r .length) (drop (r .start) (now (file .entry))) ≡ fileSteps (now (file .entry)) ⌝ }
     ensures same { λ r. ⌜ WrittenSame (now (file .entry)) (take (r .length) (drop (r .start) (now (file .entry)))) ⌝ }
+    ensures refused { λ r. ⌜ ((r .number ≡ 0 → ⊥) → FileRefused r) ⌝ }
 {
     leg_reader::locate(file)
 }
@@ -197,6 +224,8 @@ pub extern "C" fn hanjolum_init(costs: &[u8], step: &[u8]) -> InitAnswer
     ensures answer { λ r. ⌜ r ≡ initAnswer (now (costs .entry)) (now (step .entry)) ⌝ }
     ensures started { λ r. ⌜ (r .number ≡ 0 → StartedField (now (costs .entry)) (targetOf (now (step .entry))) (r .field)) ⌝ }
     ensures built { λ r. ⌜ (r .number ≡ 0 → OnceBuilt (now (costs .entry)) (targetOf (now (step .entry))) (r .field)) ⌝ }
+    ensures arrows { λ r. ⌜ (r .number ≡ 0 → OnceBuiltArrows (now (costs .entry)) (now (step .entry)) (r .field)) ⌝ }
+    ensures refused { λ r. ⌜ ((r .number ≡ 0 → ⊥) → ZeroField (r .field)) ⌝ }
 {
     integration_init::init(costs, step)
 }
@@ -209,6 +238,9 @@ pub extern "C" fn hanjolum_build(costs: &[u8], field: IntegrationField) -> Build
     ensures counted { λ r. ⌜ (r .number ≡ 0 → Counted (now (costs .entry)) (field .field) (listOf field) (r .field .field) (r .waves)) ⌝ }
     ensures positions { λ r. ⌜ (r .number ≡ 0 → EarliestCorners (now (costs .entry)) (field .field) (listOf field) (r .field .field) (r .field .positions)) ⌝ }
     ensures started { λ r. ⌜ BuildsStarted (now (costs .entry)) field r ⌝ }
+    ensures arrows { λ r. ⌜ StartedArrows (now (costs .entry)) field (r .field .field) ⌝ }
+    ensures list { λ r. ⌜ (r .number ≡ 0 → ListKept field (r .field)) ⌝ }
+    ensures refused { λ r. ⌜ ((r .number ≡ 0 → ⊥) → BuildRefused r) ⌝ }
 {
     integration_build::build(costs, field)
 }
@@ -248,6 +280,8 @@ pub extern "C" fn hanjolum_line(
 ) -> Line
     ensures answer { λ r. ⌜ r ≡ lineCall (cell «source_column» «source_row») (cell «target_column» «target_row») ⌝ }
     ensures nearest { λ r. ⌜ HoldsNearestLine (cell «source_column» «source_row») (cell «target_column» «target_row») r ⌝ }
+    ensures list { λ r. ⌜ CellsBeyond r ⌝ }
+    ensures refused { λ r. ⌜ ((r .number ≡ 0 → ⊥) → LineRefused r) ⌝ }
 {
     let source = FieldCell {
         column: source_column,
@@ -270,6 +304,8 @@ pub extern "C" fn hanjolum_walk_bresenham_shallow(
 ) -> Line
     ensures answer { λ r. ⌜ r ≡ shallowCall (cell col_0 row_0) (cell col_1 row_1) ⌝ }
     ensures nearest { λ r. ⌜ HoldsNearestWalk columnOf rowOf (cell col_0 row_0) (cell col_1 row_1) r ⌝ }
+    ensures list { λ r. ⌜ CellsBeyond r ⌝ }
+    ensures refused { λ r. ⌜ ((r .number ≡ 0 → ⊥) → LineRefused r) ⌝ }
 {
     bresenham::walk_bresenham_shallow(col_0, row_0, col_1, row_1)
 }
@@ -284,6 +320,8 @@ pub extern "C" fn hanjolum_walk_bresenham_steep(
 ) -> Line
     ensures answer { λ r. ⌜ r ≡ steepCall (cell col_0 row_0) (cell col_1 row_1) ⌝ }
     ensures nearest { λ r. ⌜ HoldsNearestWalk rowOf columnOf (cell col_0 row_0) (cell col_1 row_1) r ⌝ }
+    ensures list { λ r. ⌜ CellsBeyond r ⌝ }
+    ensures refused { λ r. ⌜ ((r .number ≡ 0 → ⊥) → LineRefused r) ⌝ }
 {
     bresenham::walk_bresenham_steep(col_0, row_0, col_1, row_1)
 }
@@ -298,7 +336,9 @@ pub extern "C" fn hanjolum_line_end(
 ) -> LineEnd
     ensures answer { λ r. ⌜ r ≡ lineEndAnswer (cell «corner_column» «corner_row») (cell «goal_column» «goal_row») ⌝ }
     ensures slanted { λ r. ⌜ HoldsSlanted (cell «corner_column» «corner_row») (cell «goal_column» «goal_row») r ⌝ }
+    ensures straight { λ r. ⌜ HoldsStraight (cell «corner_column» «corner_row») (cell «goal_column» «goal_row») r ⌝ }
     ensures mirrored { λ r. ⌜ HoldsMirrored (cell «corner_column» «corner_row») (cell «goal_column» «goal_row») r ⌝ }
+    ensures refused { λ r. ⌜ ((r .number ≡ 0 → ⊥) → EndRefused r) ⌝ }
 {
     let corner = FieldCell {
         column: corner_column,
