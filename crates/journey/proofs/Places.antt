@@ -1,5 +1,7 @@
 -- Places on the floor.
 --     sector-in, cell-in    a sector's cell, by its place
+--     on-floor, landed      a sector's cell lies on the floor, and so does where a move leads
+--     whole-place           a place of the floor is that of its own sector and cell
 --     arrow-is              the arrow of a place is that of its sector's part of the sheet
 --     points                an arrow points from a place to another, by its bits
 --     inside                a move inside a sector is one on the floor
@@ -7,7 +9,7 @@
 use mathlib.Core.Path.{_≡_, sym, ap, ap₂, _∙_}
 use mathlib.Core.Bool.{true, _&&_, and-eq-true-iff}
 use mathlib.Core.List.{List}
-use Prim.Native.Nat.{ℕ, _+_, _*_, _%_, _<_}
+use Prim.Native.Nat.{ℕ, _+_, _*_, _/_, _%_, _<_}
 use native.Mathlib.Omega.{arith}
 use lib.Dec.{ltb, leb}
 use lib.ListN.{getD, drop}
@@ -16,7 +18,7 @@ use borrow.Author.Tests.{ltb-true, leb-true}
 use Rattle.arrows.specs.Arrows.{arrow, northward, eastward, southward, westward, Away}
 use Rattle.arrows.proofs.Moves.{isArrow}
 use Rattle.leg_plan.specs.Leg.{part}
-use Rattle.journey.specs.Place.{Place, placeOf, sectorIn, cellIn, Points, arrowAt}
+use Rattle.journey.specs.Place.{Place, OnFloor, placeOf, sectorIn, cellIn, Points, arrowAt}
 
 module _ (s x : ℕ) (h : x < 100) where
   pub sector-in : sectorIn (placeOf s x) ≡ s
@@ -30,9 +32,23 @@ module _ (s x : ℕ) (h : x < 100) where
       ap (λ (i : ℕ). getD sheet i 0 % 16) (ap₂ (λ (a b : ℕ). a * 100 + b) sector-in cell-in)
       ∙ sym (ap (λ (b : ℕ). b % 16) (getD-take 100 (drop (s * 100) sheet) x 0 h ∙ getD-drop (s * 100) sheet x 0))
 
--- a place of a sector of the floor
-on-floor : (s x : ℕ) → s < 64 → x < 100 → (placeOf s x .row < 80) × (placeOf s x .column < 80)
-on-floor s x h l = (omega arith, omega arith)
+pub on-floor : (s x : ℕ) → s < 64 → x < 100 → OnFloor (placeOf s x)
+on-floor s x h l = record { row-on = omega arith; column-on = omega arith }
+
+pub landed : {a : ℕ} {p q : Place} → Points a p q → OnFloor q
+landed w = record { row-on = w .row-on; column-on = w .column-on }
+
+abbrev place : ℕ → ℕ → Place
+place c r = record { column = c; row = r }
+
+whole-column : (c r : ℕ) → c < 80 → c ≡ (r / 10 * 8 + c / 10) % 8 * 10 + (r % 10 * 10 + c % 10) % 10
+whole-column c r h = omega arith
+
+whole-row : (c r : ℕ) → c < 80 → r ≡ (r / 10 * 8 + c / 10) / 8 * 10 + (r % 10 * 10 + c % 10) / 10
+whole-row c r h = omega arith
+
+pub whole-place : (p : Place) → OnFloor p → p ≡ placeOf (sectorIn p) (cellIn p)
+whole-place p on = ap₂ place (whole-column (p .column) (p .row) (on .column-on)) (whole-row (p .column) (p .row) (on .column-on))
 
 module _ (a s t x y : ℕ) (h : t < 64) (l : y < 100) where
   pub points : isArrow a ≡ true → placeOf t y .row + northward a ≡ placeOf s x .row + southward a
@@ -46,8 +62,8 @@ module _ (a s t x y : ℕ) (h : t < 64) (l : y < 100) where
         somewhere = ltb-true 0 a (q .0);
         not-north-south = leb-true (northward a + southward a) 1 (q .1);
         not-east-west = leb-true (eastward a + westward a) 1 (p .1);
-        row-on = on-floor t y h l .0;
-        column-on = on-floor t y h l .1;
+        row-on = on-floor t y h l .row-on;
+        column-on = on-floor t y h l .column-on;
       }
 
 -- a move inside a sector is one on the floor
@@ -58,6 +74,6 @@ inside s x y h l w = record {
   somewhere = w .somewhere;
   not-north-south = w .not-north-south;
   not-east-west = w .not-east-west;
-  row-on = on-floor s y h l .0;
-  column-on = on-floor s y h l .1;
+  row-on = on-floor s y h l .row-on;
+  column-on = on-floor s y h l .column-on;
 }

@@ -3,7 +3,7 @@
 -- Assumes nothing.
 use mathlib.Core.Path.{_≡_}
 use mathlib.Core.List.{List}
-use Prim.Native.Nat.{ℕ, _+_, _*_, _/_, _%_, _≤_, _<_}
+use Prim.Native.Nat.{ℕ, zero, suc, _+_, _*_, _/_, _%_, _≤_, _<_}
 use lib.ListN.{getD}
 use Rattle.arrows.specs.Arrows.{northward, eastward, southward, westward}
 
@@ -11,6 +11,11 @@ use Rattle.arrows.specs.Arrows.{northward, eastward, southward, westward}
 pub record Place : Type 0 where
   pub column : ℕ
   pub row : ℕ
+
+-- its column and its row are the floor's
+pub record OnFloor (p : Place) : Type 0 where
+  pub row-on : p .row < 80
+  pub column-on : p .column < 80
 
 -- the place of a sector's cell (01, "A leg": sector s at column s % 8, row s / 8; cell index = row times 10 plus column)
 abbrev pub placeOf : ℕ → ℕ → Place
@@ -41,3 +46,8 @@ arrowAt sheet p = getD sheet (sectorIn p * 100 + cellIn p) 0 % 16
 -- one move, by the arrow that the sheet has there
 abbrev pub FloorMove : List ℕ → Place → Place → Type 0
 FloorMove sheet p q = Points (arrowAt sheet p) p q
+
+-- so many moves, one after the other, crossings counted
+pub data FloorWalk (sheet : List ℕ) : ℕ → Place → Place → Type 0 where
+  stays : {p : Place} → FloorWalk sheet zero p p
+  goes : {n : ℕ} {p q r : Place} → FloorMove sheet p q → FloorWalk sheet n q r → FloorWalk sheet (suc n) p r

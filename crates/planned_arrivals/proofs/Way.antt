@@ -1,43 +1,24 @@
 -- From every reached cell of a leg's later sector the arrows come into the goal's sector (`LegArrives`), and that sector's numbers of moves tell the rest.
---     whole-place     a place is that of its own sector and cell
 --     entered         the cell where a journey comes into the goal's sector, and the walk there
 --     inside-walk     moves inside a sector are moves on the floor
 --     leg-told        the theorem
 -- Assumes nothing.
-use mathlib.Core.Path.{_≡_, refl, sym, ap, ap₂, subst, _∙_}
+use mathlib.Core.Path.{_≡_, refl, sym, ap, subst, _∙_}
 use mathlib.Core.Bool.{true}
 use mathlib.Core.List.{List}
-use Prim.Native.Nat.{ℕ, zero, suc, _+_, _*_, _/_, _%_, _≤_, _<_}
+use Prim.Native.Nat.{ℕ, zero, suc, _+_, _≤_, _<_}
 use native.Mathlib.Nat.{zero-add, suc-add}
 use native.Mathlib.Omega.{arith}
 use lib.ListN.{length, getD}
 use Rattle.arrows.specs.Arrows.{Reached}
 use Rattle.leg_plan.specs.Leg.{part}
 use Rattle.leg_plan.specs.Promise.{sectorAt, builtAt}
-use Rattle.journey.specs.Place.{Place, placeOf, sectorIn, cellIn, FloorMove, Points}
+use Rattle.journey.specs.Place.{Place, OnFloor, placeOf, cellIn, FloorMove, FloorWalk, stays, goes, Points}
 use Rattle.journey.specs.Journey.{ReachedIn, Journey, ends, moves, crosses, NoZero, LegArrives}
-use Rattle.journey.proofs.Places.{arrow-is, inside}
+use Rattle.journey.proofs.Places.{landed, whole-place, arrow-is, inside}
 use Rattle.arrivals.specs.Following.{isArrival, Follows, Comes, there, further, ComesFirst}
 use Rattle.arrivals.specs.Promise.{ArrivalsTold}
-use Rattle.planned_arrivals.specs.Promise.{FloorWalk, stays, goes, StandsThere, WholeWay, LegTold}
-
--- ---- places
-
-pub record OnFloor (p : Place) : Type 0 where
-  pub row-on : p .row < 80
-  pub column-on : p .column < 80
-
-whole-column : (c r : ℕ) → c < 80 → c ≡ (r / 10 * 8 + c / 10) % 8 * 10 + (r % 10 * 10 + c % 10) % 10
-whole-column c r h = omega arith
-
-whole-row : (c r : ℕ) → c < 80 → r ≡ (r / 10 * 8 + c / 10) / 8 * 10 + (r % 10 * 10 + c % 10) / 10
-whole-row c r h = omega arith
-
-abbrev place : ℕ → ℕ → Place
-place c r = record { column = c; row = r }
-
-whole-place : (p : Place) → OnFloor p → p ≡ placeOf (sectorIn p) (cellIn p)
-whole-place p on = ap₂ place (whole-column (p .column) (p .row) (on .column-on)) (whole-row (p .column) (p .row) (on .column-on))
+use Rattle.planned_arrivals.specs.Promise.{StandsThere, WholeWay, LegTold}
 
 module _ (sheet : List ℕ) where
   -- one walk behind the other
@@ -79,9 +60,6 @@ module _ (sheet : List ℕ) where
 
     further-in : {n : ℕ} {p q : Place} → FloorMove sheet p q → Entered n q → Entered (suc n) p
     further-in f e = record { on-floor = e .on-floor; cell = e .cell; cell-in = e .cell-in; reached = e .reached; walk = goes f (e .walk) }
-
-    landed : {p q : Place} → FloorMove sheet p q → OnFloor q
-    landed f = record { row-on = f .row-on; column-on = f .column-on }
 
     entered : {n k : ℕ} {p : Place} → Journey true floor steps sheet n k p → (k ≡ zero → OnFloor p) → Entered n p
     entered {p = p} (ends r a) on =

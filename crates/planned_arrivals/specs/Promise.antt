@@ -4,7 +4,7 @@
 use mathlib.Core.Path.{_≡_}
 use mathlib.Core.Bool.{Bool, true}
 use mathlib.Core.List.{List}
-use Prim.Native.Nat.{ℕ, zero, suc, _+_, _≤_, _<_}
+use Prim.Native.Nat.{ℕ, _+_, _≤_, _<_}
 use lib.ListN.{length, getD}
 use Rattle.route.specs.declared.PortalWindow.{PortalWindow}
 use Rattle.route.specs.Target.{Target}
@@ -13,7 +13,7 @@ use Rattle.arrows.specs.Promise.{WindowSector, SightlessSector, builtCells}
 use Rattle.sector.specs.Sector.{sectorBytes}
 use Rattle.leg_plan.specs.Leg.{part}
 use Rattle.leg_plan.specs.Promise.{sectorAt, builtAt}
-use Rattle.journey.specs.Place.{Place, placeOf, FloorMove}
+use Rattle.journey.specs.Place.{Place, placeOf, FloorWalk}
 use Rattle.journey.specs.Journey.{NoZero, LegArrives}
 use Rattle.arrivals.specs.Following.{isArrival, Comes}
 
@@ -30,11 +30,6 @@ WindowArrives = SectorArrives WindowSector
 
 abbrev pub SightlessArrives : List ℕ → List ℕ → Type 0
 SightlessArrives = SectorArrives SightlessSector
-
--- so many moves by the arrows of a floor's sheet, from place to place, crossings counted
-pub data FloorWalk (sheet : List ℕ) : ℕ → Place → Place → Type 0 where
-  stays : {p : Place} → FloorWalk sheet zero p p
-  goes : {n : ℕ} {p q r : Place} → FloorMove sheet p q → FloorWalk sheet n q r → FloorWalk sheet (suc n) p r
 
 module _ (floor : List ℕ) (steps : List (List ℕ)) (sheet : List ℕ) where
   -- the goal's sector is that of the first step
