@@ -5,10 +5,11 @@
 --     end-byte, end-kept    the byte of a cell where arrows end: its flags and bits below 0x20; 0x10 is set, and not all of 0xE0
 --     wall-byte         a wall's byte
 --     plain-byte        any other cell's byte: what its look has come to
+--     corner-byte       the byte of a goal that is planned without sight: 0x70
 -- Assumes nothing.
 use mathlib.Core.Path.{_≡_, refl, sym, ap, _∙_}
 use mathlib.Core.Bool.{Bool, true, false, true≢false, cond, _||_}
-use mathlib.Core.List.{List}
+use mathlib.Core.List.{List, [], _∷_, List·Memᴰ·head}
 use Prim.Native.Nat.{ℕ, _^_, _≤_, _<_}
 use native.Mathlib.Omega.{arith}
 use lib.Bits.{bitOr}
@@ -22,10 +23,12 @@ use Rattle.started_field.specs.StartedCell.{Among}
 use Rattle.started_field.specs.Started.{started, StartedCells}
 use Rattle.started_field.proofs.Started.{started-field}
 use Rattle.least_walks.proofs.Promise.{started-walks}
+use Rattle.least_walks.proofs.Ground.{mem-among}
 use Rattle.flow_byte.specs.New.{isIn, startOf, windowBits, newByte, newBytes}
 use Rattle.flow_byte.specs.Look.{lookedByte, lookAround, builtByte, flowBuild}
 use Rattle.arrows.specs.Promise.{builtCells}
-use Rattle.arrows.proofs.Fall.{is-in, in-among, not-in, EndWord, at-portal, at-goal, EndsStarted, window-ends, corner-ends, EndSector, Sector, Plain}
+use Rattle.arrows.proofs.Fall.{is-in, in-among, not-in, EndWord, at-portal, at-goal, EndsStarted, window-ends, corner-ends}
+use Rattle.arrows.proofs.Fall.{EndSector, Sector, Plain, end-word}
 use Rattle.arrows.proofs.Bytes.{made-byte, portal-byte, Kept, portal-kept, goal-kept, window-bits}
 
 -- a word without flags starts with 0
@@ -132,3 +135,14 @@ pub window-byte : {costs window cells corners built : List ℕ} → Sector costs
     → getD (flowBuild built (newBytes portal window built has previous)) x 0 ≡ bitOr 0x90 (windowBits portal has previous x)
 window-byte {window = window} {built = built} s portal has previous x h a e =
     portal-byte portal window built has previous x h (is-in x window a) e
+
+-- it is listed as the one corner, and its window is empty: nothing is or-ed onto its flags
+pub corner-byte : (costs : List ℕ) (goal : ℕ) → length costs ≡ 100 → goal < 100 → ((x : ℕ) → x < 100 → getD costs x 0 ≤ 255)
+    → (portal : PortalWindow) (has : Bool) (previous : List ℕ)
+    → let built = builtCells costs (to-corner goal) in getD (flowBuild built (newBytes portal [] built has previous)) goal 0 ≡ 0x70
+unfolding newByte builtByte startOf
+corner-byte costs goal full inside byte portal has previous =
+    let built = builtCells costs (to-corner goal) in
+    let s = end-sector costs (to-corner goal) full inside refl byte in
+    let e : getD built goal 0 ≡ 0x20000 = end-word s goal (mem-among goal (goal ∷ []) (List·Memᴰ·head refl)) in
+    made-byte portal [] built has previous goal inside ∙ rw e
