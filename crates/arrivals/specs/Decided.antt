@@ -98,10 +98,10 @@ instead-is : (n v k : ℕ) → ((k ≡ n) × (instead n v k ≡ v)) ⊎ ((k ≡ 
 instead-is n v k = elim (ℕ-discrete k n) [ yes e ↦ inl (e, rw (eq-eqb k n e)) | no e ↦ inr (e, rw (ne-eqb k n e)) ]
 
 -- m different numbers below n: m is at most n
-abbrev AllBelow : ℕ → ℕ → (ℕ → ℕ) → Type 0
+abbrev pub AllBelow : ℕ → ℕ → (ℕ → ℕ) → Type 0
 AllBelow n m f = (i : ℕ) → i < m → f i < n
 
-abbrev AllDifferent : ℕ → (ℕ → ℕ) → Type 0
+abbrev pub AllDifferent : ℕ → (ℕ → ℕ) → Type 0
 AllDifferent m f = (i j : ℕ) → i < j → j < m → f i ≡ f j → ⊥
 
 module _ (n m : ℕ) (f : ℕ → ℕ) (b : AllBelow (suc n) (suc m) f) (d : AllDifferent (suc m) f) where
@@ -126,7 +126,7 @@ module _ (n m : ℕ) (f : ℕ → ℕ) (b : AllBelow (suc n) (suc m) f) (d : All
       go (inr a) (inl c) = d i m (omega arith) (omega arith) (sym (a .1) ∙ q ∙ c .1)
       go (inr a) (inr c) = d i j h (omega arith) (sym (a .1) ∙ q ∙ c .1)
 
-few : (n m : ℕ) (f : ℕ → ℕ) → AllBelow n m f → AllDifferent m f → m ≤ n
+pub few : (n m : ℕ) (f : ℕ → ℕ) → AllBelow n m f → AllDifferent m f → m ≤ n
 few zero zero f b d = omega arith
 few zero (suc m) f b d = absurd (omega (arith, b zero (omega arith)))
 few (suc n) zero f b d = omega arith

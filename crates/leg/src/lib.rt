@@ -154,7 +154,7 @@ fn is_apart(steps: &[u8]) -> bool
 }
 
 // The table's number for a leg with a sheet of so many bytes, before a step is planned: 1 to 10, or 16.
-fn leg_number(floor: &[u8], steps: &[u8], sheet_length: usize) -> u8
+pub fn leg_number(floor: &[u8], steps: &[u8], sheet_length: usize) -> u8
     ensures { λ r. ⌜ ((sheet : List ℕ) → length sheet ≡ «sheet_length» → r ≡ firstNumber (judgedRows (now (floor .entry)) (now (steps .entry)) sheet)) ⌝ }
 {
     if floor.len() != 6400 {
@@ -180,7 +180,7 @@ fn leg_number(floor: &[u8], steps: &[u8], sheet_length: usize) -> u8
 }
 
 // What a step's field starts from, in a leg: of its window the cells that count.
-fn target_of(step: &[u8], sight: bool, has_previous: bool, previous: &[u32; 100]) -> Target
+pub fn target_of(step: &[u8], sight: bool, has_previous: bool, previous: &[u32; 100]) -> Target
     requires { ⌜ stepNumber (now step) ≡ 0 ⌝ }
     ensures { λ r. ⌜ StepTarget sight (now (step .entry)) «has_previous» (now (previous .entry)) r ⌝ }
 {
@@ -188,7 +188,7 @@ fn target_of(step: &[u8], sight: bool, has_previous: bool, previous: &[u32; 100]
 }
 
 // A step's field on its own sector's costs, started and built, without positions.
-fn build_step(floor: &[u8], step: &[u8], target: Target) -> IntegrationField
+pub fn build_step(floor: &[u8], step: &[u8], target: Target) -> IntegrationField
     requires { ⌜ StepReady (now floor) (now step) × TargetHeld target ⌝ }
     ensures { λ r. ⌜ r .field ≡ sectorField (part (now (floor .entry)) (sectorOf (now (step .entry)))) (heldTarget target) .field ⌝ }
 {
@@ -199,7 +199,7 @@ fn build_step(floor: &[u8], step: &[u8], target: Target) -> IntegrationField
 
 // Whether a window of the leg has no counting cell: the steps are started and built in order, each with the built cells of the step before. The last
 // is not built, since no step comes behind it.
-fn is_some_closed(floor: &[u8], steps: &[u8], sight: bool) -> bool
+pub fn is_some_closed(floor: &[u8], steps: &[u8], sight: bool) -> bool
     requires { ⌜ LegReady (now floor) (now steps) ⌝ }
     ensures { λ r. ⌜ r ≡ someClosed sight (now (floor .entry)) (stepsOf (now (steps .entry))) ⌝ }
 {

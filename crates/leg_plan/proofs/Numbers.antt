@@ -24,7 +24,7 @@ use Rattle.leg_plan.specs.Inner.{LegReady}
 use Rattle.step_list.proofs.Steps.{neither, steps-count, step-of, step-long}
 
 -- a number that is not 0 stays the first
-rows-first : (a b : List Row) → (firstNumber a ≡ 0 → ⊥) → firstNumber (a ++ b) ≡ firstNumber a
+pub rows-first : (a b : List Row) → (firstNumber a ≡ 0 → ⊥) → firstNumber (a ++ b) ≡ firstNumber a
 rows-first [] b h = absurd (h refl)
 rows-first (r ∷ a) b h = go (r .holds) h (rows-first a b)
   where
