@@ -6,6 +6,8 @@ use fields::FieldCell;
 use integration_field::BuildAnswer;
 use integration_field::IntegrationField;
 use leg_file::LegFile;
+use leg_moves::CartMove;
+use leg_moves::CartWay;
 use line_end::LineEnd;
 use nearest_line::Line;
 use practice::PracticeFloor;
@@ -53,6 +55,9 @@ ghost use Rattle.leg_plan.specs.Closed.{LegClosed};
 ghost use Rattle.leg_plan.specs.Walls.{LegOnWall};
 ghost use Rattle.leg_plan.specs.Promise.{LegPlanned, LegPlannedBy};
 ghost use Rattle.journey.specs.Journey.{LegArrives, LegArrivesAtGoal};
+ghost use Rattle.journey.specs.Place.{placeOf};
+ghost use Rattle.leg_moves.specs.Answers.{moveAnswer, wayAnswer};
+ghost use Rattle.leg_moves.specs.Promise.{CartNumbered, MoveRefused, WayRefused, MoveTold, WayTold, LegDriven, WayToGoal};
 ghost use Rattle.leg_file.specs.File.{writeNumber, writtenFile, fileSteps, fileAnswer};
 ghost use Rattle.leg_file.specs.Promise.{ReadBack, WrittenSame, FileRefused};
 ghost use Rattle.practice.specs.Floor.{practiceFloor};
@@ -186,6 +191,30 @@ pub extern "C" fn hanjolum_arrivals(sheet: &[u8]) -> Arrivals
     ensures refused { λ r. ⌜ ((r .number ≡ 0 → ⊥) → AllZero 0 (r .moves)) ⌝ }
 {
     following::arrivals(sheet)
+}
+
+// One move of a cart over the floor, by the byte of its place: where it leads, or why it stands still, or number 2, 4, or 5.
+#[no_mangle]
+pub extern "C" fn hanjolum_move(sheet: &[u8], sector: u8, cell: u8) -> CartMove
+    ensures answer { λ r. ⌜ r ≡ moveAnswer (now (sheet .entry)) sector cell ⌝ }
+    ensures numbers { λ r. ⌜ CartNumbered (now (sheet .entry)) sector cell (r .number) ⌝ }
+    ensures refused { λ r. ⌜ ((r .number ≡ 0 → ⊥) → MoveRefused r) ⌝ }
+    ensures told { λ r. ⌜ (r .number ≡ 0 → MoveTold (now (sheet .entry)) (placeOf sector cell) r) ⌝ }
+    ensures driven { λ _. ⌜ LegDriven (now (sheet .entry)) ⌝ }
+{
+    leg_moves::next_move(sheet, sector, cell)
+}
+
+// The moves of a cart until it stands still, where and why, or that it never does, or number 2, 4, or 5.
+#[no_mangle]
+pub extern "C" fn hanjolum_way(sheet: &[u8], sector: u8, cell: u8) -> CartWay
+    ensures answer { λ r. ⌜ r ≡ wayAnswer (now (sheet .entry)) sector cell ⌝ }
+    ensures numbers { λ r. ⌜ CartNumbered (now (sheet .entry)) sector cell (r .number) ⌝ }
+    ensures refused { λ r. ⌜ ((r .number ≡ 0 → ⊥) → WayRefused r) ⌝ }
+    ensures told { λ r. ⌜ (r .number ≡ 0 → WayTold (now (sheet .entry)) (placeOf sector cell) r) ⌝ }
+    ensures to_goal { λ r. ⌜ (r .number ≡ 0 → WayToGoal (now (sheet .entry)) sector cell r) ⌝ }
+{
+    leg_moves::whole_way(sheet, sector, cell)
 }
 
 // A list of steps, written as a file to a buffer exactly as long: 0, or number 3 or 2.

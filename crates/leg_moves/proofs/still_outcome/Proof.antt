@@ -1,0 +1,31 @@
+-- `leg_moves::still_outcome` meets its contract: one reader after the other.
+-- Assumes nothing.
+use mathlib.Core.Path.{_≡_, sym, _∙_}
+use borrow.Author.Needs.{needs}
+use Rattle.leg_moves.proofs.still_outcome.Statement.{statement}
+use Rattle.leg_moves.proofs.still_outcome.Tie as tie
+
+is-goal-requires : tie.Need-is-goal-requires
+is-goal-requires c κs = search needs
+
+returns : tie.Need-returns
+returns c = sym (rw (sym (c .before .is-goal .ensures) ∙ c .if1 .taken))
+
+has-line-of-sight-requires : tie.Need-has-line-of-sight-requires
+has-line-of-sight-requires c κs = search needs
+
+returns-2 : tie.Need-returns-2
+returns-2 c =
+    let sight = c .before in
+    let goal = sight .before .before in
+    sym (rw (sym (goal .is-goal .ensures) ∙ sight .before .if1 .left, sym (sight .has-line-of-sight .ensures) ∙ c .if2 .taken))
+
+returns-3 : tie.Need-returns-3
+returns-3 c =
+    let sight = c .before in
+    let goal = sight .before .before in
+    sym (rw (sym (goal .is-goal .ensures) ∙ sight .before .if1 .left, sym (sight .has-line-of-sight .ensures) ∙ c .if2 .left))
+
+pub still-outcome-spec : {M : Type 1} → statement M
+still-outcome-spec =
+    tie.close (tie.spec is-goal-requires returns has-line-of-sight-requires returns-2 returns-3)
