@@ -56,6 +56,8 @@ ghost use Rattle.leg_plan.specs.Walls.{LegOnWall};
 ghost use Rattle.leg_plan.specs.Promise.{LegPlanned, LegPlannedBy};
 ghost use Rattle.journey.specs.Journey.{LegArrives, LegArrivesAtGoal};
 ghost use Rattle.journey.specs.Place.{placeOf};
+ghost use Rattle.leg_field.specs.Field.{fieldAnswerBy};
+ghost use Rattle.leg_field.specs.Promise.{FieldPlanned, AsLeg, BeyondList};
 ghost use Rattle.leg_moves.specs.Answers.{moveAnswer, wayAnswer};
 ghost use Rattle.leg_moves.specs.Promise.{CartNumbered, MoveRefused, WayRefused, MoveTold, WayTold, LegDriven, WayToGoal};
 ghost use Rattle.leg_file.specs.File.{writeNumber, writtenFile, fileSteps, fileAnswer};
@@ -191,6 +193,32 @@ pub extern "C" fn hanjolum_arrivals(sheet: &[u8]) -> Arrivals
     ensures refused { λ r. ⌜ ((r .number ≡ 0 → ⊥) → AllZero 0 (r .moves)) ⌝ }
 {
     following::arrivals(sheet)
+}
+
+// The built field of a leg's step, as the leg plans it, or number 1, 3, 21, 4 to 10, 16, or 15.
+#[no_mangle]
+pub extern "C" fn hanjolum_leg_field(floor: &[u8], steps: &[u8], place: usize) -> BuildAnswer
+    ensures answer { λ r. ⌜ r ≡ fieldAnswerBy true (now (floor .entry)) (now (steps .entry)) place ⌝ }
+    ensures planned { λ r. ⌜ (r .number ≡ 0 → FieldPlanned true (now (floor .entry)) (stepsOf (now (steps .entry))) place r) ⌝ }
+    ensures as_leg { λ r. ⌜ AsLeg true (now (floor .entry)) (now (steps .entry)) place (r .number) ⌝ }
+    ensures beyond { λ r. ⌜ (r .number ≡ 21) ↔ BeyondList (now (floor .entry)) (now (steps .entry)) place ⌝ }
+{
+    leg_field::leg_field(floor, steps, place)
+}
+
+// The same of the leg that is planned without sight.
+#[no_mangle]
+pub extern "C" fn hanjolum_leg_field_without_sight(
+    floor: &[u8],
+    steps: &[u8],
+    place: usize,
+) -> BuildAnswer
+    ensures answer { λ r. ⌜ r ≡ fieldAnswerBy false (now (floor .entry)) (now (steps .entry)) place ⌝ }
+    ensures planned { λ r. ⌜ (r .number ≡ 0 → FieldPlanned false (now (floor .entry)) (stepsOf (now (steps .entry))) place r) ⌝ }
+    ensures as_leg { λ r. ⌜ AsLeg false (now (floor .entry)) (now (steps .entry)) place (r .number) ⌝ }
+    ensures beyond { λ r. ⌜ (r .number ≡ 21) ↔ BeyondList (now (floor .entry)) (now (steps .entry)) place ⌝ }
+{
+    leg_field::leg_field_without_sight(floor, steps, place)
 }
 
 // One move of a cart over the floor, by the byte of its place: where it leads, or why it stands still, or number 2, 4, or 5.

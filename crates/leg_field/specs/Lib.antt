@@ -1,0 +1,3 @@
+pub mod Field
+pub mod Promise
+pub mod Inner
