@@ -202,6 +202,7 @@ pub extern "C" fn hanjolum_leg_field(floor: &[u8], steps: &[u8], place: usize) -
     ensures planned { λ r. ⌜ (r .number ≡ 0 → FieldPlanned true (now (floor .entry)) (stepsOf (now (steps .entry))) place r) ⌝ }
     ensures as_leg { λ r. ⌜ AsLeg true (now (floor .entry)) (now (steps .entry)) place (r .number) ⌝ }
     ensures beyond { λ r. ⌜ (r .number ≡ 21) ↔ BeyondList (now (floor .entry)) (now (steps .entry)) place ⌝ }
+    ensures refused { λ r. ⌜ ((r .number ≡ 0 → ⊥) → BuildRefused r) ⌝ }
 {
     leg_field::leg_field(floor, steps, place)
 }
@@ -217,6 +218,7 @@ pub extern "C" fn hanjolum_leg_field_without_sight(
     ensures planned { λ r. ⌜ (r .number ≡ 0 → FieldPlanned false (now (floor .entry)) (stepsOf (now (steps .entry))) place r) ⌝ }
     ensures as_leg { λ r. ⌜ AsLeg false (now (floor .entry)) (now (steps .entry)) place (r .number) ⌝ }
     ensures beyond { λ r. ⌜ (r .number ≡ 21) ↔ BeyondList (now (floor .entry)) (now (steps .entry)) place ⌝ }
+    ensures refused { λ r. ⌜ ((r .number ≡ 0 → ⊥) → BuildRefused r) ⌝ }
 {
     leg_field::leg_field_without_sight(floor, steps, place)
 }

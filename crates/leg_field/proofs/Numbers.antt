@@ -14,16 +14,20 @@ use lib.Dec.{leb, eqb}
 use lib.ListN.{length, replicate, length-replicate}
 use borrow.Author.Tests.{eqb-true, eqb-false, leb-true, leb-false, lt-leb, eq-eqb}
 use Rattle.route.specs.Table.{Row, row, firstNumber}
-use Rattle.route.specs.Step.{sectorOf, stepRowsOn, eachStepOn, noStepList}
+use Rattle.route.specs.Step.{noStepList}
 use Rattle.route.specs.Target.{Target}
+use Rattle.route.proofs.NoneIs.{none-is, none-both}
 use Rattle.integration_field.specs.declared.BuildAnswer.{BuildAnswer}
 use Rattle.integration_field.specs.Answer.{refusal, answerOf}
+use Rattle.integration_field.specs.Promise.{BuildRefused}
+use Rattle.integration_field.proofs.Answers.{build-refused}
 use Rattle.started_field.specs.Started.{started}
 use Rattle.least_walks.proofs.Promise.{demand3, started-positions}
 use Rattle.step_list.specs.Steps.{stepsOf}
-use Rattle.leg_plan.specs.Leg.{part, eachRows, outOfOrder, apart, someClosed, judgedRows, legNumberBy}
+use Rattle.leg_plan.specs.Leg.{eachRows, outOfOrder, apart, someClosed, judgedRows, legNumberBy}
 use Rattle.leg_plan.specs.Promise.{sectorAt, costsAt, targetAt}
 use Rattle.leg_plan.proofs.Numbers.{Judged, judged, rows-first, closed-15, open-0, ready}
+use Rattle.leg_plan.proofs.Closed.{each-is}
 use Rattle.leg_plan.proofs.Planned as plan
 use Rattle.leg_plan.proofs.Sheet.{built-is}
 use Rattle.leg_field.specs.Field.{fieldRows, fieldNumberBy, fieldAnswerBy}
@@ -78,31 +82,6 @@ module _ (floor steps : List ℕ) (place : ℕ) where
 
 -- ---- 21
 
--- no line of a table has a number above 16
-abbrev Small : List Row → Type 0
-Small [] = Unit
-Small (r ∷ rs) = (r .number ≤ 16) × Small rs
-
-small-first : (rs : List Row) → Small rs → firstNumber rs ≤ 16
-small-first [] s = omega arith
-small-first (r ∷ rs) s = go (r .holds) (s .0) (small-first rs (s .1))
-  where
-    go : (b : Bool) → r .number ≤ 16 → firstNumber rs ≤ 16 → cond b (r .number) (firstNumber rs) ≤ 16
-    go true h l = h
-    go false h l = l
-
-small-both : (rs others : List Row) → Small rs → Small others → Small (rs ++ others)
-small-both [] others s t = t
-small-both (r ∷ rs) others s t = (s .0, small-both rs others (s .1) t)
-
-step-small : (costs step : List ℕ) → eachStepOn costs step ≤ 16
-unfolding eachStepOn
-step-small costs step = small-first (stepRowsOn costs step) (omega arith, (omega arith, (omega arith, (omega arith, (omega arith, (omega arith, tt))))))
-
-each-small : (floor : List ℕ) (ss : List (List ℕ)) → Small (eachRows floor ss)
-each-small floor [] = tt
-each-small floor (s ∷ ss) = (step-small (part floor (sectorOf s)) s, each-small floor ss)
-
 pub beyond-told : (sight : Bool) (floor steps : List ℕ) (place : ℕ) → (fieldNumberBy sight floor steps place ≡ 21) ↔ BeyondList floor steps place
 unfolding fieldNumberBy fieldRows
 beyond-told sight floor steps place = go (eqb (length floor) 6400) (noStepList steps) (leb (length (stepsOf steps)) place) refl refl refl
@@ -119,10 +98,10 @@ beyond-told sight floor steps place = go (eqb (length floor) 6400) (noStepList s
     rest : ℕ
     rest = firstNumber ((each ++ order) ++ closed)
 
-    few : rest ≤ 16
-    few =
-        small-first ((each ++ order) ++ closed)
-        (small-both (each ++ order) closed (small-both each order (each-small floor (stepsOf steps)) (omega arith, (omega arith, tt))) (omega arith, tt))
+    never : rest ≡ 21 → ⊥
+    never =
+        none-is 20 ((each ++ order) ++ closed)
+        (none-both 21 (each ++ order) closed (none-both 21 each order (each-is 20 (λ costs step. refl) floor (stepsOf steps)) refl) refl)
 
     go : (a b c : Bool) → eqb (length floor) 6400 ≡ a → noStepList steps ≡ b → leb (length (stepsOf steps)) place ≡ c
         → (cond (not a) 1 (cond b 3 (cond c 21 rest)) ≡ 21) ↔ BeyondList floor steps place
@@ -133,7 +112,7 @@ beyond-told sight floor steps place = go (eqb (length floor) 6400) (noStepList s
       λ d. refl,
     )
     go true false false p q r = (
-      λ z. absurd (omega (arith, z, few)),
+      λ z. absurd (never z),
       λ d. absurd (omega (arith, leb-false (length (stepsOf steps)) place r, d .beyond)),
     )
 
@@ -150,7 +129,8 @@ module _ (sight : Bool) (floor steps : List ℕ) (place : ℕ) where
   Promised r =
       (r ≡ fieldAnswerBy sight floor steps place)
       × ((r .number ≡ 0 → FieldPlanned sight floor (stepsOf steps) place r)
-      × (AsLeg sight floor steps place (r .number) × ((r .number ≡ 21) ↔ BeyondList floor steps place)))
+      × (AsLeg sight floor steps place (r .number)
+      × (((r .number ≡ 21) ↔ BeyondList floor steps place) × ((r .number ≡ 0 → ⊥) → BuildRefused r))))
 
   told : (n : ℕ) → n ≡ fieldNumberBy sight floor steps place → AsLeg sight floor steps place n × ((n ≡ 21) ↔ BeyondList floor steps place)
   told n e = (
@@ -163,7 +143,8 @@ module _ (sight : Bool) (floor steps : List ℕ) (place : ℕ) where
   refuses zero e h r q = absurd (h refl)
   refuses (suc n) e h r q =
       let number : r .number ≡ suc n = ap (λ (b : BuildAnswer). b .number) q in
-      (q ∙ rw (← e), (λ z. absurd (h (sym number ∙ z)), told (r .number) (number ∙ e)))
+      let t = told (r .number) (number ∙ e) in
+      (q ∙ rw (← e), (λ z. absurd (h (sym number ∙ z)), (t .0, (t .1, build-refused (suc n) costs (started costs target) r q))))
 
   pub accepts : firstNumber (fieldRows floor steps place) ≡ 0 → someClosed sight floor (stepsOf steps) ≡ false
       → (r : BuildAnswer) → r ≡ answerOf 0 costs (started costs target) → Promised r
@@ -174,6 +155,7 @@ module _ (sight : Bool) (floor steps : List ℕ) (place : ℕ) where
       let j = judged-so floor steps place z in
       let sector-in = plan.fits sight floor steps blank (ready j) (j .sheet-full) .in-floor place inside in
       let full = plan.part-hundred floor (sectorAt (stepsOf steps) place) (j .floor-full) sector-in in
+      let t = told (r .number) (ap (λ (b : BuildAnswer). b .number) e ∙ sym zero-number) in
       let target-in = plan.target-at sight floor steps blank (ready j) (j .sheet-full) place inside in (
         e ∙ rw zero-number,
         (
@@ -183,6 +165,6 @@ module _ (sight : Bool) (floor steps : List ℕ) (place : ℕ) where
             walks = rw e (demand3 costs target full target-in);
             positions = rw e (started-positions costs target full target-in);
           },
-          told (r .number) (ap (λ (b : BuildAnswer). b .number) e ∙ sym zero-number),
+          (t .0, (t .1, build-refused 0 costs (started costs target) r e)),
         ),
       )

@@ -10,6 +10,7 @@ ghost use Rattle.route.specs.Table.{firstNumber};
 ghost use Rattle.route.specs.Step.{sectorOf};
 ghost use Rattle.route.specs.Inner.{heldTarget, TargetHeld};
 ghost use Rattle.integration_field.specs.Answer.{answerOf};
+ghost use Rattle.integration_field.specs.Promise.{BuildRefused};
 ghost use Rattle.started_field.specs.Started.{started};
 ghost use Rattle.step_list.specs.Steps.{stepsOf};
 ghost use Rattle.leg_plan.specs.Leg.{part};
@@ -78,6 +79,7 @@ fn field_by_sight(floor: &[u8], steps: &[u8], sight: bool, place: usize) -> Buil
     ensures planned { λ r. ⌜ (r .number ≡ 0 → FieldPlanned sight (now (floor .entry)) (stepsOf (now (steps .entry))) place r) ⌝ }
     ensures as_leg { λ r. ⌜ AsLeg sight (now (floor .entry)) (now (steps .entry)) place (r .number) ⌝ }
     ensures beyond { λ r. ⌜ (r .number ≡ 21) ↔ BeyondList (now (floor .entry)) (now (steps .entry)) place ⌝ }
+    ensures refused { λ r. ⌜ ((r .number ≡ 0 → ⊥) → BuildRefused r) ⌝ }
 {
     let number = field_number(floor, steps, place);
     if number != 0 {
@@ -99,6 +101,7 @@ pub fn leg_field(floor: &[u8], steps: &[u8], place: usize) -> BuildAnswer
     ensures planned { λ r. ⌜ (r .number ≡ 0 → FieldPlanned true (now (floor .entry)) (stepsOf (now (steps .entry))) place r) ⌝ }
     ensures as_leg { λ r. ⌜ AsLeg true (now (floor .entry)) (now (steps .entry)) place (r .number) ⌝ }
     ensures beyond { λ r. ⌜ (r .number ≡ 21) ↔ BeyondList (now (floor .entry)) (now (steps .entry)) place ⌝ }
+    ensures refused { λ r. ⌜ ((r .number ≡ 0 → ⊥) → BuildRefused r) ⌝ }
 {
     field_by_sight(floor, steps, true, place)
 }
@@ -109,6 +112,7 @@ pub fn leg_field_without_sight(floor: &[u8], steps: &[u8], place: usize) -> Buil
     ensures planned { λ r. ⌜ (r .number ≡ 0 → FieldPlanned false (now (floor .entry)) (stepsOf (now (steps .entry))) place r) ⌝ }
     ensures as_leg { λ r. ⌜ AsLeg false (now (floor .entry)) (now (steps .entry)) place (r .number) ⌝ }
     ensures beyond { λ r. ⌜ (r .number ≡ 21) ↔ BeyondList (now (floor .entry)) (now (steps .entry)) place ⌝ }
+    ensures refused { λ r. ⌜ ((r .number ≡ 0 → ⊥) → BuildRefused r) ⌝ }
 {
     field_by_sight(floor, steps, false, place)
 }

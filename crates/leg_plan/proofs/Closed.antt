@@ -1,5 +1,6 @@
 -- Number 15 of a leg is told by the cells that count. Planning goes over the steps in order, and the definition looks for a closed window the same way; both
 -- are said here by a step's place in the list.
+--     each-is          a number that is none of a step's is none of a leg's steps
 --     never-15         no number that is judged before a step is planned is 15
 --     found, so-from   a closed window on the way is one at some place
 --     fifteen-told     a leg is refused with 15 exactly if nothing is judged before, and a step's window has no cell that counts
@@ -15,7 +16,7 @@ use lib.ListN.{length, drop, drop-of-length-le}
 use lib.Seq.{drop-cons}
 use borrow.Author.Tests.{eqb-true, eqb-false}
 use Rattle.route.specs.Table.{row, firstNumber}
-use Rattle.route.specs.Step.{sectorOf}
+use Rattle.route.specs.Step.{sectorOf, stepRowsOn}
 use Rattle.route.specs.Target.{Target, to-goal, to-window, to-corner, bySight, WindowCell, targetOf}
 use Rattle.route.proofs.Targets.{target-goal}
 use Rattle.route.proofs.NoneIs.{noneIs, none-is, none-both, step-is}
@@ -31,12 +32,15 @@ use Rattle.leg_plan.proofs.Planned.{counting-at}
 
 -- ---- what is judged before is never 15
 
-each-never : (floor : List ℕ) (ss : List (List ℕ)) → noneIs 15 (eachRows floor ss) ≡ true
-each-never floor [] = refl
-each-never floor (s ∷ ss) = go (eqb (floorNumber floor s) 15) refl (each-never floor ss)
+-- the numbers of a leg's steps
+pub each-is : (n : ℕ) → ((costs step : List ℕ) → noneIs (suc n) (stepRowsOn costs step) ≡ true) → (floor : List ℕ) (ss : List (List ℕ))
+    → noneIs (suc n) (eachRows floor ss) ≡ true
+each-is n none floor [] = refl
+each-is n none floor (s ∷ ss) = go (eqb (floorNumber floor s) (suc n)) refl (each-is n none floor ss)
   where
-    go : (b : Bool) → eqb (floorNumber floor s) 15 ≡ b → noneIs 15 (eachRows floor ss) ≡ true → (not b && noneIs 15 (eachRows floor ss)) ≡ true
-    go true q ih = absurd (step-is 14 (part floor (sectorOf s)) s refl (eqb-true (floorNumber floor s) 15 q))
+    go : (b : Bool) → eqb (floorNumber floor s) (suc n) ≡ b → noneIs (suc n) (eachRows floor ss) ≡ true
+        → (not b && noneIs (suc n) (eachRows floor ss)) ≡ true
+    go true q ih = absurd (step-is n (part floor (sectorOf s)) s (none (part floor (sectorOf s)) s) (eqb-true (floorNumber floor s) (suc n) q))
     go false q ih = ih
 
 never-15 : (floor steps sheet : List ℕ) → firstNumber (judgedRows floor steps sheet) ≡ 15 → ⊥
@@ -44,7 +48,7 @@ unfolding judgedRows
 never-15 floor steps sheet =
     none-is 14 (judgedRows floor steps sheet)
     (none-both 15 (eachRows floor (stepsOf steps)) (row 9 (outOfOrder (stepsOf steps)) ∷ row 10 (apart (stepsOf steps)) ∷ [])
-    (each-never floor (stepsOf steps)) refl)
+    (each-is 14 (λ costs step. refl) floor (stepsOf steps)) refl)
 
 -- ---- closed windows, by a step's place
 
