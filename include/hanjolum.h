@@ -75,6 +75,7 @@
  *     15  leg: a window with no counting cell, found when its step is planned, after 10
  *     18  bounds: a step without window, low above high somewhere, or 255 in only one of the two; after 16
  *     20  window costs and tour: a step without window, or in another sector than the first's; after 16 for the same step
+ *     21  field of a leg's step: a place beyond the list; behind 3
  * In a leg 4 to 8 and 16 are judged for one step before the next, 16 on the costs of the step's own sector, and for every
  * cell of a window, also for one that would not count. The calls without sight judge what those with sight do, in the same
  * order. The writer of a leg file judges 3 as a leg does, and then 2 for a buffer that is not exactly as long as the file. The
@@ -180,7 +181,17 @@ enum {
     HANJOLUM_REFUSED_NO_PREVIOUS = 17,
     HANJOLUM_REFUSED_BOUNDS_INPUT = 18,
     HANJOLUM_REFUSED_WINDOW_COUNT = 19,
-    HANJOLUM_REFUSED_OTHER_SECTOR = 20
+    HANJOLUM_REFUSED_OTHER_SECTOR = 20,
+    HANJOLUM_REFUSED_PLACE = 21
+};
+
+/* What a cart's call says of its place. A refused call answers 0. */
+enum {
+    HANJOLUM_OUTCOME_STOPPED = 0,       /* no arrow leads on, and the byte reads as neither goal nor in sight */
+    HANJOLUM_OUTCOME_MOVED = 1,         /* the arrow leads to the place that is answered */
+    HANJOLUM_OUTCOME_ARRIVED = 2,       /* no arrow leads on, and the byte reads as goal */
+    HANJOLUM_OUTCOME_IN_SIGHT = 3,      /* no arrow leads on, and the goal is in sight: go straight for it */
+    HANJOLUM_OUTCOME_NEVER = 4          /* of a way alone: the cart never stands still */
 };
 
 /* A cell of an integration field: its cost in the low 16 bits (65535: not reached), flags above. */
@@ -304,6 +315,23 @@ typedef struct {
     uint32_t tried;                     /* how many orders were tried */
     uint32_t least;                     /* the least figure */
 } HanjolumWindowTour;
+
+/* Where a cart's move leads: the place by its sector and cell. */
+typedef struct {
+    uint8_t number;
+    uint8_t outcome;                    /* HANJOLUM_OUTCOME_* */
+    uint8_t sector;
+    uint8_t cell;
+} HanjolumMove;
+
+/* Where a cart's way ends, and after how many moves. */
+typedef struct {
+    uint8_t number;
+    uint8_t outcome;                    /* HANJOLUM_OUTCOME_* */
+    uint8_t sector;
+    uint8_t cell;
+    uint16_t moves;
+} HanjolumWay;
 
 /*
  * Plans one sector: starts the field of a step on 100 cost bytes, builds it, and writes its 100 flow bytes to the sheet,
@@ -459,6 +487,50 @@ uint8_t hanjolum_leg_without_sight(
     uint8_t *sheet, size_t sheet_length);
 
 /*
+ * The built field of one of a leg's steps, as hanjolum_leg plans it: over the window cells that count, with the position of
+ * each cell's corner among them ("which door is mine"), and the wave count. `place` is the step's place in the list, from 0.
+ * It is refused exactly as the leg is, whichever step is at fault, also one behind the place; and with 21 for a place beyond
+ * the list. The other call does the same for hanjolum_leg_without_sight.
+ * Writes nothing. Numbers 1, 3, 21, 4 to 8, 16, 9, 10, 15.
+ */
+HanjolumBuildAnswer hanjolum_leg_field(
+    const uint8_t *floor, size_t floor_length,
+    const uint8_t *steps, size_t steps_length,
+    size_t place);
+
+HanjolumBuildAnswer hanjolum_leg_field_without_sight(
+    const uint8_t *floor, size_t floor_length,
+    const uint8_t *steps, size_t steps_length,
+    size_t place);
+
+/*
+ * One move of a cart, by the byte of its place on a floor's sheet, whatever the 6,400 bytes are: it goes by the floor's
+ * columns and rows, also from one sector into the next. MOVED exactly where the byte has a direction that leads to a place of
+ * the floor, whatever its flags: the place is that one. Otherwise the cart stands still, the place is its own, and the outcome
+ * is what the byte reads as. A cart's loop:
+ *     HanjolumMove at = { .sector = sector, .cell = cell };
+ *     do {
+ *         at = hanjolum_move(sheet, HANJOLUM_FLOOR, at.sector, at.cell);
+ *         if (at.outcome == HANJOLUM_OUTCOME_MOVED) drive_to(at.sector, at.cell);
+ *     } while (at.outcome == HANJOLUM_OUTCOME_MOVED);
+ *     report(at.number, at.outcome);
+ * It need not end on a sheet with sight (hanjolum_way tells). On the sheet of a planned leg, with no cost of 0 on the way,
+ * moves from a reached cell come into the goal's sector in at most 1,500, and where it was planned without sight to the goal
+ * in at most 1,599, with ARRIVED there.
+ * Writes nothing. Numbers 2 (sheet not 6,400), 4 (sector over 63), 5 (cell over 99).
+ */
+HanjolumMove hanjolum_move(const uint8_t *sheet, size_t sheet_length, uint8_t sector, uint8_t cell);
+
+/*
+ * The same moves, one after the other, until the cart stands still: where, after how many, and the outcome there. NEVER says
+ * that it stands still after no number of moves: it comes again to a place where it was; the place is then the cart's own, and
+ * moves is 0. No way that ends has more than 6,399 moves. On the sheet of a leg planned without sight, with no cost of 0 on the
+ * way, the answer from a reached cell is ARRIVED, at the goal.
+ * Writes nothing. Numbers 2, 4, 5.
+ */
+HanjolumWay hanjolum_way(const uint8_t *sheet, size_t sheet_length, uint8_t sector, uint8_t cell);
+
+/*
  * Writes the file of a list of 1 to 16 steps to a buffer of HANJOLUM_FILE_HEAD + steps_length bytes. What is written is
  * read back the same.
  * Answers its number: 0, or 3, or 2 for a buffer that is shorter or longer.
@@ -612,6 +684,7 @@ static inline const char *hanjolum_refusal_text(uint8_t number)
         return "the step has no window, low is above high somewhere, or 255 is in only one of the two";
     case HANJOLUM_REFUSED_WINDOW_COUNT: return "there are fewer than 2 steps or more than 8";
     case HANJOLUM_REFUSED_OTHER_SECTOR: return "a step has no window, or another sector than the first";
+    case HANJOLUM_REFUSED_PLACE: return "the place is beyond the leg's last step";
     default: return "no number of this version";
     }
 }
