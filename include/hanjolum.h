@@ -45,6 +45,17 @@
  *                     goal's sector may run in a circle, and hanjolum_arrivals tells which.
  * A sector left by a window has no sight, and both sector calls plan it alike.
  *
+ * Driving.  hanjolum_move takes a cart from the place where it stands, by the byte of the sheet, to the next place, also from
+ * one sector into the next. hanjolum_way tells beforehand where such moves end. A cart's loop:
+ *     HanjolumMove at = hanjolum_move(sheet, HANJOLUM_FLOOR, sector, cell);
+ *     while (at.outcome == HANJOLUM_OUTCOME_MOVED) {
+ *         drive_to(at.sector, at.cell);
+ *         at = hanjolum_move(sheet, HANJOLUM_FLOOR, at.sector, at.cell);
+ *     }
+ *     stand_still(at.number, at.outcome);
+ * It ends at the goal (ARRIVED) on every sheet of a leg planned without sight, from a reached cell and with no cost of 0. With
+ * sight it may end where the goal is in sight (IN_SIGHT), or not at all: ask hanjolum_way first.
+ *
  * Leg files.  A leg's steps as a file, for carrying: the mark `LEG`, a 16-bit version 1 (low byte first), a byte for the
  * step count 1 to 16, the steps, and nothing after; 14 to 134 bytes. No byte of a step is judged where a file is written
  * or read: that is done when the leg is planned.
@@ -56,11 +67,12 @@
  * those that its function names, writes not one byte of what it is lent, and has every other part of its answer zero.
  * HANJOLUM_REFUSED_* name the numbers, and hanjolum_refusal_text says them in words.
  *     1   cost bytes not 100 (leg: 6,400)
- *     2   sheet not 100 bytes (leg: 6,400)
+ *     2   sheet not 100 bytes (leg, move and way: 6,400)
  *     3   step not 8 bytes (leg: none, over 128, or no multiple of 8; window costs and tour: no multiple of 8)
  *     19  window costs and tour: fewer than 2 or more than 8 steps, none among them; after 3
- *     4   sector over 63, mark over 1, or byte 6 or 7 not 0
- *     5   mark 0: goal over 99
+ *     21  field of a leg's step: a place beyond the last step; after 3
+ *     4   sector over 63, mark over 1, or byte 6 or 7 not 0 (move and way: sector over 63)
+ *     5   mark 0: goal over 99 (move and way: cell over 99)
  *     6   mark 1: a window cell over 99, or boundary over 3
  *     7   mark 1: a window cell off the named edge (North row 0, East column 9, South row 9, West column 0)
  *     8   mark 1: first cell after last
@@ -75,16 +87,16 @@
  *     15  leg: a window with no counting cell, found when its step is planned, after 10
  *     18  bounds: a step without window, low above high somewhere, or 255 in only one of the two; after 16
  *     20  window costs and tour: a step without window, or in another sector than the first's; after 16 for the same step
- *     21  field of a leg's step: a place beyond the list; behind 3
  * In a leg 4 to 8 and 16 are judged for one step before the next, 16 on the costs of the step's own sector, and for every
- * cell of a window, also for one that would not count. The calls without sight judge what those with sight do, in the same
- * order. The writer of a leg file judges 3 as a leg does, and then 2 for a buffer that is not exactly as long as the file. The
- * call for bounds judges 1 for either floor, and 16 on both. The calls for window costs and tours judge 4 to 8, 16 and 20 for
- * one step before the next.
+ * cell of a window, also for one that would not count. The calls for the field of a leg's step judge all that the leg does but
+ * 2, since they take no sheet, and 21 besides. The calls without sight judge what those with sight do, in the same order. The
+ * writer of a leg file judges 3 as a leg does, and then 2 for a buffer that is not exactly as long as the file. The call for
+ * bounds judges 1 for either floor, and 16 on both. The calls for window costs and tours judge 4 to 8, 16 and 20 for one step
+ * before the next.
  *
  * Stack and time.  Every call ends, on all input. Each wave is one call on the stack, of 592 bytes in the compiled archive,
- * and there are at most 101 at a time: no call needs as much as 80,000 bytes. Give a thread that calls sector or leg, with
- * sight or without, bounds, window costs, tour, init or build 256 KB.
+ * and there are at most 101 at a time: no call needs as much as 80,000 bytes. Give a thread that calls sector, leg or
+ * the field of a leg's step, with sight or without, bounds, window costs, tour, init or build 256 KB.
  * Below, for each call, its bytes of stack with 101 waves, beside what memcpy and memset need, read off the archive
  * (tools/stack/frames); and its nanoseconds, the median on practice floors (tools/time/header) on one core of an AMD EPYC that
  * did nothing else. Neither is proved, and times belong to the machine. Readers of a byte are alike.
@@ -185,13 +197,13 @@ enum {
     HANJOLUM_REFUSED_PLACE = 21
 };
 
-/* What a cart's call says of its place. A refused call answers 0. */
+/* What a move or a way comes to. A refused call has 0 too, so that it never reads as moved: its number tells the two apart. */
 enum {
-    HANJOLUM_OUTCOME_STOPPED = 0,       /* no arrow leads on, and the byte reads as neither goal nor in sight */
-    HANJOLUM_OUTCOME_MOVED = 1,         /* the arrow leads to the place that is answered */
+    HANJOLUM_OUTCOME_STOPPED = 0,       /* no arrow leads on, and the byte is neither the goal's nor in sight, as a wall's */
+    HANJOLUM_OUTCOME_MOVED = 1,         /* of a move alone: the arrow leads to the place that is answered */
     HANJOLUM_OUTCOME_ARRIVED = 2,       /* no arrow leads on, and the byte reads as goal */
-    HANJOLUM_OUTCOME_IN_SIGHT = 3,      /* no arrow leads on, and the goal is in sight: go straight for it */
-    HANJOLUM_OUTCOME_NEVER = 4          /* of a way alone: the cart never stands still */
+    HANJOLUM_OUTCOME_IN_SIGHT = 3,      /* no arrow leads on, and the goal is in sight: drive straight for it */
+    HANJOLUM_OUTCOME_NEVER = 4          /* of a way alone: the cart never stands still, it drives in a circle */
 };
 
 /* A cell of an integration field: its cost in the low 16 bits (65535: not reached), flags above. */
@@ -231,8 +243,9 @@ enum {
  * 100 cells by index, and the indexes of the corners that building starts from: `count` of them, 0 beyond. Once built, the
  * position of a cell is the place in that list, from 0, of the corner that it belongs to: the earliest with a walk that
  * arrives at the cell's built cost, where a corner that building left alone stays put. Before building it is 255, and so it
- * stays in a cell that was wall, in sight or flagged GOAL before, and in one whose cost no corner's walk gives. A leg, which
- * answers no field, starts from the window cells that count alone: there a cell may belong to another one.
+ * stays in a cell that was wall, in sight or flagged GOAL before, and in one whose cost no corner's walk gives. A leg starts
+ * from the window cells that count alone, so that there a cell may belong to another one: hanjolum_leg_field answers the fields
+ * of a leg's steps.
  */
 typedef struct {
     uint32_t field[100];
@@ -316,21 +329,21 @@ typedef struct {
     uint32_t least;                     /* the least figure */
 } HanjolumWindowTour;
 
-/* Where a cart's move leads: the place by its sector and cell. */
+/* What a cart's move comes to, and the place where the cart is then: its sector, and its cell there. 4 bytes. */
 typedef struct {
     uint8_t number;
-    uint8_t outcome;                    /* HANJOLUM_OUTCOME_* */
+    uint8_t outcome;                    /* HANJOLUM_OUTCOME_*, all but NEVER */
     uint8_t sector;
     uint8_t cell;
 } HanjolumMove;
 
-/* Where a cart's way ends, and after how many moves. */
+/* What a cart's way comes to, the place where it ends, and after how many moves. 6 bytes. */
 typedef struct {
     uint8_t number;
-    uint8_t outcome;                    /* HANJOLUM_OUTCOME_* */
+    uint8_t outcome;                    /* HANJOLUM_OUTCOME_*, all but MOVED */
     uint8_t sector;
     uint8_t cell;
-    uint16_t moves;
+    uint16_t moves;                     /* at most 6,399 */
 } HanjolumWay;
 
 /*
@@ -386,7 +399,7 @@ HanjolumBuildAnswer hanjolum_sector_without_sight(
  * planned with sight reached cells may have 255: a cart set there never comes to the goal by the arrows. And for a planned leg
  * with no cost of 0, one look at the goal's sector (the sheet from sector * 100 on) tells the whole way: from every reached
  * cell of the other sectors the arrows come into a reached cell of it, and that cell's number says how many moves are left, or,
- * with sight, that they never arrive.
+ * with sight, that they never arrive. From one place of a floor, hanjolum_way tells the whole way at once.
  * Writes nothing. Number 2.
  */
 HanjolumArrivals hanjolum_arrivals(const uint8_t *sheet, size_t sheet_length);
@@ -487,10 +500,13 @@ uint8_t hanjolum_leg_without_sight(
     uint8_t *sheet, size_t sheet_length);
 
 /*
- * The built field of one of a leg's steps, as hanjolum_leg plans it: over the window cells that count, with the position of
- * each cell's corner among them ("which door is mine"), and the wave count. `place` is the step's place in the list, from 0.
- * It is refused exactly as the leg is, whichever step is at fault, also one behind the place; and with 21 for a place beyond
- * the list. The other call does the same for hanjolum_leg_without_sight.
+ * The built field of one step of a leg, as hanjolum_leg plans it, for who asks which door is a cell's own. It takes the floor
+ * and the steps of the leg, and the step's place in the list: 0 is the goal's, and one less than the number of steps the last.
+ * It answers what a sector call answers, the built field with each cell's position and the wave count. A step with a window has
+ * its field over the window cells that count: los_corners lists those, and los_corners[positions[x]] is the door of cell x, where
+ * its position is not 255.
+ * The whole leg is planned, and refused exactly as hanjolum_leg refuses it, whichever step is at fault, also one behind the
+ * place: but for 2, since there is no sheet, and with 21 besides for a place beyond the last step.
  * Writes nothing. Numbers 1, 3, 21, 4 to 8, 16, 9, 10, 15.
  */
 HanjolumBuildAnswer hanjolum_leg_field(
@@ -498,34 +514,37 @@ HanjolumBuildAnswer hanjolum_leg_field(
     const uint8_t *steps, size_t steps_length,
     size_t place);
 
+/*
+ * The same of the leg that hanjolum_leg_without_sight plans.
+ * Writes nothing. Numbers 1, 3, 21, 4 to 8, 16, 9, 10, 15.
+ */
 HanjolumBuildAnswer hanjolum_leg_field_without_sight(
     const uint8_t *floor, size_t floor_length,
     const uint8_t *steps, size_t steps_length,
     size_t place);
 
 /*
- * One move of a cart, by the byte of its place on a floor's sheet, whatever the 6,400 bytes are: it goes by the floor's
- * columns and rows, also from one sector into the next. MOVED exactly where the byte has a direction that leads to a place of
- * the floor, whatever its flags: the place is that one. Otherwise the cart stands still, the place is its own, and the outcome
- * is what the byte reads as. A cart's loop:
- *     HanjolumMove at = { .sector = sector, .cell = cell };
- *     do {
- *         at = hanjolum_move(sheet, HANJOLUM_FLOOR, at.sector, at.cell);
- *         if (at.outcome == HANJOLUM_OUTCOME_MOVED) drive_to(at.sector, at.cell);
- *     } while (at.outcome == HANJOLUM_OUTCOME_MOVED);
- *     report(at.number, at.outcome);
- * It need not end on a sheet with sight (hanjolum_way tells). On the sheet of a planned leg, with no cost of 0 on the way,
- * moves from a reached cell come into the goal's sector in at most 1,500, and where it was planned without sight to the goal
- * in at most 1,599, with ARRIVED there.
- * Writes nothing. Numbers 2 (sheet not 6,400), 4 (sector over 63), 5 (cell over 99).
+ * One move of a cart, from a sector and a cell, by the byte of that place in a floor's sheet of 6,400 bytes, whatever they are.
+ * It goes by the floor's columns and rows, also from one sector into the next ("Driving" above has a cart's loop).
+ * MOVED is answered exactly where the byte's direction leads to a place of the floor, whatever the byte's flags, and with that
+ * place. Otherwise the cart stands still, and is answered with its own place: ARRIVED if the byte reads as goal, also where it
+ * has a direction that leads off the floor; else IN_SIGHT if it reads so, and the cart drives straight for the goal; else
+ * STOPPED, as on a wall, on a cell that nothing reaches, and at the floor's edge.
+ * On the sheet of a planned leg, from a reached cell and with no cost of 0 in the sectors on the way, moves one after the other
+ * come into the goal's sector, at most 1,500 of them; and where the leg was planned without sight to the goal, at most 1,599,
+ * and there the call answers ARRIVED. A leg leaves the bytes of sectors that it does not name, and a cart in one of them goes by
+ * what they hold: of zeros it is STOPPED.
+ * Writes nothing. Numbers 2, 4, 5.
  */
 HanjolumMove hanjolum_move(const uint8_t *sheet, size_t sheet_length, uint8_t sector, uint8_t cell);
 
 /*
- * The same moves, one after the other, until the cart stands still: where, after how many, and the outcome there. NEVER says
- * that it stands still after no number of moves: it comes again to a place where it was; the place is then the cart's own, and
- * moves is 0. No way that ends has more than 6,399 moves. On the sheet of a leg planned without sight, with no cost of 0 on the
- * way, the answer from a reached cell is ARRIVED, at the goal.
+ * Where a cart's moves end, told before it is driven: hanjolum_move's arguments, and its moves one after the other until the
+ * cart stands still. The answer is the outcome there, the place, and the number of moves, 0 where the cart does not move at all.
+ * NEVER says that it stands still after no number of moves, however large: it comes again to a place where it was. The place is
+ * then its own, and moves is 0. The places on a way that ends all differ, so that it has at most 6,399 moves.
+ * On the sheet of a leg planned without sight, from a reached cell and with no cost of 0 in the sectors on the way, the outcome
+ * is ARRIVED, and the place the goal.
  * Writes nothing. Numbers 2, 4, 5.
  */
 HanjolumWay hanjolum_way(const uint8_t *sheet, size_t sheet_length, uint8_t sector, uint8_t cell);
@@ -657,13 +676,13 @@ static inline const char *hanjolum_refusal_text(uint8_t number)
     case HANJOLUM_ACCEPTED: return "accepted";
     case HANJOLUM_REFUSED_COST_BYTES: return "the cost bytes are not 100 (a leg's floor: 6,400)";
     case HANJOLUM_REFUSED_SHEET:
-        return "the sheet is not 100 bytes (a leg's: 6,400), or the buffer is not as long as the leg file";
+        return "the sheet is not 100 bytes (a floor's: 6,400), or the buffer is not as long as the leg file";
     case HANJOLUM_REFUSED_STEP_LIST:
         return "the step is not 8 bytes (a leg's steps: none, over 128 bytes, or no multiple of 8; several windows: "
                "no multiple of 8)";
     case HANJOLUM_REFUSED_STEP_BYTES:
-        return "a step's sector is over 63, its mark over 1, or one of its last two bytes not 0";
-    case HANJOLUM_REFUSED_GOAL: return "a goal is over 99";
+        return "a sector is over 63, a step's mark over 1, or one of its last two bytes not 0";
+    case HANJOLUM_REFUSED_GOAL: return "a goal, or a cart's cell, is over 99";
     case HANJOLUM_REFUSED_WINDOW: return "a window cell is over 99, or a boundary over 3";
     case HANJOLUM_REFUSED_OFF_EDGE:
         return "a window cell is off the named edge (North row 0, East column 9, South row 9, West column 0)";
