@@ -1,6 +1,6 @@
 //! Flow bytes, the directions that they hold, and a cart's place on a floor.
 
-use crate::{CELLS, SECTORS, sys};
+use crate::{CELLS, Outcome, SECTORS, move_from, sys};
 
 /// A direction to walk in.
 #[derive(Clone, Copy, Debug, PartialEq, Eq, Hash)]
@@ -87,8 +87,8 @@ impl FlowByte {
     }
 }
 
-/// A cell of a floor: its sector, 0 to 63, and its index there, 0 to 99. What is said of places is worked out by this crate:
-/// it is tested and not proved.
+/// A cell of a floor: its sector, 0 to 63, and its index there, 0 to 99. Columns, rows and bytes of places are worked out by
+/// this crate, which is tested and not proved; where a cart moves is the archive's answer.
 #[derive(Clone, Copy, Debug, PartialEq, Eq, Hash)]
 pub struct Place {
     /// The sector.
@@ -121,17 +121,16 @@ impl Place {
         bytes.get(sector * CELLS + cell).copied()
     }
 
-    /// The place one move on; none where that is off the floor.
+    /// The place beside it in a direction; none where that is off the floor.
+    #[deprecated(since = "1.2.0", note = "drive by `move_from`, whose moves are proved")]
     pub fn moved(self, direction: Direction) -> Option<Place> {
         let ((column, row), (east, south)) = (self.column_and_row(), direction.differences());
         Place::at(column.checked_add_signed(east)?, row.checked_add_signed(south)?)
     }
 
-    /// Where the arrow of a planned floor's sheet leads from here; none where the cell has no arrow: the goal, a cell with
-    /// the goal in sight, a wall, a cell that nothing reaches. Where no cost is 0, arrows of a leg that was planned without
-    /// sight lead to the goal; with sight those in the goal's sector need not, and [`arrivals`](crate::arrivals) tells from
-    /// which cells they do.
+    /// Where a cart's move leads from here by a floor's sheet, as [`move_from`] answers it; none where the cart stands still,
+    /// and where the call is refused. Who has to know why asks [`move_from`] itself.
     pub fn next(self, sheet: &[u8]) -> Option<Place> {
-        self.moved(FlowByte(self.byte_of(sheet)?).direction()?)
+        move_from(sheet, self).ok().filter(|made| made.outcome == Outcome::Moved).map(|made| made.place)
     }
 }

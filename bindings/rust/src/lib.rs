@@ -17,21 +17,30 @@
 //! they must. There a cell with the goal in sight has no arrow and is left straight for the goal, and the arrows of other cells
 //! of the goal's sector may run in a circle; [`arrivals`] tells which.
 //!
+//! A cart drives by [`move_from`]: from its place, by the sheet's byte, to the next place, also from one sector into the next.
+//! [`way`] tells beforehand where that ends, or that it never does. [`leg_field`] and [`leg_field_without_sight`] answer the
+//! built field of one step of a leg, which tells each cell its door.
+//!
 //! ```
-//! use hanjolum::{Boundary, FLOOR, Place, Step, Steps};
+//! use hanjolum::{Boundary, FLOOR, Outcome, Place, Step, Steps};
 //!
 //! let floor = [1; FLOOR];
 //! let mut sheet = [0; FLOOR];
 //! // The goal is cell 44 of sector 9; sector 10, east of it, is left by its west window, cells 30 to 60.
 //! let steps = Steps::new(&[Step::goal(9, 44), Step::window(10, Boundary::West, 30, 60)])?;
 //! hanjolum::leg_without_sight(&floor, &steps, &mut sheet)?;
-//! // No cost is 0: the arrows lead to the goal, which has none.
-//! let mut cart = Place { sector: 10, cell: 49 };
+//! // A cart's loop. No cost is 0: the moves lead to the goal.
+//! let cart = Place { sector: 10, cell: 49 };
 //! let mut moves = 0;
-//! while let Some(next) = cart.next(&sheet) {
-//!     (cart, moves) = (next, moves + 1);
+//! let mut at = hanjolum::move_from(&sheet, cart)?;
+//! while at.outcome == Outcome::Moved {
+//!     moves += 1; // drive to at.place
+//!     at = hanjolum::move_from(&sheet, at.place)?;
 //! }
-//! assert_eq!((cart, moves), (Place { sector: 9, cell: 44 }, 15));
+//! assert_eq!((at.outcome, at.place, moves), (Outcome::Arrived, Place { sector: 9, cell: 44 }, 15));
+//! // The same, told beforehand.
+//! let way = hanjolum::way(&sheet, cart)?;
+//! assert_eq!((way.outcome, way.place, way.moves), (at.outcome, at.place, moves));
 //! # Ok::<(), hanjolum::Refusal>(())
 //! ```
 #![no_std]
@@ -44,11 +53,13 @@
 )))]
 compile_error!("libhanjolum.a is an ELF archive for x86-64 with System V calls");
 
+mod cart;
 mod flow;
 mod refusal;
 mod step;
 pub mod sys;
 
+pub use cart::{Move, Outcome, Way, move_from, way};
 pub use flow::{Direction, FlowByte, Place};
 pub use refusal::Refusal;
 pub use step::{Boundary, Step, Steps};
@@ -96,6 +107,13 @@ impl IntegrationField {
     /// The cost of a cell; none where nothing reaches it, and for an index over 99.
     pub fn cost(&self, cell: usize) -> Option<u32> {
         self.field.get(cell).map(|word| word & UNREACHED).filter(|cost| *cost != UNREACHED)
+    }
+
+    /// The corner that a cell belongs to, by its index; in a sector left by a window that is the window cell that is its door.
+    /// None where its position is 255, and for an index over 99.
+    pub fn corner_of(&self, cell: usize) -> Option<usize> {
+        let position = usize::from(*self.positions.get(cell)?);
+        self.los_corners.iter().take(self.count).nth(position).copied()
     }
 }
 
@@ -237,6 +255,9 @@ type SectorCall = unsafe extern "C" fn(
 /// The leg, with sight or without.
 type LegCall = unsafe extern "C" fn(*const u8, usize, *const u8, usize, *mut u8, usize) -> u8;
 
+/// The field of a leg's step, with sight or without.
+type LegFieldCall = unsafe extern "C" fn(*const u8, usize, *const u8, usize, usize) -> sys::BuildAnswer;
+
 /// Plans one sector by one of the two calls.
 fn sector_by(
     call: SectorCall,
@@ -308,6 +329,25 @@ pub fn leg(floor: &[u8], steps: impl AsRef<[u8]>, sheet: &mut [u8]) -> Result<()
 /// moves, crossings counted.
 pub fn leg_without_sight(floor: &[u8], steps: impl AsRef<[u8]>, sheet: &mut [u8]) -> Result<(), Refusal> {
     leg_by(sys::hanjolum_leg_without_sight, floor, steps.as_ref(), sheet)
+}
+
+/// The built field of a leg's step by one of the two calls.
+fn leg_field_by(call: LegFieldCall, floor: &[u8], steps: &[u8], place: usize) -> Result<Built, Refusal> {
+    // SAFETY: each pointer with its length is a live slice.
+    let answer = unsafe { call(floor.as_ptr(), floor.len(), steps.as_ptr(), steps.len(), place) };
+    unless_refused(answer.number, Built { field: answer.field, waves: answer.waves })
+}
+
+/// The built field of one step of a leg as [`leg`] plans it, over the window cells that count: which of them is a cell's door is
+/// [`IntegrationField::corner_of`]. `place` is the step's place in the list, from 0, the goal's. It is refused as the leg is,
+/// whichever step is at fault, and with [`Refusal::Place`] for a place beyond the last step.
+pub fn leg_field(floor: &[u8], steps: impl AsRef<[u8]>, place: usize) -> Result<Built, Refusal> {
+    leg_field_by(sys::hanjolum_leg_field, floor, steps.as_ref(), place)
+}
+
+/// [`leg_field`] of the leg that [`leg_without_sight`] plans.
+pub fn leg_field_without_sight(floor: &[u8], steps: impl AsRef<[u8]>, place: usize) -> Result<Built, Refusal> {
+    leg_field_by(sys::hanjolum_leg_field_without_sight, floor, steps.as_ref(), place)
 }
 
 /// Which arrows of a sector's sheet of 100 flow bytes arrive, told before a cart is driven. Of a planned leg with no cost 0, a

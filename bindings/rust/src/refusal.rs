@@ -48,20 +48,22 @@ pub enum Refusal {
     WindowCount,
     /// 20
     OtherSector,
+    /// 21
+    Place,
     /// A number that this crate does not know: the archive is of another version.
     Unknown(u8),
 }
 
 /// Every refusal with its text, that of number n in place n - 1. `hanjolum_refusal_text` of the header has the same texts.
-const TEXTS: [(Refusal, &str); 20] = [
+const TEXTS: [(Refusal, &str); 21] = [
     (Refusal::CostBytes, "the cost bytes are not 100 (a leg's floor: 6,400)"),
-    (Refusal::Sheet, "the sheet is not 100 bytes (a leg's: 6,400), or the buffer is not as long as the leg file"),
+    (Refusal::Sheet, "the sheet is not 100 bytes (a floor's: 6,400), or the buffer is not as long as the leg file"),
     (
         Refusal::StepList,
         "the step is not 8 bytes (a leg's steps: none, over 128 bytes, or no multiple of 8; several windows: no multiple of 8)",
     ),
-    (Refusal::StepBytes, "a step's sector is over 63, its mark over 1, or one of its last two bytes not 0"),
-    (Refusal::Goal, "a goal is over 99"),
+    (Refusal::StepBytes, "a sector is over 63, a step's mark over 1, or one of its last two bytes not 0"),
+    (Refusal::Goal, "a goal, or a cart's cell, is over 99"),
     (Refusal::Window, "a window cell is over 99, or a boundary over 3"),
     (Refusal::OffEdge, "a window cell is off the named edge (North row 0, East column 9, South row 9, West column 0)"),
     (Refusal::FirstAfterLast, "a window's first cell comes after its last"),
@@ -77,6 +79,7 @@ const TEXTS: [(Refusal, &str); 20] = [
     (Refusal::BoundsInput, "the step has no window, low is above high somewhere, or 255 is in only one of the two"),
     (Refusal::WindowCount, "there are fewer than 2 steps or more than 8"),
     (Refusal::OtherSector, "a step has no window, or another sector than the first"),
+    (Refusal::Place, "the place is beyond the leg's last step"),
 ];
 
 impl Refusal {

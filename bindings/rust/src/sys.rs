@@ -111,6 +111,36 @@ pub struct WindowTour {
     pub least: u32,
 }
 
+/// `HanjolumMove`.
+#[repr(C)]
+#[derive(Clone, Copy)]
+pub struct Move {
+    /// 0, or the number of the refusal.
+    pub number: u8,
+    /// What the move comes to.
+    pub outcome: u8,
+    /// The sector where the cart is then.
+    pub sector: u8,
+    /// Its cell there.
+    pub cell: u8,
+}
+
+/// `HanjolumWay`.
+#[repr(C)]
+#[derive(Clone, Copy)]
+pub struct Way {
+    /// 0, or the number of the refusal.
+    pub number: u8,
+    /// What the way comes to.
+    pub outcome: u8,
+    /// The sector where it ends.
+    pub sector: u8,
+    /// The cell there.
+    pub cell: u8,
+    /// The number of moves.
+    pub moves: u16,
+}
+
 #[allow(missing_docs)]
 unsafe extern "C" {
     pub fn hanjolum_sector(
@@ -173,6 +203,22 @@ unsafe extern "C" {
         sheet: *mut u8,
         sheet_length: usize,
     ) -> u8;
+    pub fn hanjolum_leg_field(
+        floor: *const u8,
+        floor_length: usize,
+        steps: *const u8,
+        steps_length: usize,
+        place: usize,
+    ) -> BuildAnswer;
+    pub fn hanjolum_leg_field_without_sight(
+        floor: *const u8,
+        floor_length: usize,
+        steps: *const u8,
+        steps_length: usize,
+        place: usize,
+    ) -> BuildAnswer;
+    pub fn hanjolum_move(sheet: *const u8, sheet_length: usize, sector: u8, cell: u8) -> Move;
+    pub fn hanjolum_way(sheet: *const u8, sheet_length: usize, sector: u8, cell: u8) -> Way;
     pub fn hanjolum_leg_file_write(steps: *const u8, steps_length: usize, file: *mut u8, file_length: usize) -> u8;
     pub fn hanjolum_leg_file_read(file: *const u8, file_length: usize) -> LegFile;
     pub fn hanjolum_practice_floor(seed: u32) -> PracticeFloor;

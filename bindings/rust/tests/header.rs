@@ -1,7 +1,7 @@
 //! Holds the crate to `include/hanjolum.h`: a C compiler says what the header's sizes, places, constants and texts are, and the
 //! prototypes are read off its text. Needs `cc`.
 
-use hanjolum::{FieldCell, IntegrationField, PracticeFloor, Refusal, WindowRow, sys};
+use hanjolum::{FieldCell, IntegrationField, Outcome, PracticeFloor, Refusal, WindowRow, sys};
 use std::fmt::Write;
 use std::mem::{offset_of, size_of};
 use std::path::Path;
@@ -63,6 +63,8 @@ fn layouts() -> Vec<Layout> {
         layout!("WindowRow", WindowRow, costs),
         layout!("WindowCosts", sys::WindowCosts, number, rows),
         layout!("WindowTour", sys::WindowTour, number, found, order, sum, tried, least),
+        layout!("Move", sys::Move, number, outcome, sector, cell),
+        layout!("Way", sys::Way, number, outcome, sector, cell, moves),
     ]
 }
 
@@ -136,15 +138,32 @@ fn every_number_has_the_header_s_text_and_name() {
         assert_eq!(refusal.number(), number);
         assert_eq!(refusal.text(), found[usize::from(number)], "number {number}");
         let known = !matches!(refusal, Refusal::Unknown(_));
-        assert_eq!(known, number <= 20);
-        let mut name = String::new();
-        for letter in format!("{refusal:?}").chars() {
-            name.extend((letter.is_uppercase() && !name.is_empty()).then_some('_'));
-            name.push(letter.to_ascii_uppercase());
-        }
+        assert_eq!(known, number <= 21);
+        let name = header_name(&format!("{refusal:?}"));
         assert_eq!(text.matches(&format!("HANJOLUM_REFUSED_{name} = {number}")).count(), usize::from(known), "{name}");
     }
-    assert_eq!(Refusal::Goal.to_string(), "refused with number 5: a goal is over 99");
+    assert_eq!(Refusal::Place.to_string(), "refused with number 21: the place is beyond the leg's last step");
+}
+
+/// A name of the crate as the header has it: InSight is IN_SIGHT.
+fn header_name(name: &str) -> String {
+    let mut written = String::new();
+    for letter in name.chars() {
+        written.extend((letter.is_uppercase() && !written.is_empty()).then_some('_'));
+        written.push(letter.to_ascii_uppercase());
+    }
+    written
+}
+
+#[test]
+fn every_outcome_has_the_header_s_name_and_number() {
+    let text = header();
+    for (number, outcome) in Outcome::ALL.iter().enumerate() {
+        let said = format!("HANJOLUM_OUTCOME_{} = {number}", header_name(&format!("{outcome:?}")));
+        assert_eq!(text.matches(&said).count(), 1, "{said}");
+    }
+    let all = text.matches("HANJOLUM_OUTCOME_").count() - text.matches("== HANJOLUM_OUTCOME_").count();
+    assert_eq!(all - text.matches("HANJOLUM_OUTCOME_*").count(), Outcome::ALL.len());
 }
 
 /// A C type in Rust's words, read off the words before a parameter's or a function's name.
@@ -205,6 +224,6 @@ fn every_function_is_declared_as_the_header_has_it() {
         let expected = declared(prototype);
         assert!(source.contains(&expected), "sys.rs lacks `{expected}`");
     }
-    assert_eq!(prototypes.len(), 25);
+    assert_eq!(prototypes.len(), 29);
     assert_eq!(source.matches("pub fn hanjolum_").count(), prototypes.len());
 }

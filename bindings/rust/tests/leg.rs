@@ -122,20 +122,27 @@ fn arrivals_tell_a_planned_leg_s_whole_way() {
             assert_eq!(found.of(cell.into()).is_none(), sector == 9 && (2..=9).contains(&cell), "{place:?}");
         }
     }
-    let entered = Place { sector: 1, cell: 95 }.next(&sheet).unwrap();
+    let cart = Place { sector: 1, cell: 95 };
+    let entered = cart.next(&sheet).unwrap();
     assert_eq!((entered.sector, moves_within(&sheet, entered)), (9, None));
+    // A way tells the same over the whole floor: this cart never stands still. Beside the goal it is in sight.
+    assert_eq!(way(&sheet, cart), Ok(Way { outcome: Outcome::Never, place: cart, moves: 0 }));
+    for (cell, outcome) in [(10, Outcome::Arrived), (20, Outcome::InSight), (1, Outcome::Stopped)] {
+        let place = Place { sector: 9, cell };
+        assert_eq!(way(&sheet, place), Ok(Way { outcome, place, moves: 0 }));
+    }
 }
 
-/// How many moves the arrows take from a place to where there is no arrow, and where that is.
+/// How many moves a cart takes from a place until it arrives, and where that is: move by move, which its way must tell alike.
 fn to_the_end(sheet: &[u8], from: Place) -> (usize, Place) {
-    let mut place = from;
-    for count in 0..=1599 {
-        match place.next(sheet) {
-            Some(next) => place = next,
-            None => return (count, place),
-        }
+    let (mut at, mut moves) = (move_from(sheet, from).unwrap(), 0);
+    while at.outcome == Outcome::Moved && moves < 1599 {
+        (at, moves) = (move_from(sheet, at.place).unwrap(), moves + 1);
     }
-    panic!("{from:?} is still on its way after 1,599 moves");
+    assert_eq!(at.outcome, Outcome::Arrived, "{from:?} after {moves} moves");
+    let told = way(sheet, from).unwrap();
+    assert_eq!((told.outcome, told.place, usize::from(told.moves)), (at.outcome, at.place, moves), "{from:?}");
+    (moves, at.place)
 }
 
 #[test]
@@ -239,6 +246,7 @@ fn files_are_refused_and_lists_are_counted() {
 }
 
 #[test]
+#[allow(deprecated)]
 fn places_are_floor_columns_and_rows() {
     for column in 0..80 {
         for row in 0..80 {
@@ -246,8 +254,8 @@ fn places_are_floor_columns_and_rows() {
             assert_eq!(place.column_and_row(), (column, row));
             for direction in Direction::ALL {
                 let (east, south) = direction.differences();
-                let moved = column.checked_add_signed(east).zip(row.checked_add_signed(south));
-                assert_eq!(place.moved(direction), moved.and_then(|(column, row)| Place::at(column, row)));
+                let beside = column.checked_add_signed(east).zip(row.checked_add_signed(south));
+                assert_eq!(place.moved(direction), beside.and_then(|(column, row)| Place::at(column, row)));
             }
         }
     }
