@@ -1,15 +1,15 @@
-//! A tablet's leg: plan it over a floor, carry it in a file, and drive a cart by its arrows into the goal's sector.
+//! A tablet's leg: plan it with sight over a floor, carry it in a file, ask where a cart's way ends, and drive it there.
 //!
 //!     rt staticlib hanjolum && cd bindings/rust && cargo run --example leg
 
-use hanjolum::{Boundary, CELLS, FLOOR, Place, Refusal, Step, Steps, WALL};
+use hanjolum::{Boundary, CELLS, FLOOR, Outcome, Place, Refusal, Step, Steps, WALL};
 
 /// The goal is cell 44 of sector 9. Sector 10, east of it, is left by its west window; sector 18, south of 10, by its north.
 const LEG: [Step; 3] =
     [Step::goal(9, 44), Step::window(10, Boundary::West, 30, 60), Step::window(18, Boundary::North, 3, 6)];
 
-/// The goal's sector.
-const GOAL_SECTOR: u8 = 9;
+/// The cart's place, in the sector of the leg's last step, and that step's place in the list.
+const CART: (Place, usize) = (Place { sector: 18, cell: 95 }, 2);
 
 /// A floor of 1 with a wall across sector 18.
 fn floor() -> [u8; FLOOR] {
@@ -30,38 +30,31 @@ fn plan(file: &[u8]) -> Result<[u8; FLOOR], Refusal> {
     Ok(sheet)
 }
 
-/// Follows the arrows into the goal's sector. With no cost 0 a planned leg leads there in at most 1,500 moves.
-fn drive(sheet: &[u8], start: Place) -> Vec<Place> {
-    let mut way = vec![start];
-    while way.len() <= 1500 && way[way.len() - 1].sector != GOAL_SECTOR {
-        match way[way.len() - 1].next(sheet) {
-            Some(place) => way.push(place),
-            None => break,
-        }
+/// Drives a cart until it stands still.
+fn drive(sheet: &[u8], start: Place) -> Result<Outcome, Refusal> {
+    let mut at = hanjolum::move_from(sheet, start)?;
+    while at.outcome == Outcome::Moved {
+        println!("sector {:2}, cell {:2}", at.place.sector, at.place.cell);
+        at = hanjolum::move_from(sheet, at.place)?;
     }
-    way
-}
-
-/// What is left of the way from a cell of the goal's sector, whose arrows need not lead to the goal.
-fn say_rest(sheet: &[u8], from: Place) -> Result<(), Refusal> {
-    let arrivals = hanjolum::arrivals(&sheet[usize::from(GOAL_SECTOR) * CELLS..][..CELLS])?;
-    match arrivals.of(from.cell.into()) {
-        Some(moves) => println!("{moves} more, and the goal is in sight or reached"),
-        None => println!("from there the arrows never arrive: plan without sight, or choose another goal cell"),
-    }
-    Ok(())
+    Ok(at.outcome)
 }
 
 fn main() -> Result<(), Refusal> {
-    let file = tablet()?;
+    let (file, (cart, place)) = (tablet()?, CART);
     println!("the leg's file is {} bytes", file.len());
     let sheet = plan(&file)?;
-    let way = drive(&sheet, Place { sector: 18, cell: 95 });
-    for place in &way {
-        println!("sector {:2}, cell {:2}", place.sector, place.cell);
+    // Which cell of its window is the cart's door, among those that count in this leg.
+    let field = hanjolum::leg_field(&floor(), Steps::new(&LEG)?, place)?.field;
+    if let Some(door) = field.corner_of(cart.cell.into()) {
+        println!("the door of cell {} in sector {} is its cell {door}", cart.cell, cart.sector);
     }
-    println!("{} moves into the goal's sector", way.len() - 1);
-    say_rest(&sheet, way[way.len() - 1])?;
+    // Planned with sight, arrows need not lead to the goal: the way tells it beforehand.
+    let way = hanjolum::way(&sheet, cart)?;
+    match way.outcome {
+        Outcome::Never => println!("the cart would drive in a circle: plan without sight, or choose another goal cell"),
+        _ => println!("after {} moves: {:?}", way.moves, drive(&sheet, cart)?),
+    }
     // What is wrong with a leg is said in words.
     if let Err(refusal) = hanjolum::leg(&floor(), Step::goal(9, 100), &mut [0; FLOOR]) {
         println!("a goal at 100 is {refusal}");

@@ -1,16 +1,13 @@
-//! A cart that follows arrows alone: one leg planned with sight and without, and driven by both sheets.
+//! A cart that follows arrows alone: one leg planned with sight and without, and driven by the sheet that leads to the goal.
 //!
 //!     rt staticlib hanjolum && cd bindings/rust && cargo run --example without_sight
 
-use hanjolum::{Boundary, CELLS, FLOOR, Place, Refusal, Step, Steps, WALL};
+use hanjolum::{Boundary, CELLS, FLOOR, Outcome, Place, Refusal, Step, Steps, WALL};
 
 /// The goal is cell 10 of sector 9. Sector 1, north of it, is left by its south window.
 const LEG: [Step; 2] = [Step::goal(9, 10), Step::window(1, Boundary::South, 92, 99)];
 
-const GOAL: Place = Place { sector: 9, cell: 10 };
-
-/// No planned leg without sight takes more moves.
-const MOST: usize = 1599;
+const CART: Place = Place { sector: 1, cell: 55 };
 
 /// A floor of 1 with one wall, beside the goal: arrows that are planned with sight run in a circle behind it.
 fn floor() -> [u8; FLOOR] {
@@ -27,42 +24,52 @@ fn plan(sight: bool) -> Result<[u8; FLOOR], Refusal> {
     Ok(sheet)
 }
 
-/// The places of a cart that follows the arrows, until there is none or it has made as many moves as no leg takes.
-fn drive(sheet: &[u8], start: Place) -> Vec<Place> {
-    let mut way = vec![start];
-    while let Some(place) = way[way.len() - 1].next(sheet).filter(|_| way.len() <= MOST) {
-        way.push(place);
+/// The places that a cart drives to until it stands still, and why it does. Ask its way first: it may never stand still.
+fn drive(sheet: &[u8], start: Place) -> Result<(Vec<Place>, Outcome), Refusal> {
+    let mut driven = Vec::new();
+    let mut at = hanjolum::move_from(sheet, start)?;
+    while at.outcome == Outcome::Moved {
+        driven.push(at.place);
+        at = hanjolum::move_from(sheet, at.place)?;
     }
-    way
+    Ok((driven, at.outcome))
 }
 
 fn main() -> Result<(), Refusal> {
     for (said, sight) in [("with sight", true), ("without sight", false)] {
-        let way = drive(&plan(sight)?, Place { sector: 1, cell: 55 });
-        let (moves, end) = (way.len() - 1, way[way.len() - 1]);
-        print!("{said}: after {moves} moves the cart is in sector {}, cell {}", end.sector, end.cell);
-        println!("{}", if end == GOAL { ", at the goal" } else { ", and drives to and fro" });
+        let sheet = plan(sight)?;
+        if hanjolum::way(&sheet, CART)?.outcome == Outcome::Never {
+            println!("{said}: the cart would drive in a circle, and is not sent off");
+            continue;
+        }
+        let (driven, outcome) = drive(&sheet, CART)?;
+        let end = driven.last().copied().unwrap_or(CART);
+        println!(
+            "{said}: after {} moves the cart is in sector {}, cell {}: {outcome:?}",
+            driven.len(),
+            end.sector,
+            end.cell
+        );
     }
     Ok(())
 }
 
 #[test]
 fn without_sight_every_cell_arrives() {
-    let sheet = plan(false).unwrap();
+    let (sheet, goal) = (plan(false).unwrap(), Place { sector: 9, cell: 10 });
     for sector in [9, 1] {
         for cell in (0..100).filter(|cell| (sector, *cell) != (9, 1)) {
-            let way = drive(&sheet, Place { sector, cell });
-            assert_eq!(way.last(), Some(&GOAL), "sector {sector}, cell {cell}");
+            let way = hanjolum::way(&sheet, Place { sector, cell }).unwrap();
+            assert_eq!((way.outcome, way.place), (Outcome::Arrived, goal), "sector {sector}, cell {cell}");
         }
     }
     // Every cell of the window counts: straight south to 95, south-west across it into cell 4, on to 13, west along the row.
-    let cells: Vec<u8> = drive(&sheet, Place { sector: 1, cell: 55 }).iter().map(|place| place.cell).collect();
-    assert_eq!(cells, [55, 65, 75, 85, 95, 4, 13, 12, 11, 10]);
+    let (driven, outcome) = drive(&sheet, CART).unwrap();
+    let cells: Vec<u8> = driven.iter().map(|place| place.cell).collect();
+    assert_eq!((cells, outcome), (vec![65, 75, 85, 95, 4, 13, 12, 11, 10], Outcome::Arrived));
 }
 
 #[test]
 fn with_sight_the_same_cart_never_arrives() {
-    let way = drive(&plan(true).unwrap(), Place { sector: 1, cell: 55 });
-    assert_eq!(way.len(), MOST + 1);
-    assert_eq!(way[way.len() - 1], way[way.len() - 3]);
+    assert_eq!(hanjolum::way(&plan(true).unwrap(), CART).unwrap().outcome, Outcome::Never);
 }
