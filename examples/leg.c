@@ -1,8 +1,9 @@
 /*
  * Plans a leg over three sectors with sight, as the tablet's Rust does, and prints the arrows of each, from the goal's sector
  * back to the cart's. Then it looks once at the goal's sector: from every reached cell of the other two the arrows lead there,
- * and the numbers of moves of its cells tell the rest of the way. For a cart that follows arrows alone take the call without
- * sight, as examples/cart.c does.
+ * and the numbers of moves of its cells tell the rest of the way. Last it tells each cell of the cart's sector its door, so that
+ * carts can queue by door. For a cart that follows arrows alone take the call without sight, and drive by hanjolum_move, as
+ * examples/cart.c does.
  *
  *     rt staticlib hanjolum && cc -Iinclude examples/leg.c target/staticlib/libhanjolum.a -o target/leg && target/leg
  */
@@ -90,6 +91,22 @@ static void print_arrivals(const uint8_t *sheet, int sector)
     }
 }
 
+/* The door of each cell of a step's sector: the cell of its window that it belongs to, among those that count in this leg; "-" where
+   it has none, on a wall. A leg that was planned is not refused here. */
+static void print_doors(const uint8_t *floor, size_t place)
+{
+    HanjolumBuildAnswer answer = hanjolum_leg_field(floor, HANJOLUM_FLOOR, &STEPS[0][0], sizeof STEPS, place);
+    printf("\ndoors, sector %d\n", STEPS[place][HANJOLUM_STEP_SECTOR]);
+    for (int cell = 0; cell < HANJOLUM_CELLS; cell++) {
+        uint8_t position = answer.field.positions[cell];
+        if (position < answer.field.count)
+            printf("%2d", (int)answer.field.los_corners[position]);
+        else
+            printf(" -");
+        printf(cell % 10 == 9 ? "\n" : " ");
+    }
+}
+
 int main(void)
 {
     static uint8_t floor[HANJOLUM_FLOOR];
@@ -108,5 +125,6 @@ int main(void)
     for (int i = 0; i < SECTORS; i++)
         print_sector(sheet, STEPS[i][HANJOLUM_STEP_SECTOR]);
     print_arrivals(sheet, STEPS[0][HANJOLUM_STEP_SECTOR]);
+    print_doors(floor, SECTORS - 1);
     return 0;
 }
