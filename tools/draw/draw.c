@@ -3,8 +3,9 @@
  * bytes side by side; or a whole floor with a leg (floor.c, plan.c, text.c). A floor and a practice floor can also be
  * written as a picture (picture.c). Each is planned with sight, or without where that is asked for.
  * The drawing is turned into costs and a step here; every practice floor comes from hanjolum_practice_floor, every arrow
- * from hanjolum_sector or hanjolum_sector_without_sight, and which arrows never arrive from hanjolum_arrivals. A window wants
- * the field of the sector across it, which is not drawn: it gets one of zeros, so that each of its cells points straight across.
+ * from hanjolum_sector or hanjolum_sector_without_sight, and which arrows of a sector never arrive from hanjolum_arrivals. A
+ * window wants the field of the sector across it, which is not drawn: it gets one of zeros, so that each of its cells points
+ * straight across.
  * What is wrong with the words, the drawing or the output is one line on standard error and exit status 1.
  */
 #include <errno.h>
@@ -190,12 +191,19 @@ static void show_row(const struct drawing *drawing, const uint8_t *sheet, const 
     printf("\n");
 }
 
-static void show(const struct drawing *drawing, const uint8_t *sheet, int practice, int ascii, int sight)
+/* Asks the library which reached cells of a sector have arrows that never arrive. A sector's sheet is no floor's, so that it is the call
+   for arrivals that tells it here, and a window is arrived at. */
+static void find_lost(const uint8_t *sheet, char *lost)
 {
     HanjolumArrivals arrivals = hanjolum_arrivals(sheet, HANJOLUM_CELLS);
-    char lost[HANJOLUM_CELLS];
     for (int cell = 0; cell < HANJOLUM_CELLS; cell++)
-        lost[cell] = (char)is_lost(sheet, arrivals.moves, cell);
+        lost[cell] = (char)(arrivals.moves[cell] == HANJOLUM_NEVER && !hanjolum_is_wall(sheet[cell]));
+}
+
+static void show(const struct drawing *drawing, const uint8_t *sheet, int practice, int ascii, int sight)
+{
+    char lost[HANJOLUM_CELLS];
+    find_lost(sheet, lost);
     for (int row = 0; row < SIDE; row++)
         show_row(drawing, sheet, lost, row, ascii);
     printf("\n%s wall   x not reached   G goal%s\n", ascii ? "##" : "█", sight ? "   * goal in sight, no arrow needed" : "");

@@ -40,8 +40,8 @@ struct plan {
     int count;                       /* steps, from the goal back */
     int step_of[HANJOLUM_SECTORS];   /* the step that names a sector, from 0; -1 for none */
     uint8_t sheet[HANJOLUM_FLOOR];
-    uint8_t arrivals[HANJOLUM_FLOOR]; /* in each named sector, the library's moves to its goal, its sight or its window */
-    char lost[HANJOLUM_FLOOR];       /* whether a reached cell's arrows never arrive, followed from sector to sector */
+    HanjolumWay ways[HANJOLUM_FLOOR]; /* where the moves from each place end */
+    char lost[HANJOLUM_FLOOR];       /* whether a reached cell's way ends neither at the goal nor in its sight */
     int way[HANJOLUM_FLOOR + 1];     /* the cart's places, `moves` + 1 of them; -1 moves where there is no cart */
     int moves;
     int crossing;                    /* the moves after which it is in the goal's sector; -1 if it never is */
@@ -70,7 +70,7 @@ int is_drawn(const struct floor *floor, int sector);
 struct floor read_floor(const char *name);
 struct floor practice_floor(const char *seed);
 
-/* Plans a floor's leg, with sight or without, and follows its arrows from every cell, and its cart. Ends the program where it is
+/* Plans a floor's leg, with sight or without, asks for the way from every cell, and drives its cart. Ends the program where it is
    refused. */
 void plan_floor(struct plan *plan, const struct floor *floor, int sight);
 enum look look_of(const struct plan *plan, int place);
@@ -78,9 +78,6 @@ enum look look_of(const struct plan *plan, int place);
 /* Whether a place is a cell of its sector's window, and whether it counts. */
 int is_window(const struct plan *plan, int place);
 int counts(const struct plan *plan, int place);
-
-/* Whether a reached cell of a sector's sheet has arrows that never arrive, by what the library says of the sheet. */
-int is_lost(const uint8_t *sheet, const uint8_t *arrivals, int cell);
 
 /* What is said of a sector or a floor that was planned without sight. */
 extern const char SIGHTLESS[];

@@ -1,7 +1,7 @@
 /*
  * Writes a planned floor as one picture that needs nothing else: SVG, which a browser opens. Above each sector stands its number
- * and its place in the leg, round it its columns and rows. A cell tells its cost, its flow byte and its arrivals when it is
- * pointed at.
+ * and its place in the leg, round it its columns and rows. A cell tells its cost, its flow byte and its moves to the goal, or
+ * into its sight, when it is pointed at.
  */
 #include "draw.h"
 
@@ -82,13 +82,16 @@ static int has_number(const struct plan *plan, int place)
 /* What a cell tells when it is pointed at. */
 static void write_told(const struct plan *plan, FILE *out, int place)
 {
-    int step = plan->step_of[place / HANJOLUM_CELLS];
+    const HanjolumWay *way = &plan->ways[place];
+    int named = plan->step_of[place / HANJOLUM_CELLS] >= 0;
     fprintf(out, "<title>sector %d, column %d, row %d: cost %d", place / HANJOLUM_CELLS, place % SIDE, place % HANJOLUM_CELLS / SIDE,
             plan->floor->costs[place]);
-    if (step >= 0)
+    if (named)
         fprintf(out, ", byte 0x%02x", plan->sheet[place]);
-    if (step >= 0 && plan->arrivals[place] != HANJOLUM_NEVER)
-        fprintf(out, ", %d moves to the %s", plan->arrivals[place], step > 0 ? "window" : plan->sight ? "goal or into its sight" : "goal");
+    if (named && way->outcome == HANJOLUM_OUTCOME_ARRIVED)
+        fprintf(out, ", %d moves to the goal", way->moves);
+    if (named && way->outcome == HANJOLUM_OUTCOME_IN_SIGHT)
+        fprintf(out, ", %d moves into sight of the goal", way->moves);
     fprintf(out, "%s</title>", plan->lost[place] ? ", never arrives" : "");
 }
 

@@ -1,7 +1,6 @@
 /*
- * Plans the leg of a drawn floor and follows its arrows. Every byte of the sheet comes from hanjolum_leg, or without sight from
- * hanjolum_leg_without_sight, and which arrows of a sector never arrive from hanjolum_arrivals; what is done here is to go from
- * cell to cell by the arrows that the sheet has, which is tested (tools/draw/check) and not proved.
+ * Plans the leg of a drawn floor and drives its cart. Every byte of the sheet comes from hanjolum_leg, or without sight from
+ * hanjolum_leg_without_sight, where the way from each cell ends from hanjolum_way, and each of the cart's moves from hanjolum_move.
  */
 #include <string.h>
 
@@ -86,56 +85,26 @@ enum look look_of(const struct plan *plan, int place)
     return hanjolum_is_goal(byte) ? GOAL : IN_SIGHT;
 }
 
-/* The place that the arrow of a place points at. */
+/* Asks the library where the way from each place ends. Lost is a reached cell whose way ends neither at the goal nor in its sight. */
+static void find_ways(struct plan *plan)
+{
+    for (int place = 0; place < HANJOLUM_FLOOR; place++) {
+        HanjolumWay way = hanjolum_way(plan->sheet, HANJOLUM_FLOOR, (uint8_t)(place / HANJOLUM_CELLS), (uint8_t)(place % HANJOLUM_CELLS));
+        int reached = step_at(plan, place) != NULL && !hanjolum_is_wall(plan->sheet[place]);
+        plan->ways[place] = way;
+        plan->lost[place] = (char)(reached && way.outcome != HANJOLUM_OUTCOME_ARRIVED && way.outcome != HANJOLUM_OUTCOME_IN_SIGHT);
+    }
+}
+
+/* Where the cart's move leads from a place; -1 where it stands still. */
 static int next_place(const struct plan *plan, int place)
 {
-    static const int east[] = {0, 1, 0, -1, 1, 1, -1, -1};
-    static const int south[] = {-1, 0, 1, 0, -1, 1, 1, -1};
-    uint8_t direction = hanjolum_get_compass_dir_from_bits(plan->sheet[place]);
-    return place_at(column_of(place) + east[direction], row_of(place) + south[direction]);
+    HanjolumMove move = hanjolum_move(plan->sheet, HANJOLUM_FLOOR, (uint8_t)(place / HANJOLUM_CELLS), (uint8_t)(place % HANJOLUM_CELLS));
+    return move.outcome == HANJOLUM_OUTCOME_MOVED ? move.sector * HANJOLUM_CELLS + move.cell : -1;
 }
 
-int is_lost(const uint8_t *sheet, const uint8_t *arrivals, int cell)
-{
-    return arrivals[cell] == HANJOLUM_NEVER && !hanjolum_is_wall(sheet[cell]);
-}
-
-/* The place that so many arrows lead to. */
-static int moved(const struct plan *plan, int place, int moves)
-{
-    for (; moves > 0; moves--)
-        place = next_place(plan, place);
-    return place;
-}
-
-/* Whether a place's arrows never arrive: the library tells it of each sector, and a window's cell leads into the next. */
-static int never_arrives(const struct plan *plan, int place)
-{
-    for (int step = plan->step_of[place / HANJOLUM_CELLS]; step >= 0; step--) {
-        if (hanjolum_is_wall(plan->sheet[place]))
-            return 0;
-        if (is_lost(plan->sheet, plan->arrivals, place))
-            return 1;
-        if (step > 0)
-            place = moved(plan, place, plan->arrivals[place] + 1);
-    }
-    return 0;
-}
-
-/* Asks the library which arrows of each named sector arrive. */
-static void find_lost(struct plan *plan)
-{
-    for (int i = 0; i < plan->count; i++) {
-        size_t at = (size_t)plan->steps[i * HANJOLUM_STEP + HANJOLUM_STEP_SECTOR] * HANJOLUM_CELLS;
-        HanjolumArrivals answer = hanjolum_arrivals(plan->sheet + at, HANJOLUM_CELLS);
-        memcpy(plan->arrivals + at, answer.moves, sizeof answer.moves);
-    }
-    for (int place = 0; place < HANJOLUM_FLOOR; place++)
-        plan->lost[place] = (char)never_arrives(plan, place);
-}
-
-/* Follows the cart's arrows until there is none, or a cell comes a second time. */
-static void follow_cart(struct plan *plan)
+/* Drives the cart until it stands still, or comes a second time to a cell. */
+static void drive_cart(struct plan *plan)
 {
     char met[HANJOLUM_FLOOR] = {0};
     int place = plan->floor->cart;
@@ -147,7 +116,7 @@ static void follow_cart(struct plan *plan)
     if (look_of(plan, place) == UNPLANNED)
         fail("%s: the cart stands in sector %d, which the leg does not name", plan->floor->name, place / HANJOLUM_CELLS);
     plan->way[plan->moves = 0] = place;
-    while (look_of(plan, place) == ARROW && !met[place]) {
+    while (!met[place] && next_place(plan, place) >= 0) {
         met[place] = 1;
         place = next_place(plan, place);
         plan->way[++plan->moves] = place;
@@ -168,8 +137,8 @@ void plan_floor(struct plan *plan, const struct floor *floor, int sight)
     memset(plan->step_of, -1, sizeof plan->step_of);
     for (int i = 0; i < plan->count; i++)
         plan->step_of[plan->steps[i * HANJOLUM_STEP + HANJOLUM_STEP_SECTOR]] = i;
-    find_lost(plan);
-    follow_cart(plan);
+    find_ways(plan);
+    drive_cart(plan);
 }
 
 void say_way(const struct plan *plan, char *line, size_t size)
@@ -190,5 +159,5 @@ void say_way(const struct plan *plan, char *line, size_t size)
         snprintf(line, size, "%d moves into the goal's sector, and there arrows that lead in a circle", plan->crossing);
     else
         snprintf(line, size, "%d moves into the goal's sector, %d more %s", plan->crossing, inside,
-                 plan->sight ? "until the goal is in sight or reached" : "to the goal");
+                 plan->ways[cart].outcome == HANJOLUM_OUTCOME_IN_SIGHT ? "until the goal is in sight" : "to the goal");
 }
