@@ -504,7 +504,8 @@ uint8_t hanjolum_leg_without_sight(
  * and the steps of the leg, and the step's place in the list: 0 is the goal's, and one less than the number of steps the last.
  * It answers what a sector call answers, the built field with each cell's position and the wave count. A step with a window has
  * its field over the window cells that count: los_corners lists those, and los_corners[positions[x]] is the door of cell x, where
- * its position is not 255.
+ * its position is not 255. A door goes by walks from cell to neighbour, and arrows may be diagonal: a cart that drives by them may
+ * leave by another window cell.
  * The whole leg is planned, and refused exactly as hanjolum_leg refuses it, whichever step is at fault, also one behind the
  * place: but for 2, since there is no sheet, and with 21 besides for a place beyond the last step.
  * Writes nothing. Numbers 1, 3, 21, 4 to 8, 16, 9, 10, 15.
