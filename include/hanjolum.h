@@ -138,9 +138,9 @@ extern "C" {
 #endif
 
 #define HANJOLUM_VERSION_MAJOR 1
-#define HANJOLUM_VERSION_MINOR 1
+#define HANJOLUM_VERSION_MINOR 2
 #define HANJOLUM_VERSION_PATCH 0
-#define HANJOLUM_VERSION "1.1.0"
+#define HANJOLUM_VERSION "1.2.0"
 
 enum {
     HANJOLUM_CELLS = 100,      /* cells of a sector: its cost bytes, and the bytes of its sheet */
