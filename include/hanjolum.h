@@ -27,7 +27,7 @@
  * A cost field is 100 cost bytes by index; 255 is a wall, and no goal and no window cell may stand on one (16). A sheet of
  * a sector is 100 flow bytes by index.
  * A floor is 64 sectors of 100 cost bytes one after the other, sector s at column s % 8 and row s / 8 of the floor;
- * a floor's sheet is laid out alike.
+ * a floor's sheet is laid out alike. A cart's place on it is a sector, 0 to 63, and a cell of that sector, 0 to 99.
  *
  * Steps.  A step is 8 bytes (HANJOLUM_STEP_SECTOR and so on name them):
  *     0      sector, 0 to 63
@@ -504,8 +504,8 @@ uint8_t hanjolum_leg_without_sight(
  * and the steps of the leg, and the step's place in the list: 0 is the goal's, and one less than the number of steps the last.
  * It answers what a sector call answers, the built field with each cell's position and the wave count. A step with a window has
  * its field over the window cells that count: los_corners lists those, and los_corners[positions[x]] is the door of cell x, where
- * its position is not 255. A door goes by walks from cell to neighbour, and arrows may be diagonal: a cart that drives by them may
- * leave by another window cell.
+ * its position is not 255. A door goes by walks from cell to neighbour, and arrows may be diagonal: a cart that drives by them
+ * may leave by another window cell.
  * The whole leg is planned, and refused exactly as hanjolum_leg refuses it, whichever step is at fault, also one behind the
  * place: but for 2, since there is no sheet, and with 21 besides for a place beyond the last step.
  * Writes nothing. Numbers 1, 3, 21, 4 to 8, 16, 9, 10, 15.
@@ -531,10 +531,11 @@ HanjolumBuildAnswer hanjolum_leg_field_without_sight(
  * place. Otherwise the cart stands still, and is answered with its own place: ARRIVED if the byte reads as goal, also where it
  * has a direction that leads off the floor; else IN_SIGHT if it reads so, and the cart drives straight for the goal; else
  * STOPPED, as on a wall, on a cell that nothing reaches, and at the floor's edge.
- * On the sheet of a planned leg, from a reached cell and with no cost of 0 in the sectors on the way, moves one after the other
- * come into the goal's sector, at most 1,500 of them; and where the leg was planned without sight to the goal, at most 1,599,
- * and there the call answers ARRIVED. A leg leaves the bytes of sectors that it does not name, and a cart in one of them goes by
- * what they hold: of zeros it is STOPPED.
+ * On the sheet of a planned leg, from a reached cell, with no cost of 0 in the cart's sector and in those on its way, moves one
+ * after the other come into the goal's sector, at most 1,500 of them, whatever the costs are there. Where the leg was planned
+ * without sight, and the goal's sector has no cost of 0 either, they come to the goal, at most 1,599 of them, and there the call
+ * answers ARRIVED. A leg leaves the bytes of sectors that it does not name as they were, and a cart that is set down there goes
+ * by those: on zeros it is STOPPED.
  * Writes nothing. Numbers 2, 4, 5.
  */
 HanjolumMove hanjolum_move(const uint8_t *sheet, size_t sheet_length, uint8_t sector, uint8_t cell);
@@ -544,8 +545,8 @@ HanjolumMove hanjolum_move(const uint8_t *sheet, size_t sheet_length, uint8_t se
  * cart stands still. The answer is the outcome there, the place, and the number of moves, 0 where the cart does not move at all.
  * NEVER says that it stands still after no number of moves, however large: it comes again to a place where it was. The place is
  * then its own, and moves is 0. The places on a way that ends all differ, so that it has at most 6,399 moves.
- * On the sheet of a leg planned without sight, from a reached cell and with no cost of 0 in the sectors on the way, the outcome
- * is ARRIVED, and the place the goal.
+ * On the sheet of a leg planned without sight, from a reached cell, with no cost of 0 in the cart's sector and in those on its
+ * way, the goal's too, the outcome is ARRIVED, and the place the goal.
  * Writes nothing. Numbers 2, 4, 5.
  */
 HanjolumWay hanjolum_way(const uint8_t *sheet, size_t sheet_length, uint8_t sector, uint8_t cell);
