@@ -503,9 +503,9 @@ uint8_t hanjolum_leg_without_sight(
  * The built field of one step of a leg, as hanjolum_leg plans it, for who asks which door is a cell's own. It takes the floor
  * and the steps of the leg, and the step's place in the list: 0 is the goal's, and one less than the number of steps the last.
  * It answers what a sector call answers, the built field with each cell's position and the wave count. A step with a window has
- * its field over the window cells that count: los_corners lists those, and los_corners[positions[x]] is the door of cell x, where
- * its position is not 255. A door goes by walks from cell to neighbour, and arrows may be diagonal: a cart that drives by them
- * may leave by another window cell.
+ * its field over the window cells that count: los_corners lists those, and los_corners[positions[x]] is the door of cell x,
+ * where its position is not 255. A door goes by walks from cell to neighbour, and arrows may be diagonal: a cart that drives
+ * by them may leave by another window cell.
  * The whole leg is planned, and refused exactly as hanjolum_leg refuses it, whichever step is at fault, also one behind the
  * place: but for 2, since there is no sheet, and with 21 besides for a place beyond the last step.
  * Writes nothing. Numbers 1, 3, 21, 4 to 8, 16, 9, 10, 15.
@@ -530,10 +530,10 @@ HanjolumBuildAnswer hanjolum_leg_field_without_sight(
  * MOVED is answered exactly where the byte's direction leads to a place of the floor, whatever the byte's flags, and with that
  * place. Otherwise the cart stands still, and is answered with its own place: ARRIVED if the byte reads as goal, also where it
  * has a direction that leads off the floor; else IN_SIGHT if it reads so, and the cart drives straight for the goal; else
- * STOPPED, as on a wall, on a cell that nothing reaches, and at the floor's edge.
+ * STOPPED, as on a wall, on a cell that nothing reaches, and where an arrow leads off the floor.
  * On the sheet of a planned leg, from a reached cell, with no cost of 0 in the cart's sector and in those on its way, moves one
- * after the other come into the goal's sector, at most 1,500 of them, whatever the costs are there. Where the leg was planned
- * without sight, and the goal's sector has no cost of 0 either, they come to the goal, at most 1,599 of them, and there the call
+ * after the other lead on. Planned with sight, at most 1,500 of them come into the goal's sector, whatever the costs are there.
+ * Planned without sight, and with no cost of 0 in the goal's sector either, at most 1,599 come to the goal, and there the call
  * answers ARRIVED. A leg leaves the bytes of sectors that it does not name as they were, and a cart that is set down there goes
  * by those: on zeros it is STOPPED.
  * Writes nothing. Numbers 2, 4, 5.
