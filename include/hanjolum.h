@@ -107,8 +107,13 @@
  *     hanjolum_bounds                                     65536      6769
  *     hanjolum_window_costs, eight windows                65408      9992
  *     hanjolum_window_tour, eight windows, all orders     65232    568389
- *     hanjolum_leg, sixteen steps                         64576     45530
- *     hanjolum_leg_without_sight, sixteen steps           64576     42903
+ *     hanjolum_leg, sixteen steps                         69216     45530
+ *     hanjolum_leg_without_sight, sixteen steps           69216     42903
+ *     hanjolum_leg_field, the last of sixteen steps       72368     43584
+ *     hanjolum_leg_field_without_sight, the same          72368     41312
+ *     hanjolum_move                                           8        11
+ *     hanjolum_way, over sixteen sectors                     56      2463
+ *     hanjolum_way, the longest                              56     66839
  *     hanjolum_leg_file_write, sixteen steps                  8         5
  *     hanjolum_leg_file_read, sixteen steps                   8         4
  *     hanjolum_practice_floor                               752       199
