@@ -25,6 +25,10 @@ pub struct Case {
     pub seed: u32,
     /// The orders of windows that are tried at most.
     pub limit: u16,
+    /// A cart's sector and cell.
+    pub cart: [u8; 2],
+    /// The place of a step in a leg's list.
+    pub place: usize,
     pub costs: Vec<u8>,
     /// The high one of two floors.
     pub high: Vec<u8>,
@@ -50,6 +54,8 @@ pub struct Outcome {
     pub windows: Option<WindowCosts>,
     pub tour: Option<WindowTour>,
     pub arrivals: Option<Arrivals>,
+    /// A cart's move or way; a move has 0 moves.
+    pub cart: Option<CartWay>,
     pub sheet: Vec<u8>,
     /// What is lent to be read is unchanged, and no guard beside lent memory is.
     pub memory_kept: bool,
@@ -63,6 +69,8 @@ impl Case {
             byte: 0,
             seed: 0,
             limit: 0,
+            cart: [0; 2],
+            place: 0,
             costs: Vec::new(),
             high: Vec::new(),
             steps: Vec::new(),
@@ -81,11 +89,12 @@ impl Case {
         }
     }
 
-    /// The same input, of a sector call or a leg, asked without sight.
+    /// The same input, of a sector call, a leg or a leg's field, asked without sight.
     pub fn without_sight(self) -> Self {
         let ask = match self.ask {
             Ask::One(Call::Sector) => Ask::One(Call::SectorWithoutSight),
             Ask::One(Call::Leg) => Ask::One(Call::LegWithoutSight),
+            Ask::One(Call::LegField) => Ask::One(Call::LegFieldWithoutSight),
             other => other,
         };
         Case { ask, ..self }
@@ -96,6 +105,7 @@ impl Case {
         let ask = match self.ask {
             Ask::One(Call::SectorWithoutSight) => Ask::One(Call::Sector),
             Ask::One(Call::LegWithoutSight) => Ask::One(Call::Leg),
+            Ask::One(Call::LegFieldWithoutSight) => Ask::One(Call::LegField),
             other => other,
         };
         Case { ask, ..self }
@@ -179,6 +189,15 @@ impl Case {
                 let arrivals = side.arrivals(sheet);
                 Outcome { arrivals: Some(arrivals), ..Outcome::of_number(arrivals.number) }
             }
+            Ask::One(Call::Move) => {
+                let CartMove { number, outcome, sector, cell } = side.next_move(sheet, self.cart[0], self.cart[1]);
+                Outcome::of_cart(CartWay { number, outcome, sector, cell, moves: 0 })
+            }
+            Ask::One(Call::Way) => Outcome::of_cart(side.way(sheet, self.cart[0], self.cart[1])),
+            Ask::One(Call::LegField) => Outcome::of_build(side.leg_field(costs, steps, self.place)),
+            Ask::One(Call::LegFieldWithoutSight) => {
+                Outcome::of_build(side.leg_field_without_sight(costs, steps, self.place))
+            }
             Ask::FlowBoth => {
                 let number = side.flow_new(steps, self.field, previous, sheet);
                 let second = if number == 0 { side.flow_build(self.field, sheet) } else { 0 };
@@ -201,6 +220,12 @@ impl Case {
         }
         if self.ask == Ask::One(Call::WindowTour) {
             let _ = writeln!(text, "let limit = {};", self.limit);
+        }
+        if matches!(self.ask, Ask::One(Call::Move | Call::Way)) {
+            let _ = writeln!(text, "let [sector, cell] = {:?};", self.cart);
+        }
+        if matches!(self.ask, Ask::One(Call::LegField | Call::LegFieldWithoutSight)) {
+            let _ = writeln!(text, "let place = {};", self.place);
         }
         paste(&mut text, "costs", &self.costs, |x| format!("{x}"));
         paste(&mut text, "high", &self.high, |x| format!("{x}"));
@@ -245,6 +270,7 @@ impl Outcome {
             windows: None,
             tour: None,
             arrivals: None,
+            cart: None,
             sheet: Vec::new(),
             memory_kept: true,
         }
@@ -256,6 +282,10 @@ impl Outcome {
 
     fn of_build(answer: BuildAnswer) -> Self {
         Outcome { field: answer.field, waves: answer.waves, ..Outcome::of_number(answer.number) }
+    }
+
+    fn of_cart(way: CartWay) -> Self {
+        Outcome { cart: Some(way), ..Outcome::of_number(way.number) }
     }
 
     /// Where another outcome differs from this one, which is the right one.
@@ -290,6 +320,10 @@ impl Outcome {
         differ(&mut found, "sum, tried and least figure", &figures(ours), &figures(theirs));
         let [ours, theirs] = [self, other].map(|outcome| outcome.arrivals.unwrap_or(refused::arrivals(0)));
         differ(&mut found, "moves", &ours.moves, &theirs.moves);
+        let [ours, theirs] = [self, other].map(|outcome| outcome.cart.unwrap_or_default());
+        differ(&mut found, "outcome", &[ours.outcome], &[theirs.outcome]);
+        differ(&mut found, "sector and cell", &[ours.sector, ours.cell], &[theirs.sector, theirs.cell]);
+        differ(&mut found, "number of moves", &[ours.moves], &[theirs.moves]);
         let bytes = |sheet: &[u8]| sheet.iter().map(|byte| Hex(u32::from(*byte))).collect::<Vec<_>>();
         differ(&mut found, "sheet", &bytes(&self.sheet), &bytes(&other.sheet));
         differ(&mut found, "memory kept", &[self.memory_kept], &[other.memory_kept]);

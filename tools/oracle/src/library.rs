@@ -146,6 +146,22 @@ unsafe extern "C" {
         limit: u16,
     ) -> WindowTour;
     fn hanjolum_arrivals(sheet: *const u8, sheet_length: usize) -> Arrivals;
+    fn hanjolum_move(sheet: *const u8, sheet_length: usize, sector: u8, cell: u8) -> CartMove;
+    fn hanjolum_way(sheet: *const u8, sheet_length: usize, sector: u8, cell: u8) -> CartWay;
+    fn hanjolum_leg_field(
+        floor: *const u8,
+        floor_length: usize,
+        steps: *const u8,
+        steps_length: usize,
+        place: usize,
+    ) -> BuildAnswer;
+    fn hanjolum_leg_field_without_sight(
+        floor: *const u8,
+        floor_length: usize,
+        steps: *const u8,
+        steps_length: usize,
+        place: usize,
+    ) -> BuildAnswer;
 }
 
 #[allow(unused_variables)]
@@ -179,6 +195,10 @@ impl Subject for Library {
             Call::WindowCosts => cfg!(export = "hanjolum_window_costs"),
             Call::WindowTour => cfg!(export = "hanjolum_window_tour"),
             Call::Arrivals => cfg!(export = "hanjolum_arrivals"),
+            Call::Move => cfg!(export = "hanjolum_move"),
+            Call::Way => cfg!(export = "hanjolum_way"),
+            Call::LegField => cfg!(export = "hanjolum_leg_field"),
+            Call::LegFieldWithoutSight => cfg!(export = "hanjolum_leg_field_without_sight"),
         }
     }
 
@@ -336,5 +356,27 @@ impl Subject for Library {
 
     fn arrivals(&self, sheet: &[u8]) -> Arrivals {
         exported!("hanjolum_arrivals", hanjolum_arrivals(sheet.as_ptr(), sheet.len()))
+    }
+
+    fn next_move(&self, sheet: &[u8], sector: u8, cell: u8) -> CartMove {
+        exported!("hanjolum_move", hanjolum_move(sheet.as_ptr(), sheet.len(), sector, cell))
+    }
+
+    fn way(&self, sheet: &[u8], sector: u8, cell: u8) -> CartWay {
+        exported!("hanjolum_way", hanjolum_way(sheet.as_ptr(), sheet.len(), sector, cell))
+    }
+
+    fn leg_field(&self, floor: &[u8], steps: &[u8], place: usize) -> BuildAnswer {
+        exported!(
+            "hanjolum_leg_field",
+            hanjolum_leg_field(floor.as_ptr(), floor.len(), steps.as_ptr(), steps.len(), place)
+        )
+    }
+
+    fn leg_field_without_sight(&self, floor: &[u8], steps: &[u8], place: usize) -> BuildAnswer {
+        exported!(
+            "hanjolum_leg_field_without_sight",
+            hanjolum_leg_field_without_sight(floor.as_ptr(), floor.len(), steps.as_ptr(), steps.len(), place)
+        )
     }
 }

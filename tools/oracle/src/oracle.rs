@@ -1,6 +1,7 @@
 //! The oracle: refusal numbers by the table of documents 01 and 02, everything else by the Rust, but for what has no Rust,
 //! leg files, legs in which some window cell does not count, practice floors, bounds, costs from window to window, tours of
-//! them and arrivals (02, Jobs 1, 2, 6, 9, 13 and 14, and our own addition), which the model answers. What diagonals and line ends decide, `init`, `build` of a
+//! them, arrivals, and a cart's moves and ways (02, Jobs 1, 2, 6, 9, 13 and 14, and our own additions), which the model
+//! answers. What diagonals and line ends decide, `init`, `build` of a
 //! flow field, the sector call, a leg and the line end itself, is the Rust's altered in these rules alone (02, Jobs 7 and 11);
 //! what did not move is the published Rust's. A step whose goal or some window cell is of cost 255 (02, Job 3) is the table's,
 //! and the Rust, which takes it, is not asked. Wave counts come from the counted copy, whose fields are asserted equal to those
@@ -27,8 +28,11 @@ pub fn judges(call: Call) -> &'static [Judge] {
         Call::SectorWithoutSight => &[Judge::Published, Judge::Altered, Judge::Counted, Judge::Model],
         Call::Leg => &[Judge::Altered, Judge::Model],
         Call::LegWithoutSight => &[Judge::Published, Judge::Altered, Judge::Model],
+        Call::LegField => &[Judge::Altered, Judge::Counted, Judge::Model],
+        Call::LegFieldWithoutSight => &[Judge::Published, Judge::Altered, Judge::Counted, Judge::Model],
         Call::LegFileWrite | Call::LegFileRead | Call::PracticeFloor => &[Judge::Model],
         Call::Bounds | Call::WindowCosts | Call::WindowTour | Call::Arrivals => &[Judge::Model],
+        Call::Move | Call::Way => &[Judge::Model],
         _ => &[Judge::Published],
     }
 }
@@ -137,9 +141,9 @@ fn sector_by(sight: bool, costs: &[u8], step: &[u8], previous: Previous, sheet: 
 }
 
 impl Oracle {
-    /// The built field and the flow bytes of each step of a leg, the calls chained as document 01 says, the first with the
-    /// sight of its goal or without; none where a window has a cell that does not count.
-    fn chained(&self, sight: bool, floor: &[u8], steps: &[u8]) -> Option<Vec<(IntegrationField, [u8; CELLS])>> {
+    /// Each step of a leg as the Rust plans it, the calls chained as document 01 says, the first with the sight of its goal or
+    /// without; none where a window has a cell that does not count.
+    fn chained(&self, sight: bool, floor: &[u8], steps: &[u8]) -> Option<Vec<Planned>> {
         let mut before: Option<IntegrationField> = None;
         let mut chained = Vec::new();
         for step in steps.chunks(8) {
@@ -147,9 +151,9 @@ impl Oracle {
                 return None;
             }
             let previous = before.as_ref().map(|field| &field.field[..]);
-            let Planned { built, bytes, .. } = planned(sight, &floor[part(step)], step, previous);
-            chained.push((built, bytes));
-            before = Some(built);
+            let planned = planned(sight, &floor[part(step)], step, previous);
+            before = Some(planned.built);
+            chained.push(planned);
         }
         Some(chained)
     }
@@ -157,7 +161,7 @@ impl Oracle {
     /// The built cells of each step of a planned leg, by the judge that decides the leg.
     pub fn built_steps(&self, sight: bool, floor: &[u8], steps: &[u8]) -> Vec<[u32; CELLS]> {
         match aside(|| self.chained(sight, floor, steps)) {
-            Some(planned) => planned.iter().map(|(field, _)| field.field).collect(),
+            Some(planned) => planned.iter().map(|step| step.built.field).collect(),
             None => Model::PLAIN.plan_by(sight, floor, steps).steps.iter().map(|step| step.field.field).collect(),
         }
     }
@@ -179,10 +183,35 @@ fn leg_by(sight: bool, floor: &[u8], steps: &[u8], sheet: &mut [u8]) -> u8 {
     if !sight {
         decides(Judge::Published);
     }
-    for (step, (_, bytes)) in steps.chunks(8).zip(planned) {
-        sheet[part(step)].copy_from_slice(&bytes);
+    for (step, planned) in steps.chunks(8).zip(planned) {
+        sheet[part(step)].copy_from_slice(&planned.bytes);
     }
     0
+}
+
+/// The field of a leg's step, with the sight of the leg's goal or without: the Rust's where every window cell of the leg
+/// counts, its waves those of the counted copy and its positions the model's; else the model's.
+fn leg_field_by(sight: bool, floor: &[u8], steps: &[u8], place: usize) -> BuildAnswer {
+    let (costs, listed) = (Some(floor), Some(steps));
+    let given = Given { leg: true, costs, steps: listed, place: Some(place), ..Given::default() };
+    let number = number(&given);
+    if number != 0 {
+        return refused::build(number);
+    }
+    let Some(planned) = aside(|| Oracle.chained(sight, floor, steps)) else {
+        decides(Judge::Model);
+        return Model::PLAIN.leg_field_by(sight, floor, steps, place);
+    };
+    decides(Judge::Altered);
+    if !sight && place == 0 {
+        decides(Judge::Published);
+    }
+    let Planned { started, built, .. } = &planned[place];
+    let costs = &floor[part(&steps[8 * place..])];
+    decides(Judge::Counted);
+    let waves = waves_of(costs, started, &built.field);
+    let positions = Model::PLAIN.positions(costs, started, &built.field);
+    BuildAnswer { number, field: positioned(*built, positions), waves }
 }
 
 /// Where a step's sector stands in a floor and in a sheet.
@@ -201,6 +230,11 @@ pub fn every_cell_counts(step: &[u8], before: &[u32; CELLS]) -> bool {
     let window = altered::window_cells(step);
     let reached: Vec<bool> = window.iter().map(|cell| before[across(*cell)] as u16 != u16::MAX).collect();
     (0..reached.len()).all(|k: usize| reached[k.saturating_sub(1)..(k + 2).min(reached.len())].contains(&true))
+}
+
+/// What the table is given of a cart's call.
+fn cart(sheet: &[u8], sector: u8, cell: u8) -> Given<'_> {
+    Given { cart: Some([sector, cell]), sheet: Some(sheet.len()), ..Given::default() }
 }
 
 fn lent(previous: Previous<'_>) -> Option<&[u32]> {
@@ -294,7 +328,15 @@ impl Subject for Oracle {
         leg_by(false, floor, steps, sheet)
     }
 
-    // Leg files, practice floors, bounds, costs from window to window, tours and arrivals have no Rust.
+    fn leg_field(&self, floor: &[u8], steps: &[u8], place: usize) -> BuildAnswer {
+        leg_field_by(true, floor, steps, place)
+    }
+
+    fn leg_field_without_sight(&self, floor: &[u8], steps: &[u8], place: usize) -> BuildAnswer {
+        leg_field_by(false, floor, steps, place)
+    }
+
+    // Leg files, practice floors, bounds, costs from window to window, tours, arrivals, moves and ways have no Rust.
 
     fn leg_file_write(&self, steps: &[u8], file: &mut [u8]) -> u8 {
         decides(Judge::Model);
@@ -349,5 +391,25 @@ impl Subject for Oracle {
         }
         decides(Judge::Model);
         Model::PLAIN.arrivals_of(sheet)
+    }
+
+    fn next_move(&self, sheet: &[u8], sector: u8, cell: u8) -> CartMove {
+        match number(&cart(sheet, sector, cell)) {
+            0 => {
+                decides(Judge::Model);
+                Model::PLAIN.move_over(sheet, sector, cell)
+            }
+            number => refused::cart_move(number),
+        }
+    }
+
+    fn way(&self, sheet: &[u8], sector: u8, cell: u8) -> CartWay {
+        match number(&cart(sheet, sector, cell)) {
+            0 => {
+                decides(Judge::Model);
+                Model::PLAIN.way_over(sheet, sector, cell)
+            }
+            number => refused::way(number),
+        }
     }
 }

@@ -624,6 +624,9 @@ fn refusal(case: &Case) -> Vec<u8> {
         Call::WindowCosts | Call::WindowTour => unreachable!("windows have sections of their own"),
         Call::Arrivals => unreachable!("arrivals have sections of their own"),
         Call::SectorWithoutSight | Call::LegWithoutSight => unreachable!("these have sections of their own"),
+        Call::Move | Call::Way | Call::LegField | Call::LegFieldWithoutSight => {
+            unreachable!("these have sections of their own")
+        }
     };
     let short = |value: usize| (value as u16).to_le_bytes();
     let place = case.field.los_corners.iter().position(|corner| *corner != 0).unwrap_or(0);

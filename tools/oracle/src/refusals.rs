@@ -1,6 +1,6 @@
 //! The table of document 01 ("A leg, the added entry") with 16 to 20 of document 02, Jobs 3, 8, 9 and 13, read from those
 //! pages alone: each row a number and a condition, in the pages' order. 15 (02, Job 2) comes after 10 and is found by planning:
-//! the model has it.
+//! the model has it. The numbers of a cart's calls and of a leg's field, 21 among them, are our own addition.
 
 use std::ops::Index;
 
@@ -21,6 +21,9 @@ pub const NOT_2_TO_8: u8 = 19;
 /// The number of a list of windows with a step without window, or in another sector than the first's.
 pub const NO_WINDOW_THERE: u8 = 20;
 
+/// The number of a place beyond the steps of a leg (our own addition).
+pub const NO_STEP_THERE: u8 = 21;
+
 /// What a call was lent or given. What a call does not have stands as `None` or empty, and no row
 /// that speaks of it can hold.
 #[derive(Clone, Copy, Default)]
@@ -39,6 +42,10 @@ pub struct Given<'a> {
     pub by_hand: Option<&'a IntegrationField>,
     pub previous: Option<Previous<'a>>,
     pub coordinates: &'a [usize],
+    /// A cart's sector and cell: its sheet holds 6,400 bytes.
+    pub cart: Option<[u8; 2]>,
+    /// The place of a step in a leg's list.
+    pub place: Option<usize>,
 }
 
 impl Given<'_> {
@@ -120,6 +127,10 @@ pub struct Row<T: ?Sized> {
 pub struct Table<'a> {
     /// "lent memory" and "step list"
     pub lent: [Row<Given<'a>>; 4],
+    /// A leg's field, behind 3.
+    pub leg_field: [Row<Given<'a>>; 1],
+    /// A cart's calls.
+    pub cart: [Row<Given<'a>>; 2],
     /// "each step"
     pub each_step: [Row<Judged<'a>>; 7],
     /// "in the sector call alone, after 16" (02, Job 8)
@@ -141,6 +152,11 @@ impl<'a> Table<'a> {
                 Row { number: 2, holds: |g| g.sheet.is_some_and(|length| length != size(g)) },
                 Row { number: 3, holds: |g| g.steps.is_some_and(|steps| !step_list_fits(g, steps.len())) },
                 Row { number: NOT_2_TO_8, holds: |g| g.windows && !(2..=8).contains(&g.step_count()) },
+            ],
+            leg_field: [Row { number: NO_STEP_THERE, holds: |g| g.place.is_some_and(|place| place >= g.step_count()) }],
+            cart: [
+                Row { number: 4, holds: |g| g.cart.is_some_and(|[sector, _]| sector > 63) },
+                Row { number: 5, holds: |g| g.cart.is_some_and(|[_, cell]| cell > 99) },
             ],
             each_step: [
                 Row { number: 4, holds: |s| s[0] > 63 || s[2] > 1 || s[6] != 0 || s[7] != 0 },
@@ -176,6 +192,8 @@ impl<'a> Table<'a> {
     pub fn number(&self, given: &Given<'a>) -> u8 {
         let steps = given.steps.unwrap_or(&[]);
         first(&self.lent, given)
+            .or_else(|| first(&self.leg_field, given))
+            .or_else(|| first(&self.cart, given))
             .or_else(|| each(given).find_map(|step| first(&self.each_step, &step)))
             .or_else(|| first(&self.sector_call, given))
             .or_else(|| first(&self.bounds_call, given))
@@ -224,7 +242,7 @@ pub fn is_no_range((low, high): (u8, u8)) -> bool {
 
 /// The bytes of a floor that a call takes.
 pub fn size(given: &Given) -> usize {
-    if given.leg { 6400 } else { 100 }
+    if given.leg || given.cart.is_some() { 6400 } else { 100 }
 }
 
 /// Whether a call takes step bytes of this length.

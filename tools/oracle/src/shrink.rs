@@ -15,6 +15,8 @@ enum Change {
     PreviousZero(usize),
     SheetZero,
     SheetByteZero(usize),
+    SheetSectorZero(usize),
+    PlaceZero,
     SectorOpen(usize),
     CostOne(usize),
     BothOne(usize),
@@ -51,7 +53,9 @@ pub fn smallest(case: &Case, differs: &dyn Fn(&Case) -> bool) -> Case {
 
 /// Every change that a case may take, the boldest first.
 fn changes(case: &Case) -> Vec<Change> {
-    let mut list = vec![Change::DropStep, Change::NoPrevious, Change::SheetZero, Change::PositionsUnset];
+    let mut list =
+        vec![Change::DropStep, Change::NoPrevious, Change::SheetZero, Change::PositionsUnset, Change::PlaceZero];
+    list.extend((0..case.sheet.len() / CELLS).map(Change::SheetSectorZero));
     let listed = [Call::WindowCosts, Call::WindowTour].contains(&case.call());
     let windows = if listed { case.steps.len() / 8 } else { 0 };
     list.extend((0..windows).rev().flat_map(|k| [Change::DropWindow(k), Change::WindowCell(k)]));
@@ -95,6 +99,8 @@ fn apply(change: Change, case: &mut Case) {
         Change::PreviousZero(i) => case.previous.iter_mut().skip(i).take(1).for_each(|x| *x = 0),
         Change::SheetZero => case.sheet.fill(0),
         Change::SheetByteZero(i) => case.sheet[i] = 0,
+        Change::SheetSectorZero(sector) => case.sheet[sector * CELLS..(sector + 1) * CELLS].fill(0),
+        Change::PlaceZero => case.place = 0,
         Change::SectorOpen(sector) => {
             case.costs[sector * CELLS..(sector + 1) * CELLS].fill(1);
             case.high.fill(1);

@@ -171,6 +171,40 @@ pub struct Arrivals {
 /// The number of moves of arrows that never arrive.
 pub const NEVER: u8 = 255;
 
+/// What a cart's call says of its place.
+pub mod outcome {
+    pub const STOPPED: u8 = 0;
+    pub const MOVED: u8 = 1;
+    pub const ARRIVED: u8 = 2;
+    pub const IN_SIGHT: u8 = 3;
+    /// Of a way alone.
+    pub const NEVER: u8 = 4;
+}
+
+/// Where a cart's move leads.
+#[repr(C)]
+#[derive(Clone, Copy, PartialEq, Eq, Debug, Default)]
+pub struct CartMove {
+    pub number: u8,
+    pub outcome: u8,
+    pub sector: u8,
+    pub cell: u8,
+}
+
+/// Where a cart's way ends, and after how many moves.
+#[repr(C)]
+#[derive(Clone, Copy, PartialEq, Eq, Debug, Default)]
+pub struct CartWay {
+    pub number: u8,
+    pub outcome: u8,
+    pub sector: u8,
+    pub cell: u8,
+    pub moves: u16,
+}
+
+// The sizes that the header tells.
+const _: () = assert!(size_of::<CartMove>() == 4 && size_of::<CartWay>() == 6);
+
 /// A yes or no, and the numbers lent beside it.
 #[derive(Clone, Copy, Debug)]
 pub struct Previous<'a> {
@@ -212,6 +246,10 @@ pub enum Call {
     WindowCosts,
     WindowTour,
     Arrivals,
+    Move,
+    Way,
+    LegField,
+    LegFieldWithoutSight,
 }
 
 /// A side of the comparison. A refusal answers its number, zeros else, and writes nothing.
@@ -240,6 +278,14 @@ pub trait Subject {
     fn window_costs(&self, costs: &[u8], steps: &[u8]) -> WindowCosts;
     fn window_tour(&self, costs: &[u8], steps: &[u8], limit: u16) -> WindowTour;
     fn arrivals(&self, sheet: &[u8]) -> Arrivals;
+    /// One move of a cart over a floor's sheet.
+    fn next_move(&self, sheet: &[u8], sector: u8, cell: u8) -> CartMove;
+    /// The moves until it stands still.
+    fn way(&self, sheet: &[u8], sector: u8, cell: u8) -> CartWay;
+    /// The built field of the step at a place of a leg's list, from 0.
+    fn leg_field(&self, floor: &[u8], steps: &[u8], place: usize) -> BuildAnswer;
+    /// The same of a leg without sight.
+    fn leg_field_without_sight(&self, floor: &[u8], steps: &[u8], place: usize) -> BuildAnswer;
 }
 
 /// The answers of a refusal.
@@ -268,6 +314,14 @@ pub mod refused {
 
     pub fn arrivals(number: u8) -> Arrivals {
         Arrivals { number, moves: [0; CELLS] }
+    }
+
+    pub fn cart_move(number: u8) -> CartMove {
+        CartMove { number, ..CartMove::default() }
+    }
+
+    pub fn way(number: u8) -> CartWay {
+        CartWay { number, ..CartWay::default() }
     }
 
     pub fn line(number: u8) -> Line {

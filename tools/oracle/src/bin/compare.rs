@@ -7,7 +7,8 @@ use std::time::Instant;
 
 use oracle::command;
 use oracle::groups::{
-    BOUNDS, BUILT, Clean, Difference, FOLLOWED, FOLLOWED_TO_GOAL, GROUPS, Group, JOURNEY, JOURNEY_WITHOUT_SIGHT, Met,
+    BOUNDS, BUILT, Clean, DRIVEN, Difference, FOLLOWED, FOLLOWED_TO_GOAL, GROUPS, Group, JOURNEY,
+    JOURNEY_WITHOUT_SIGHT, Met,
 };
 use oracle::judges::Judge;
 use oracle::library::Library;
@@ -116,6 +117,12 @@ fn report_clean(group: &Group, clean: &Clean, start: Instant) {
     if clean.without_sight.numbers > 0 {
         println!("{:<20} without sight: {}", "", clean.without_sight);
     }
+    if clean.driven.ways > 0 {
+        println!("{:<20} driven: {}", "", clean.driven);
+    }
+    if clean.fields.numbers > 0 {
+        println!("{:<20} held to other calls: {}", "", clean.fields);
+    }
 }
 
 /// How many inputs have a goal or a window cell of cost 255, or a window without a previous field.
@@ -204,6 +211,12 @@ fn compare(side: &dyn Subject, chosen: &Arguments) -> Result<(), String> {
     if all.without_sight.numbers > 0 {
         println!("without sight: {}", all.without_sight);
     }
+    if all.driven.ways > 0 {
+        println!("driven: {}", all.driven);
+    }
+    if all.fields.numbers > 0 {
+        println!("fields of a leg's steps, held to other calls: {}", all.fields);
+    }
     Ok(())
 }
 
@@ -235,25 +248,31 @@ fn found(slip: Slip, groups: &[&Group], chosen: &Arguments) -> bool {
 }
 
 /// Tries every slip, on likely groups first; those that lead a cart astray once more, by following it alone, to the goal's
-/// sector or to the goal, and those that floors between two show, by building these alone.
+/// sector or to the goal, those of moves and ways by driving alone, and those that floors between two show, by building these
+/// alone.
 fn try_slips(chosen: &Arguments) -> Result<(), String> {
     let mut missed = 0;
     for (slip, text) in Slip::ALL {
         println!("{text}");
         let mut groups: Vec<&Group> = GROUPS.iter().collect();
         groups.sort_by_key(|group| unlikely(group, text));
-        let alone = [(Slip::ASTRAY, &FOLLOWED), (Slip::NOT_TO_GOAL, &FOLLOWED_TO_GOAL), (Slip::BETWEEN, &BUILT)];
+        let alone = [
+            (Slip::ASTRAY, &FOLLOWED),
+            (Slip::NOT_TO_GOAL, &FOLLOWED_TO_GOAL),
+            (Slip::NOT_DRIVEN, &DRIVEN),
+            (Slip::BETWEEN, &BUILT),
+        ];
         let mut missing = !found(*slip, &groups, chosen);
         for (_, group) in alone.into_iter().filter(|(slips, _)| slips.contains(slip)) {
             missing |= !found(*slip, &[group], chosen);
         }
         missed += usize::from(missing);
     }
-    let (slips, lists) = (Slip::ALL.len(), [Slip::ASTRAY, Slip::NOT_TO_GOAL, Slip::BETWEEN]);
-    let [astray, not_to_goal, between] = lists.map(|slips| slips.len());
+    let (slips, lists) = (Slip::ALL.len(), [Slip::ASTRAY, Slip::NOT_TO_GOAL, Slip::NOT_DRIVEN, Slip::BETWEEN]);
+    let [astray, not_to_goal, not_driven, between] = lists.map(|slips| slips.len());
     println!(
         "{slips} slips, {astray} of them tried by following in `{JOURNEY}` alone too, {not_to_goal} in \
-         `{JOURNEY_WITHOUT_SIGHT}` alone, {between} by the floors between of `{BOUNDS}` alone, {missed} not found (seed {})",
+         `{JOURNEY_WITHOUT_SIGHT}` alone, {not_driven} by driving there alone, {between} by the floors between of `{BOUNDS}` alone, {missed} not found (seed {})",
         chosen.seed
     );
     if missed == 0 { Ok(()) } else { Err(format!("{missed} slips were not found")) }

@@ -41,7 +41,7 @@ fn snake(turned: bool, upright: bool, arrived: u8) -> Vec<u8> {
 }
 
 /// A byte of a sheet that is not planned: mostly an arrow, few that have arrived.
-fn any_byte(rng: &mut Rng) -> u8 {
+pub(super) fn any_byte(rng: &mut Rng) -> u8 {
     match rng.below(40) {
         0 => rng.pick(&[0x70, 0x30, 0x90, 0xF3, 0xB0, 0x50]),
         1 => rng.below(256) as u8,

@@ -154,7 +154,7 @@ pub fn sectors(rng: Rng, inputs: usize) -> Cases {
 
 /// A leg with steps spoiled, repeated, swapped, marked otherwise, or too many; now and then one with a window in which no
 /// cell counts besides.
-fn bad_leg(rng: &mut Rng) -> Case {
+pub(super) fn bad_leg(rng: &mut Rng) -> Case {
     let mut case = if rng.one_in(3) { closed_leg(rng, 3, 2) } else { leg_case(rng) };
     for _ in 0..rng.below(3) {
         spoil_step(rng, &mut case.steps);

@@ -4,7 +4,9 @@
 use std::fmt;
 
 use super::Cases;
+use super::carts::Cart;
 use super::good::{drawn, leg_sheet};
+use super::leg_fields::Field;
 use crate::cases::Case;
 use crate::floors::{self, Rng, edge_cell};
 use crate::model::{CLOSED, Model, Plan, PlannedStep};
@@ -150,6 +152,10 @@ pub enum Met {
     /// A goal's sector of which a reached cell never arrives, and one of which every reached cell does.
     SectorLost,
     SectorWhole,
+    /// What a cart's move or way meets.
+    Cart(Cart),
+    /// What the field of a leg's step meets.
+    Field(Field),
 }
 
 /// Where a step has its wall.
@@ -242,6 +248,8 @@ impl fmt::Display for Met {
             Met::ImpassableArrived => write!(f, "a byte with all of 0xE0 that is arrived at"),
             Met::SectorLost => write!(f, "a sector with a cell that never arrives"),
             Met::SectorWhole => write!(f, "a sector of which every cell arrives"),
+            Met::Cart(cart) => write!(f, "{cart}"),
+            Met::Field(field) => write!(f, "{field}"),
         }
     }
 }
@@ -269,7 +277,8 @@ pub(super) fn all() -> Vec<Met> {
 
 /// A leg that the table takes, planned with the sight of its goal or without.
 fn planned(case: &Case) -> Plan {
-    Model::PLAIN.plan_by(case.call() != Call::LegWithoutSight, &case.costs, &case.steps)
+    let sight = ![Call::LegWithoutSight, Call::LegFieldWithoutSight].contains(&case.call());
+    Model::PLAIN.plan_by(sight, &case.costs, &case.steps)
 }
 
 /// What a leg meets that the table takes.
@@ -379,7 +388,7 @@ pub fn leg_that_meets(rng: &mut Rng, kind: Met) -> Case {
 }
 
 /// A leg of any length, with few walls or many.
-fn gap_leg(rng: &mut Rng) -> Case {
+pub(super) fn gap_leg(rng: &mut Rng) -> Case {
     let most = if rng.one_in(2) { rng.below(61) } else { rng.below(21) };
     let steps = if rng.one_in(2) { 2 + rng.below(4) } else { 2 + rng.below(15) };
     leg_with_walls(rng, steps, most)

@@ -5,8 +5,10 @@
 mod arrivals;
 mod bad;
 mod bounds;
+mod carts;
 mod good;
 mod journeys;
+mod leg_fields;
 mod leg_files;
 mod legs;
 mod positions;
@@ -22,6 +24,8 @@ pub use arrivals::{
 };
 pub use bad::{refused_floors, refused_tour, refused_windows};
 pub use bounds::{any_floors, floors_that_meet, range_kinds};
+pub use carts::{cart_that_meets, longest_ways, move_kinds, way_kinds};
+pub use leg_fields::{asked, field_kinds, field_that_meets as leg_field_that_meets, refused_kinds};
 pub use legs::{
     Met, Place, closed_leg, leg_kinds, leg_on_walls_that_meets, leg_that_counts, leg_that_meets, wall_kinds,
 };
@@ -33,12 +37,14 @@ pub use windows::{any_windows, window_kinds, windows_that_meet};
 use crate::between::{Between, Bounded};
 use crate::cases::{Ask, Case, Outcome};
 use crate::clear::{self, Cleared};
+use crate::drive::{self, Driven};
 use crate::floors::Rng;
 use crate::journey::Followed;
 use crate::judges::{self, Judge, Judges};
+use crate::leg_fields as fields;
 use crate::model::CLOSED;
 use crate::oracle::{self, Oracle};
-use crate::refusals::{FIELDLESS, NO_RANGE, NO_WINDOW_THERE, NOT_2_TO_8, ON_WALL};
+use crate::refusals::{FIELDLESS, NO_RANGE, NO_STEP_THERE, NO_WINDOW_THERE, NOT_2_TO_8, ON_WALL};
 use crate::shrink;
 use crate::squares::{self, Squared};
 use crate::subject::{Call, Subject};
@@ -82,7 +88,7 @@ pub const GROUPS: &[Group] = &[
     Group { name: "leg", needs: &[Call::Leg], cases: good::legs, reaches: &[0, CLOSED, ON_WALL] },
     Group { name: GAPS, needs: &[Call::Leg], cases: legs::gaps, reaches: &[0, CLOSED] },
     Group { name: ON_WALLS, needs: &[Call::Leg], cases: legs::on_walls, reaches: &[0, 8, CLOSED, ON_WALL] },
-    Group { name: JOURNEY, needs: &[Call::Leg], cases: journeys::journeys, reaches: &[0] },
+    Group { name: JOURNEY, needs: &[Call::Leg, Call::Move, Call::Way], cases: journeys::journeys, reaches: &[0] },
     Group {
         name: SECTOR_WITHOUT_SIGHT,
         needs: SECTORS_WITHOUT_SIGHT,
@@ -115,7 +121,7 @@ pub const GROUPS: &[Group] = &[
     },
     Group {
         name: JOURNEY_WITHOUT_SIGHT,
-        needs: LEGS_WITHOUT_SIGHT,
+        needs: JOURNEYS_WITHOUT_SIGHT,
         cases: |rng, inputs| asked_without_sight(journeys::journeys(rng, inputs)),
         reaches: &[0],
     },
@@ -126,6 +132,22 @@ pub const GROUPS: &[Group] = &[
     Group { name: WINDOW_COSTS, needs: &[Call::WindowCosts, Call::Sector], cases: windows::costs, reaches: &[0] },
     Group { name: WINDOW_TOUR, needs: &[Call::WindowTour], cases: tours::tours, reaches: &[0] },
     Group { name: ARRIVALS, needs: &[Call::Arrivals], cases: arrivals::sheets, reaches: &[0] },
+    Group { name: MOVE, needs: &[Call::Move], cases: carts::moves, reaches: &[0] },
+    Group { name: WAY, needs: &[Call::Way, Call::Move], cases: carts::ways, reaches: &[0] },
+    Group { name: LEG_FIELD, needs: LEG_FIELDS, cases: leg_fields::fields, reaches: &[0, CLOSED, ON_WALL] },
+    Group { name: LEG_FIELD_GAPS, needs: LEG_FIELDS, cases: leg_fields::gaps, reaches: &[0, CLOSED] },
+    Group {
+        name: LEG_FIELD_WITHOUT_SIGHT,
+        needs: LEG_FIELDS_WITHOUT_SIGHT,
+        cases: |rng, inputs| asked_without_sight(leg_fields::fields(rng, inputs)),
+        reaches: &[0, CLOSED, ON_WALL],
+    },
+    Group {
+        name: LEG_FIELD_GAPS_WITHOUT_SIGHT,
+        needs: LEG_FIELDS_WITHOUT_SIGHT,
+        cases: |rng, inputs| asked_without_sight(leg_fields::gaps(rng, inputs)),
+        reaches: &[0, CLOSED],
+    },
     Group { name: "line refusals", needs: &[Call::Line], cases: bad::lines, reaches: &[0, 13] },
     Group { name: "walk shallow refusals", needs: &[Call::WalkShallow], cases: bad::shallow_walks, reaches: &[0, 13] },
     Group { name: "walk steep refusals", needs: &[Call::WalkSteep], cases: bad::steep_walks, reaches: &[0, 13] },
@@ -187,6 +209,20 @@ pub const GROUPS: &[Group] = &[
         reaches: &[0, 1, 3, 4, 5, 6, 7, 8, ON_WALL, NOT_2_TO_8, NO_WINDOW_THERE],
     },
     Group { name: "arrivals refusals", needs: &[Call::Arrivals], cases: bad::arrivals, reaches: &[0, 2] },
+    Group { name: "move refusals", needs: &[Call::Move], cases: carts::bad_moves, reaches: &[0, 2, 4, 5] },
+    Group { name: "way refusals", needs: &[Call::Way, Call::Move], cases: carts::bad_ways, reaches: &[0, 2, 4, 5] },
+    Group {
+        name: LEG_FIELD_REFUSALS,
+        needs: LEG_FIELDS,
+        cases: leg_fields::bad_fields,
+        reaches: &[0, 1, 3, 4, 5, 6, 7, 8, 9, 10, CLOSED, ON_WALL, NO_STEP_THERE],
+    },
+    Group {
+        name: LEG_FIELD_REFUSALS_WITHOUT_SIGHT,
+        needs: LEG_FIELDS_WITHOUT_SIGHT,
+        cases: |rng, inputs| asked_without_sight(leg_fields::bad_fields(rng, inputs)),
+        reaches: &[0, 1, 3, 4, 5, 6, 7, 8, 9, 10, CLOSED, ON_WALL, NO_STEP_THERE],
+    },
 ];
 
 /// Fields whose positions are looked for.
@@ -210,6 +246,35 @@ pub const FOLLOWED: Group =
 /// The calls that sectors without sight are held to, the one that is asked first, and those of legs.
 const SECTORS_WITHOUT_SIGHT: &[Call] = &[Call::SectorWithoutSight, Call::Sector, Call::Arrivals];
 const LEGS_WITHOUT_SIGHT: &[Call] = &[Call::LegWithoutSight, Call::Leg, Call::Arrivals];
+
+const JOURNEYS_WITHOUT_SIGHT: &[Call] = &[Call::LegWithoutSight, Call::Leg, Call::Arrivals, Call::Move, Call::Way];
+
+/// The calls that fields of a leg's steps are held to, the one that is asked first.
+const LEG_FIELDS: &[Call] = &[Call::LegField, Call::Leg, Call::Build, Call::Sector];
+const LEG_FIELDS_WITHOUT_SIGHT: &[Call] =
+    &[Call::LegFieldWithoutSight, Call::LegWithoutSight, Call::Build, Call::SectorWithoutSight];
+
+/// Fields of a leg's steps.
+pub const LEG_FIELD: &str = "leg field";
+pub const LEG_FIELD_GAPS: &str = "leg field, gaps";
+const LEG_FIELD_REFUSALS: &str = "leg field refusals";
+const LEG_FIELD_WITHOUT_SIGHT: &str = "leg field without sight";
+const LEG_FIELD_GAPS_WITHOUT_SIGHT: &str = "leg field without sight, gaps";
+const LEG_FIELD_REFUSALS_WITHOUT_SIGHT: &str = "leg field without sight refusals";
+
+/// Sheets over which a cart moves, by one move or until it stands still.
+pub const MOVE: &str = "move";
+pub const WAY: &str = "way";
+
+const DRIVEN_ALONE: &str = "journey without sight, driven alone";
+
+/// Legs without sight where nothing but driving over them finds a fault.
+pub const DRIVEN: Group = Group {
+    name: DRIVEN_ALONE,
+    needs: JOURNEYS_WITHOUT_SIGHT,
+    cases: |rng, inputs| asked_without_sight(journeys::journeys(rng, inputs)),
+    reaches: &[0],
+};
 
 /// The groups of sectors and legs, their inputs planned without sight.
 pub const SECTOR_WITHOUT_SIGHT: &str = "sector without sight";
@@ -259,7 +324,7 @@ pub struct Clean {
     pub inputs: usize,
     /// How often each number was due. 16 is due where the Rust would open a wall, 17 where it would fall back on the
     /// boundary's bits: so many inputs of a group that has the Rust are left out of the comparison with it.
-    pub numbers: [usize; 21],
+    pub numbers: [usize; 22],
     /// How many inputs each judge decided, by its place in `Judge::ALL`. A build has two: fields and waves.
     pub judged: [usize; Judge::ALL.len()],
     /// How many inputs met what the group has to meet besides numbers.
@@ -276,6 +341,10 @@ pub struct Clean {
     pub toured: Toured,
     /// The calls without sight that were held to what is promised of them.
     pub without_sight: without_sight::Held,
+    /// What was driven by a side's own calls.
+    pub driven: Driven,
+    /// The fields of a leg's steps that were held to a side's other calls.
+    pub fields: fields::Held,
 }
 
 impl Clean {
@@ -291,6 +360,8 @@ impl Clean {
         self.squared.add(&other.squared);
         self.toured.add(&other.toured);
         self.without_sight.add(&other.without_sight);
+        self.driven.add(&other.driven);
+        self.fields.add(&other.fields);
     }
 }
 
@@ -307,6 +378,8 @@ impl Clean {
         self.squared.add(&compared.squared);
         self.toured.add(&compared.toured);
         self.without_sight.add(&compared.without_sight);
+        self.driven.add(&compared.driven);
+        self.fields.add(&compared.fields);
     }
 }
 
@@ -320,7 +393,8 @@ pub struct Difference {
 
 /// What the oracle says of one input, by which judges, and where a side differs from it; what was followed, if anything,
 /// which arrows were looked at, which floors were built between two, which costs were held to built fields, which tours to
-/// their words, and which calls without sight to what is promised.
+/// their words, which calls without sight to what is promised, what was driven, and which fields of a leg's steps were held to
+/// other calls.
 struct Compared {
     due: Outcome,
     outcome: Outcome,
@@ -332,13 +406,62 @@ struct Compared {
     squared: Squared,
     toured: Toured,
     without_sight: without_sight::Held,
+    driven: Driven,
+    fields: fields::Held,
 }
 
 impl Compared {
     /// What was compared, and nothing looked at besides.
     fn of(due: Outcome, outcome: Outcome, judges: Judges, found: Vec<String>) -> Self {
         let (followed, cleared, between, squared, toured, without_sight) = Default::default();
-        Compared { due, outcome, judges, found, followed, cleared, between, squared, toured, without_sight }
+        let (driven, fields) = Default::default();
+        Compared {
+            due,
+            outcome,
+            judges,
+            found,
+            followed,
+            cleared,
+            between,
+            squared,
+            toured,
+            without_sight,
+            driven,
+            fields,
+        }
+    }
+
+    /// Holds a way that both answer to moves one after the other.
+    fn way_driven(mut self, case: &Case, side: &dyn Subject) -> Self {
+        let taken = case.call() == Call::Way && self.due.number == 0;
+        let Some(answer) = self.outcome.cart.filter(|answer| taken && answer.number == 0) else { return self };
+        match drive::way_held(case, answer, side) {
+            Ok(driven) => self.driven = driven,
+            Err(fault) => self.found.push(fault),
+        }
+        self
+    }
+
+    /// Drives over the sheet of a leg that both take, from every reached cell.
+    fn leg_driven(mut self, case: &Case, side: &dyn Subject) -> Self {
+        if self.due.number == 0 && self.outcome.number == 0 {
+            match drive::leg_held(case, &self.outcome.sheet, side) {
+                Ok(driven) => self.driven = driven,
+                Err(fault) => self.found.push(fault),
+            }
+        }
+        self
+    }
+
+    /// Holds the field of a leg's step to the side's other calls.
+    fn fields_held(mut self, case: &Case, side: &dyn Subject) -> Self {
+        if [Call::LegField, Call::LegFieldWithoutSight].contains(&case.call()) {
+            match fields::held(case, &self.outcome, side) {
+                Ok(fields) => self.fields = fields,
+                Err(fault) => self.found.push(fault),
+            }
+        }
+        self
     }
 
     /// Holds a call without sight to what is promised of it.
@@ -441,6 +564,10 @@ impl Group {
             WINDOW_COSTS => windows::all(),
             WINDOW_TOUR => tours::all(),
             ARRIVALS => arrivals::all(),
+            MOVE => carts::move_kinds(),
+            WAY => carts::way_kinds(),
+            LEG_FIELD_GAPS | LEG_FIELD_GAPS_WITHOUT_SIGHT => leg_fields::field_kinds(),
+            LEG_FIELD_REFUSALS | LEG_FIELD_REFUSALS_WITHOUT_SIGHT => leg_fields::refused_kinds(),
             _ => Vec::new(),
         }
     }
@@ -456,6 +583,9 @@ impl Group {
             WINDOW_COSTS => windows::met(case),
             WINDOW_TOUR => tours::met(case),
             ARRIVALS => arrivals::met(case),
+            MOVE | WAY => carts::met(case),
+            LEG_FIELD_GAPS | LEG_FIELD_GAPS_WITHOUT_SIGHT => leg_fields::met(case),
+            LEG_FIELD_REFUSALS | LEG_FIELD_REFUSALS_WITHOUT_SIGHT => leg_fields::met(case),
             _ => Vec::new(),
         }
     }
@@ -481,8 +611,12 @@ impl Group {
 
     fn compared(&self, case: &Case, side: &dyn Subject) -> Compared {
         match self.name {
-            JOURNEY => journeys::compared(case, side).cleared(case),
+            JOURNEY => journeys::compared(case, side).cleared(case).leg_driven(case, side),
             FOLLOWED_ALONE => journeys::compared(case, side),
+            DRIVEN_ALONE => {
+                let compared = compared(case, side);
+                Compared { found: Vec::new(), ..compared }.leg_driven(case, side)
+            }
             TO_GOAL_ALONE => compared(case, side).followed_to_goal(case),
             BUILT_ALONE => {
                 let compared = compared(case, side);
@@ -490,7 +624,8 @@ impl Group {
             }
             _ => {
                 let compared = compared(case, side).cleared(case).built(case, side).squared(case, side).toured(case);
-                compared.without_sight(case, side)
+                let compared = compared.without_sight(case, side).way_driven(case, side).fields_held(case, side);
+                if self.name == JOURNEY_WITHOUT_SIGHT { compared.leg_driven(case, side) } else { compared }
             }
         }
     }
@@ -548,7 +683,19 @@ impl Group {
         if let Some(lacking) = self.lacks_without_sight(&clean.without_sight) {
             return Some(format!("`{name}` did not meet {lacking} in {inputs} inputs: ask for more by --inputs"));
         }
-        let has_arrows = self.has_rust() && self.needs.iter().any(|call| [Call::Sector, Call::Leg].contains(call));
+        let lacking = match self.name {
+            JOURNEY => clean.driven.lacks_of_legs(true),
+            JOURNEY_WITHOUT_SIGHT => clean.driven.lacks_of_legs(false),
+            WAY => clean.driven.lacks_of_ways(),
+            LEG_FIELD_GAPS | LEG_FIELD_GAPS_WITHOUT_SIGHT => clean.fields.lacks(),
+            _ => None,
+        };
+        if let Some(lacking) = lacking {
+            return Some(format!("`{name}` did not meet {lacking} in {inputs} inputs: ask for more by --inputs"));
+        }
+        let writes = ![Call::LegField, Call::LegFieldWithoutSight].contains(&self.needs[0]);
+        let has_arrows =
+            writes && self.has_rust() && self.needs.iter().any(|call| [Call::Sector, Call::Leg].contains(call));
         if let Some(lacking) = clean.cleared.lacks().filter(|_| has_arrows) {
             return Some(format!("`{name}` did not look at {lacking} in {inputs} inputs: ask for more by --inputs"));
         }

@@ -87,7 +87,7 @@ impl Model {
         std::array::from_fn(|cell| self.looked(cells, cell, starting[cell]))
     }
 
-    fn refused_build(&self, number: u8) -> BuildAnswer {
+    pub(super) fn refused_build(&self, number: u8) -> BuildAnswer {
         let mut answer = refused::build(number);
         match self.slip {
             Slip::FieldOfRefusal if number != 0 => answer.field.field = [65535; CELLS],
@@ -249,5 +249,21 @@ impl Subject for Model {
             Some(number) => self.refused_arrivals(number),
             None => self.arrivals_of(sheet),
         }
+    }
+
+    fn next_move(&self, sheet: &[u8], sector: u8, cell: u8) -> CartMove {
+        self.answered_move(sheet, sector, cell)
+    }
+
+    fn way(&self, sheet: &[u8], sector: u8, cell: u8) -> CartWay {
+        self.answered_way(sheet, sector, cell)
+    }
+
+    fn leg_field(&self, floor: &[u8], steps: &[u8], place: usize) -> BuildAnswer {
+        self.leg_field_by(true, floor, steps, place)
+    }
+
+    fn leg_field_without_sight(&self, floor: &[u8], steps: &[u8], place: usize) -> BuildAnswer {
+        self.leg_field_by(false, floor, steps, place)
     }
 }

@@ -28,7 +28,7 @@ pub struct Plan {
 }
 
 /// Where the bytes of a sector stand in a floor and in a sheet.
-fn part(sector: usize) -> std::ops::Range<usize> {
+pub(super) fn part(sector: usize) -> std::ops::Range<usize> {
     sector * CELLS..(sector + 1) * CELLS
 }
 

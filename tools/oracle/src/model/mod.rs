@@ -4,9 +4,11 @@
 mod answers;
 mod arrivals;
 mod bounds;
+mod cart;
 mod flow;
 mod integration;
 mod leg;
+mod leg_field;
 mod leg_file;
 mod line;
 mod numbers;
@@ -18,6 +20,7 @@ mod window_tour;
 mod without_sight;
 
 pub use arrivals::{Lost, lost_by};
+pub use cart::{Place, byte_at, direction, named, place_of, reads_as_goal, reads_as_sight};
 pub use leg::{CLOSED, Plan, PlannedStep};
 pub use slips::Slip;
 pub use window_tour::orders;

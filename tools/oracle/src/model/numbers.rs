@@ -17,14 +17,14 @@ pub(super) enum Verdict {
 
 impl Model {
     pub(super) fn judge(&self, given: &Given) -> Verdict {
-        match self.number(given) {
+        match self.number_of(given) {
             0 if refusals::number(given) == 0 => Verdict::Accepted,
             0 => Verdict::Mistaken,
             number => Verdict::Refused(number),
         }
     }
 
-    fn number(&self, given: &Given) -> u8 {
+    pub(super) fn number_of(&self, given: &Given) -> u8 {
         let mut table = Table::documents();
         self.slip_in_step(&mut table);
         self.slip_on_walls(&mut table, given);
@@ -279,7 +279,7 @@ fn fieldless_window(g: &Given) -> bool {
 }
 
 fn is_init(g: &Given) -> bool {
-    g.costs.is_some() && g.steps.is_some() && g.sheet.is_none() && !g.is_bounds_call() && !g.windows
+    g.costs.is_some() && g.steps.is_some() && g.sheet.is_none() && !g.is_bounds_call() && !g.windows && !g.leg
 }
 
 /// Whether the condition of 3 holds.
