@@ -1,6 +1,7 @@
 //! The Rust reference beside the proved library: what both are asked, and how they are compared.
 
 pub mod between;
+pub mod cart_records;
 pub mod cases;
 pub mod clear;
 pub mod command;

@@ -25,6 +25,9 @@
 //! | window_costs.model, window_costs.table | 496 | lengths of costs and steps, costs in 101 places, steps in 136 | number, 64 costs of 32 bits, row by row |
 //! | window_tour.model, window_tour.table | 263 | lengths of costs and steps, limit of 16 bits, costs in 101 places, steps in 136 | number, whether an order is found, 8 places of the order, sum, number tried and least figure of 32 bits |
 //! | arrivals.model, arrivals.table | 203 | length of the sheet, sheet in 101 places | number, 100 numbers of moves |
+//! | cart.model, cart.table | 7171 | length of the sheet in 16 bits, sheet in 6401 places; 64 times sector and cell, each followed by what is expected | number, outcome, sector, cell of the move; number, outcome, sector, cell, moves in 16 bits of the way |
+//! | leg_field.altered, leg_field.model, leg_field.table | 2344 | length of the floor in 16 bits, length of the steps, place in 16 bits, steps in 136 places, 16 times 100 costs | number, waves, count, 100 positions, 100 corners, 100 cells of 32 bits |
+//! | leg_field_without_sight.altered, leg_field_without_sight.model, leg_field_without_sight.table | 2344 | as leg_field.altered | the same |
 //!
 //! A file whose name has no dot holds answers of the published Rust. Behind a dot stands the judge of a file that has
 //! another: `altered`, the Rust altered in two rules (document 02, Job 7: a diagonal is barred if either cell beside it is a
@@ -71,8 +74,18 @@
 //!
 //! arrivals.model, arrivals.table: a sheet, taken and refused. Places beyond a length are 0.
 //!
+//! cart.model, cart.table: a cart's moves and ways over a sheet, taken and refused, which are in neither document. Places of the
+//! sheet beyond its length are 0.
+//!
+//! leg_field and leg_field_without_sight: the field of the step at a place of a leg's list, from 0, which is in neither
+//! document. The k-th 100 costs are those of the sector that step k names; cost bytes of sectors not named are 1. Where every
+//! window cell of the leg counts, the Rust's own parts decide, as in leg.altered and leg_without_sight.altered; the model has
+//! those with a cell that does not count, and 15. In the files with `table` stand 1, 3, 21, 4 to 8, 16, 9 and 10, also with 21
+//! where another of them would be due. Places beyond a length are 0.
+//!
 //! Nothing here comes from the program that replays it.
 
+use crate::cart_records::{carts_refused, carts_taken, leg_fields};
 use crate::cases::Case;
 use crate::floors::{self, Costs, Rng, Step};
 use crate::groups;
@@ -104,6 +117,10 @@ impl Section {
                 &[Judge::Published, Judge::Altered, Judge::Counted, Judge::Model]
             }
             Some(("leg_without_sight", "altered")) => &[Judge::Published, Judge::Altered],
+            Some(("leg_field", "altered")) => &[Judge::Altered, Judge::Counted, Judge::Model],
+            Some(("leg_field_without_sight", "altered")) => {
+                &[Judge::Published, Judge::Altered, Judge::Counted, Judge::Model]
+            }
             Some((_, "altered")) => &[Judge::Altered],
             Some((_, "table")) => &[Judge::Table],
             Some((_, "model")) => &[Judge::Model],
@@ -168,15 +185,35 @@ pub fn sections() -> Vec<Section> {
         Section { name: "window_tour.table", length: 263, records: tours_refused(rng()) },
         Section { name: "arrivals.model", length: 203, records: arrivals_taken(rng()) },
         Section { name: "arrivals.table", length: 203, records: arrivals_refused(rng()) },
+        Section { name: "cart.model", length: 7171, records: carts_taken(rng()) },
+        Section { name: "cart.table", length: 7171, records: carts_refused(rng()) },
+        Section { name: "leg_field.altered", length: 2344, records: leg_fields(rng(), true, Judge::Altered) },
+        Section { name: "leg_field.model", length: 2344, records: leg_fields(rng(), true, Judge::Model) },
+        Section { name: "leg_field.table", length: 2344, records: leg_fields(rng(), true, Judge::Table) },
+        Section {
+            name: "leg_field_without_sight.altered",
+            length: 2344,
+            records: leg_fields(rng(), false, Judge::Altered),
+        },
+        Section {
+            name: "leg_field_without_sight.model",
+            length: 2344,
+            records: leg_fields(rng(), false, Judge::Model),
+        },
+        Section {
+            name: "leg_field_without_sight.table",
+            length: 2344,
+            records: leg_fields(rng(), false, Judge::Table),
+        },
     ]
 }
 
-fn wide(values: &[u32]) -> impl Iterator<Item = u8> {
+pub(crate) fn wide(values: &[u32]) -> impl Iterator<Item = u8> {
     values.iter().flat_map(|value| value.to_le_bytes())
 }
 
 /// Count, then 100 positions, then 100 corners of a byte each.
-fn list(field: &IntegrationField) -> impl Iterator<Item = u8> {
+pub(crate) fn list(field: &IntegrationField) -> impl Iterator<Item = u8> {
     let corners = field.los_corners.iter().map(|corner| *corner as u8);
     std::iter::once(field.count as u8).chain(field.positions).chain(corners)
 }

@@ -3,10 +3,12 @@
 
 use std::sync::LazyLock;
 
+use oracle::cases::Case;
+use oracle::groups;
 use oracle::judges::Judge;
 use oracle::model::{CLOSED, Model, Slip};
 use oracle::records::{Section, sections};
-use oracle::refusals::{FIELDLESS, NO_RANGE, NO_WINDOW_THERE, NOT_2_TO_8, ON_WALL};
+use oracle::refusals::{FIELDLESS, NO_RANGE, NO_STEP_THERE, NO_WINDOW_THERE, NOT_2_TO_8, ON_WALL};
 use oracle::subject::*;
 
 /// Reads a record from its start.
@@ -90,27 +92,38 @@ fn a_file_with_another_judge_says_so_in_its_name() {
     };
     // The last two by its parts, beside the altered one's.
     let parts = ["sector_without_sight.altered", "leg_without_sight.altered"];
-    assert_eq!(by(Judge::Published), [&["line", "readers", "build", "flow_new"], &parts[..]].concat());
+    let fields = ["leg_field.altered", "leg_field_without_sight.altered"];
+    assert_eq!(by(Judge::Published), [&["line", "readers", "build", "flow_new"], &parts[..], &fields[1..]].concat());
     let altered = ["line_end.altered", "init.altered", "flow_build.altered", "sector.altered", "leg.altered"];
-    assert_eq!(by(Judge::Altered), [&altered[..], &parts[..]].concat());
-    assert_eq!(by(Judge::Counted), ["build", "sector.altered", "sector_without_sight.altered"]);
+    assert_eq!(by(Judge::Altered), [&altered[..], &parts, &fields].concat());
+    let counted = ["build", "sector.altered", "sector_without_sight.altered"];
+    assert_eq!(by(Judge::Counted), [&counted[..], &fields].concat());
     let tables = ["init.table", "sector.table", "leg.table"];
     let without_sight = ["sector_without_sight.table", "leg_without_sight.table"];
     let others = ["refusals.table", "bounds.table"];
     let windows = ["window_costs.table", "window_tour.table", "arrivals.table"];
-    assert_eq!(by(Judge::Table), [&tables[..], &without_sight, &others, &windows].concat());
+    let carts = ["cart.table", "leg_field.table", "leg_field_without_sight.table"];
+    assert_eq!(by(Judge::Table), [&tables[..], &without_sight, &others, &windows, &carts].concat());
     let files = ["leg_file_write.model", "leg_file_read.model"];
     let floors = ["practice.model", "practice_text.model", "bounds.model"];
     let windows = ["window_costs.model", "window_tour.model", "arrivals.model"];
     // Of these, whose cells are the Rust's, the positions.
-    let positions = ["init.altered", "build", "sector.altered", "sector_without_sight.altered"];
+    let positions =
+        [&["init.altered", "build", "sector.altered", "sector_without_sight.altered"], &fields[..]].concat();
     let legs = ["leg.model", "sector_without_sight.altered", "leg_without_sight.model"];
-    assert_eq!(by(Judge::Model), [&positions[..3], &legs, &files, &floors, &windows].concat());
+    let [seen, unseen] = [
+        ["leg_field.altered", "leg_field.model"],
+        ["leg_field_without_sight.altered", "leg_field_without_sight.model"],
+    ];
+    let carts = [&["cart.model"], &seen[..], &unseen].concat();
+    assert_eq!(by(Judge::Model), [&positions[..3], &legs, &files, &floors, &windows, &carts].concat());
     let named = |judge: Judge, end: &str| {
         by(judge).iter().all(|name| name.ends_with(end) || (judge == Judge::Model && positions.contains(name)))
     };
     assert!(named(Judge::Altered, ".altered") && named(Judge::Table, ".table") && named(Judge::Model, ".model"));
-    assert!(!by(Judge::Published).iter().any(|name| name.contains('.') && !parts.contains(name)));
+    assert!(
+        !by(Judge::Published).iter().any(|name| name.contains('.') && ![&parts[..], &fields].concat().contains(name))
+    );
 }
 
 /// The sums are made from the records here, not by the program that replays them.
@@ -598,4 +611,107 @@ fn arrivals() {
 #[test]
 fn arrivals_show_every_slip() {
     show_every(slips_of("arrivals: "), "arrivals", arrivals_so);
+}
+
+/// The numbers of a record of moves and ways, and whether a model answers what it says.
+fn carts_so(model: &Model, r: &mut Reader) -> (Vec<u8>, bool) {
+    let length = r.short();
+    let [sheet] = listed(r, [length], [6401]);
+    let (mut numbers, mut agrees) = (Vec::new(), true);
+    for _ in 0..64 {
+        let [sector, cell] = [(); 2].map(|()| r.byte());
+        let made = CartMove { number: r.byte(), outcome: r.byte(), sector: r.byte(), cell: r.byte() };
+        let (number, outcome) = (r.byte(), r.byte());
+        let way = CartWay { number, outcome, sector: r.byte(), cell: r.byte(), moves: r.short() as u16 };
+        agrees &= model.next_move(sheet, sector, cell) == made && model.way(sheet, sector, cell) == way;
+        assert_eq!(made.number, way.number);
+        numbers.push(number);
+    }
+    numbers.sort();
+    numbers.dedup();
+    (numbers, agrees)
+}
+
+#[test]
+fn carts() {
+    each("cart.model", |r| assert_eq!(carts_so(&MODEL, r), (vec![0], true)));
+    let mut numbers = Vec::new();
+    each("cart.table", |r| {
+        let (found, agrees) = carts_so(&MODEL, r);
+        assert!(agrees);
+        numbers.push(found);
+    });
+    assert_eq!(numbers, [vec![4, 5], vec![2], vec![2]]);
+}
+
+/// The sample has moves and ways of every kind.
+#[test]
+fn carts_meet_every_kind() {
+    let mut met = Vec::new();
+    for record in &section("cart.model").records {
+        let sheet = record[2..6402].to_vec();
+        for place in record[6403..].chunks(12) {
+            for call in [Call::Move, Call::Way] {
+                let case = Case { sheet: sheet.clone(), cart: [place[0], place[1]], ..Case::of(call) };
+                met.extend(groups::met_by_cart(&case));
+            }
+        }
+    }
+    for kind in groups::move_kinds().into_iter().chain(groups::way_kinds()) {
+        assert!(met.contains(&kind), "not met: {kind}");
+    }
+}
+
+#[test]
+fn carts_show_every_slip() {
+    for (slip, text) in slips_of("move: ").into_iter().chain(slips_of("way: ")) {
+        let differs = |record: &Vec<u8>| !carts_so(&Model { slip: *slip }, &mut Reader(record)).1;
+        let files = ["cart.model", "cart.table"];
+        assert!(files.iter().any(|name| section(name).records.iter().any(differs)), "not shown: {text}");
+    }
+}
+
+fn field_of_step(sight: bool, model: &Model, r: &mut Reader) -> (u8, bool) {
+    let (length, steps, place) = (r.short(), usize::from(r.byte()), r.short());
+    let [steps] = listed(r, [steps], [136]);
+    let parts = r.bytes(1600);
+    let mut floor = vec![1; length];
+    for (step, part) in steps.chunks_exact(8).zip(parts.chunks(100)) {
+        let at = 100 * usize::from(step[0]);
+        if at + 100 <= length {
+            floor[at..at + 100].copy_from_slice(part);
+        }
+    }
+    let (number, waves) = (r.byte(), usize::from(r.byte()));
+    let list = r.list();
+    let answer = match sight {
+        true => model.leg_field(&floor, steps, place),
+        false => model.leg_field_without_sight(&floor, steps, place),
+    };
+    (number, answer == BuildAnswer { number, field: field(r.cells(), list), waves })
+}
+
+/// The number of a record of a leg's field, and whether a model answers what it says.
+fn leg_field_so(model: &Model, r: &mut Reader) -> (u8, bool) {
+    field_of_step(true, model, r)
+}
+
+fn leg_field_without_sight(model: &Model, r: &mut Reader) -> (u8, bool) {
+    field_of_step(false, model, r)
+}
+
+#[test]
+fn leg_fields() {
+    let refused = [1, 3, 4, 5, 6, 7, 8, 9, 10, ON_WALL, NO_STEP_THERE];
+    for (call, so) in [("leg_field", leg_field_so as NumberSo), ("leg_field_without_sight", leg_field_without_sight)] {
+        assert_eq!(numbers_in(&format!("{call}.altered"), so), [0]);
+        assert_eq!(numbers_in(&format!("{call}.model"), so), [0, CLOSED]);
+        assert_eq!(numbers_in(&format!("{call}.table"), so), refused);
+    }
+}
+
+#[test]
+fn leg_fields_show_every_slip() {
+    show_every(slips_of("leg field: "), "leg_field", leg_field_so);
+    show_every(slips_of("leg field without sight: "), "leg_field_without_sight", leg_field_without_sight);
 }

@@ -5,6 +5,7 @@ use std::fmt;
 
 use super::arrivals::any_byte;
 use super::good::{drawn, leg_case};
+use super::legs::leg_that_counts;
 use super::{Cases, Met};
 use crate::cases::Case;
 use crate::floors::Rng;
@@ -399,20 +400,44 @@ fn met_by_way(case: &Case) -> Vec<Cart> {
     [count, end].into_iter().chain(more.into_iter().filter(|(_, holds)| *holds).map(|(kind, _)| kind)).collect()
 }
 
-pub(super) fn met(case: &Case) -> Vec<Met> {
+/// What a move or a way that is taken meets.
+pub fn met(case: &Case) -> Vec<Met> {
     let found = if case.call() == Call::Move { met_by_move(case) } else { met_by_way(case) };
     found.into_iter().map(Met::Cart).collect()
 }
 
-/// A drawn move or way that meets a kind; those of 6,399 moves and of all places are among the longest ways.
-pub fn cart_that_meets(rng: &mut Rng, call: Call, kind: Met) -> Case {
-    if [Met::Cart(Cart::All6399), Met::Cart(Cart::WholeCircle)].contains(&kind) {
-        return longest_ways(call).find(|case| met(case).contains(&kind)).expect("one of the longest ways");
+/// Sheets of every kind, each with so many places: every byte once, at the edges of the floor and of sectors, among any bytes;
+/// the longest way to a goal, one into itself, and the circle of all places; one direction, circles, planned legs, arrows in any
+/// direction.
+pub fn some_carts(rng: &mut Rng, places: usize) -> Vec<(Vec<u8>, Vec<[u8; 2]>)> {
+    let near: Vec<Place> = NEAR.into_iter().flat_map(|column| NEAR.map(|row| (column, row))).collect();
+    let bytes = (0..4).map(|k| {
+        let mut sheet = any_bytes(rng);
+        near.iter().enumerate().for_each(|(at, place)| put(&mut sheet, *place, (64 * k + at * 37 % 64) as u8));
+        (sheet, near.iter().map(|place| named(*place)).collect())
+    });
+    let mut list: Vec<(Vec<u8>, Vec<[u8; 2]>)> = bytes.collect();
+    let mut with = |rng: &mut Rng, sheet: Vec<u8>, first: &[Place]| {
+        let drawn = std::iter::repeat_with(|| named(any_place(rng)));
+        let all = first.iter().map(|place| named(*place)).chain(drawn).take(places).collect();
+        list.push((sheet, all));
+    };
+    for (order, last) in [(snake_places(false, false), 0x70), (snake_places(true, true), 0x14), (circle_places(), 0x12)]
+    {
+        with(rng, along(&order, last, 0), &[order[0], order[1], order[3200], order[6398], order[6399]]);
     }
-    loop {
-        let case = drawn_cart(rng, call);
-        if met(&case).contains(&kind) {
-            return case;
-        }
+    for draw in [one_direction, one_direction, circle, circle, long_way] {
+        let (sheet, place) = draw(rng);
+        with(rng, sheet, &[place]);
     }
+    for sight in [true, false] {
+        let leg = leg_that_counts(rng, 4);
+        let mut sheet = any_bytes(rng);
+        Model::PLAIN.leg_by(sight, &leg.costs, &leg.steps, &mut sheet);
+        let first: Vec<Place> = (0..48).map(|k| place_of(leg.steps[8 * (k % 4)], rng.below(CELLS) as u8)).collect();
+        with(rng, sheet, &first);
+    }
+    let arrows = (0..6400).map(|_| any_byte(rng)).collect();
+    with(rng, arrows, &[]);
+    list
 }

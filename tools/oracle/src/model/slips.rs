@@ -538,7 +538,6 @@ impl Slip {
         Slip::MoveSectorsByColumns,
         Slip::MoveCellsByColumns,
         Slip::MoveSectorAlone,
-        Slip::MoveCrossesStraightOnly,
         Slip::MovePortalStands,
         Slip::MoveDiagonalsStraight,
         Slip::MoveSightBeforeGoal,
