@@ -1,6 +1,10 @@
 // The records of legs.
+use crate::integration::same_build;
+use integration_field::BuildAnswer;
 use records::byte_at;
+use records::front;
 use records::part;
+use records::short_at;
 use records::size_at;
 ghost use Prim.Native.Nat.{_≤_};
 ghost use lib.ListN.{length};
@@ -46,4 +50,24 @@ pub fn leg_agrees(record: &[u8], sight: bool) -> bool {
     let mut sheet = [0x55u8; 6400];
     let number = plan_by_sight(sight, &floor, steps, &mut sheet);
     number == byte_at(record, 1729) && check::same(&sheet, &expected)
+}
+
+// The field of a leg's step, with the sight of the leg's goal or without.
+fn field_by_sight(sight: bool, floor: &[u8], steps: &[u8], place: usize) -> BuildAnswer {
+    if sight {
+        return leg_field::leg_field(floor, steps, place);
+    }
+    leg_field::leg_field_without_sight(floor, steps, place)
+}
+
+// A record: length of the floor in 16 bits, length of the steps, place in 16 bits, 136 bytes for the steps, 16 times 100
+// costs; number, waves, field.
+pub fn field_agrees(record: &[u8], sight: bool) -> bool {
+    let length = size_at(record, 2);
+    let steps = part(record, 5, 5 + length);
+    let mut costs = [1u8; 6401];
+    let floor = front(&mut costs, short_at(record, 0, 1));
+    put_sectors(floor, steps, part(record, 141, 141 + 100 * (length / 8)));
+    let answer = field_by_sight(sight, floor, steps, short_at(record, 3, 4));
+    same_build(answer, part(record, 1741, 2344))
 }

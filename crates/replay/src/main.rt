@@ -1,6 +1,7 @@
 // Compares our calls with recorded answers, a file for each section: prints how many records agree and a sum of all
 // their bytes, or the first record that differs. The answers are the published Rust's; a file that has another judge has
 // its name behind a dot: the Rust altered in two rules, the table of refusals, or the model.
+mod carts;
 mod files;
 mod floors;
 mod flow;
@@ -41,6 +42,9 @@ fn agrees(section: u8, record: &[u8]) -> bool {
         17 => flow::arrivals_agree(record),
         18 => integration::sector_agrees(record, false),
         19 => legs::leg_agrees(record, false),
+        20 => carts::carts_agree(record),
+        21 => legs::field_agrees(record, true),
+        22 => legs::field_agrees(record, false),
         _ => false,
     }
 }
@@ -89,7 +93,7 @@ fn print_tally(name: &[u8], counted: Tally) {
 
 // Replays a section, whose records are this long.
 fn replay(section: u8, name: &[u8], length: usize) {
-    let mut longest = [0u8; 3330];
+    let mut longest = [0u8; 7171];
     let file = os::open_read(name);
     let counted = compare(section, file, records::front(&mut longest, length));
     libc::close(file);
@@ -128,4 +132,12 @@ fn main() {
     replay(16, b"window_tour.table", 263);
     replay(17, b"arrivals.model", 203);
     replay(17, b"arrivals.table", 203);
+    replay(20, b"cart.model", 7171);
+    replay(20, b"cart.table", 7171);
+    replay(21, b"leg_field.altered", 2344);
+    replay(21, b"leg_field.model", 2344);
+    replay(21, b"leg_field.table", 2344);
+    replay(22, b"leg_field_without_sight.altered", 2344);
+    replay(22, b"leg_field_without_sight.model", 2344);
+    replay(22, b"leg_field_without_sight.table", 2344);
 }
