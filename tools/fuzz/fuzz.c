@@ -21,14 +21,20 @@
  * sector with a goal each cell has the least cost of a walk from the goal, found once more in rounds, whose number is the wave
  * count, the position and the mark that it must have, and, with no cost 0, arrows that are followed to the goal in at most 99
  * moves, each to a lower cost, as many as arrivals say; the arrows of a planned leg are followed to the goal from every reached
- * cell of every sector, in at most 99 moves in each sector and one across each window. A fault, and a run in
+ * cell of every sector, in at most 99 moves in each sector and one across each window. Over a sheet, drawn or planned, a cart's
+ * move goes where the floor's columns and rows lead, and its way is that of moves one after the other, or never where they come
+ * again to a place; each move that is followed is the one that the call answers, and the way from a reached cell of a leg without
+ * sight arrives at the goal. The field of a leg's step has the leg's number, or 21 for a place beyond the list; the first is the
+ * sector call's, and a later one is what is built from the window cells that count behind the field before. A fault, and a run in
  * which no call was accepted or none refused, no leg of several steps planned, none refused with 15, no arrow followed, no
  * diagonal one looked at, init, the sector call, a leg, bounds or window costs never refused with 16, the sector call never
  * with 17, bounds never with 18, window costs never with 19 or 20, no cell sure, no position looked at with and without an
  * earlier corner, no window reached or none cut off from another, no tour found or none with another order than the listed
  * one, no cell that arrives after a move, none that never does or none that has to in a sector left by a window, no window
  * planned without sight, no cell followed to the goal in a sector and in a leg without sight, none of them that never arrives
- * with sight, or no practice floor with all three costs, is one line on standard error and exit status 1.
+ * with sight, no move with one of the four outcomes, no way that ends after a hundred moves or none that never does, no field
+ * of a later step, with all cells of its window counting and with some, none refused with 15 or 21, or no practice floor with
+ * all three costs, is one line on standard error and exit status 1.
  */
 #define _DEFAULT_SOURCE
 #include <stdio.h>
@@ -187,6 +193,7 @@ static unsigned long accepted, turned_away, planned, closed, followed, diagonal,
     positioned, earliest;
 static unsigned long miscounted, misplaced, ways_met[2], toured, reordered, arriving, lost, led;
 static unsigned long alike, home, saved, leg_home;
+static unsigned long outcomes[4], long_ways, never_ways, later_fields[2], closed_fields, misplaced_fields;
 
 static void tallied(uint8_t number)
 {
@@ -388,10 +395,12 @@ typedef struct {
     int column, row;
 } Cart;
 
-/* Moves a cart by its arrow. A byte with all of 0xE0 is a cell that is not reached. */
+/* Moves a cart by its arrow, as the call for a move does. A byte with all of 0xE0 is a cell that is not reached. */
 static void drive(Cart *cart)
 {
-    uint8_t byte = cart->sheet->at[byte_of(cart->column, cart->row)];
+    int from = byte_of(cart->column, cart->row);
+    HanjolumMove move = hanjolum_move(cart->sheet->at, cart->sheet->length, (uint8_t)(from / 100), (uint8_t)(from % 100));
+    uint8_t byte = cart->sheet->at[from];
     if ((byte & 0xE0) == 0xE0 || (byte & 0x0F) == 0)
         fail("an arrow leads to a cell that is not reached, or to one without an arrow");
     cart->column += (byte >> 1 & 1) - (byte >> 3 & 1);
@@ -399,6 +408,8 @@ static void drive(Cart *cart)
     if (cart->column < 0 || cart->column > 79 || cart->row < 0 || cart->row > 79
         || cart->costs->at[byte_of(cart->column, cart->row)] == HANJOLUM_WALL)
         fail("an arrow leads off the floor or into a wall");
+    if (move.number != 0 || move.outcome != HANJOLUM_OUTCOME_MOVED || 100 * move.sector + move.cell != byte_of(cart->column, cart->row))
+        fail("a move goes elsewhere than the arrow that is followed");
     int sector = byte_of(cart->column, cart->row) / 100;
     if (cart->k > 0 && sector == cart->route->at[8 * (cart->k - 1)])
         cart->k--;
@@ -420,12 +431,16 @@ static void follow_in(Cart cart)
 /* Follows arrows to the goal, in at most 99 moves in each sector and one across each window. */
 static void follow_home(Cart cart)
 {
-    int goal = 100 * cart.route->at[0] + cart.route->at[1];
-    for (size_t left = 99 * (cart.k + 1) + cart.k; byte_of(cart.column, cart.row) != goal; left--) {
+    int goal = 100 * cart.route->at[0] + cart.route->at[1], from = byte_of(cart.column, cart.row);
+    HanjolumWay way = hanjolum_way(cart.sheet->at, cart.sheet->length, (uint8_t)(from / 100), (uint8_t)(from % 100));
+    size_t moves = 0;
+    for (size_t left = 99 * (cart.k + 1) + cart.k; byte_of(cart.column, cart.row) != goal; left--, moves++) {
         if (left == 0)
             fail("arrows of a leg without sight do not come to the goal in 99 moves in each sector and one across each window");
         drive(&cart);
     }
+    if (way.outcome != HANJOLUM_OUTCOME_ARRIVED || 100 * way.sector + way.cell != goal || way.moves != moves)
+        fail("a way over a leg without sight does not arrive at the goal");
     leg_home++;
 }
 
@@ -469,6 +484,155 @@ static void sectors_of(const Fenced *costs, const Fenced *route, const Fenced *s
             fail("a leg wrote a sector that it does not name");
 }
 
+/* Where a byte of a floor's sheet leads: the place's byte, or -1 for none. */
+static int led_to(uint8_t byte, int from)
+{
+    int north = byte & 1, east = byte >> 1 & 1, south = byte >> 2 & 1, west = byte >> 3 & 1;
+    int column = from / 100 % 8 * 10 + from % 10 + east - west, row = from / 800 * 10 + from % 100 / 10 + south - north;
+    if ((byte & 15) == 0 || (north && south) || (east && west))
+        return -1;
+    return column < 0 || column > 79 || row < 0 || row > 79 ? -1 : byte_of(column, row);
+}
+
+/* What a byte that leads nowhere is answered with. */
+static uint8_t still(uint8_t byte)
+{
+    return hanjolum_is_goal(byte)             ? HANJOLUM_OUTCOME_ARRIVED
+           : hanjolum_has_line_of_sight(byte) ? HANJOLUM_OUTCOME_IN_SIGHT
+                                              : HANJOLUM_OUTCOME_STOPPED;
+}
+
+/* The way that moves one after the other make from a place of a sheet of 6,400 bytes. */
+static HanjolumWay told_way(const uint8_t *sheet, int from)
+{
+    uint8_t passed[HANJOLUM_FLOOR] = {0};
+    int at = from, next;
+    uint16_t moves = 0;
+    for (; (next = led_to(sheet[at], at)) >= 0; at = next, moves++) {
+        passed[at] = 1;
+        if (passed[next])
+            return (HanjolumWay){0, HANJOLUM_OUTCOME_NEVER, (uint8_t)(from / 100), (uint8_t)(from % 100), 0};
+    }
+    return (HanjolumWay){0, still(sheet[at]), (uint8_t)(at / 100), (uint8_t)(at % 100), moves};
+}
+
+/* A cart over a sheet of any length, at any sector and cell. */
+static void a_cart(const Fenced *sheet)
+{
+    uint8_t sector = (uint8_t)(below(8) ? below(64) : 60 + below(196)), cell = (uint8_t)(below(8) ? below(100) : 96 + below(160));
+    uint8_t due = sheet->length != HANJOLUM_FLOOR ? 2 : sector > 63 ? 4 : cell > 99 ? 5 : 0;
+    HanjolumMove move = hanjolum_move(sheet->at, sheet->length, sector, cell);
+    HanjolumWay way = hanjolum_way(sheet->at, sheet->length, sector, cell);
+    counted(move.number);
+    counted(way.number);
+    if (move.number != due || way.number != due)
+        fail("a cart's call has another number than its sheet and its place give");
+    if (due != 0) {
+        if (move.outcome || move.sector || move.cell || way.outcome || way.sector || way.cell || way.moves)
+            fail("a refused cart is not zero");
+        return;
+    }
+    int from = 100 * sector + cell, next = led_to(sheet->at[from], from), to = next < 0 ? from : next;
+    if (move.outcome != (next < 0 ? still(sheet->at[from]) : HANJOLUM_OUTCOME_MOVED) || 100 * move.sector + move.cell != to)
+        fail("a move goes elsewhere than the floor's columns and rows lead");
+    HanjolumWay told = told_way(sheet->at, from);
+    if (way.outcome != told.outcome || way.sector != told.sector || way.cell != told.cell || way.moves != told.moves)
+        fail("a way is not that of moves one after the other");
+    outcomes[move.outcome]++;
+    long_ways += way.moves >= 100;
+    never_ways += way.outcome == HANJOLUM_OUTCOME_NEVER;
+}
+
+/* A sheet of arrows, one direction in each of four parts of the floor, with few bytes made any; then a cart over it. */
+static void a_cart_among_arrows(Fenced *sheet)
+{
+    static const uint8_t directions[] = {1, 2, 4, 8, 3, 6, 12, 9};
+    int column = (int)below(80), row = (int)below(80);
+    uint8_t parts[4];
+    for (int i = 0; i < 4; i++)
+        parts[i] = (uint8_t)(0x10 + directions[below(8)]);
+    for (int i = 0; i < HANJOLUM_FLOOR && sheet->length == HANJOLUM_FLOOR; i++)
+        sheet->at[byte_of(i % 80, i / 80)] = parts[(i % 80 < column) + 2 * (i / 80 < row)];
+    for (int i = (int)below(8); i > 0 && sheet->length > 0; i--)
+        sheet->at[below((uint32_t)sheet->length)] = (uint8_t)draw();
+    a_cart(sheet);
+}
+
+static int same_built(const HanjolumBuildAnswer *a, const HanjolumBuildAnswer *b)
+{
+    return a->number == b->number && a->waves == b->waves && a->field.count == b->field.count
+           && memcmp(a->field.field, b->field.field, sizeof a->field.field) == 0
+           && memcmp(a->field.los_corners, b->field.los_corners, sizeof a->field.los_corners) == 0
+           && memcmp(a->field.positions, b->field.positions, sizeof a->field.positions) == 0;
+}
+
+/* A sector started by hand from those cells of a step's window that count: some facing cell that it compares is reached in the
+   field before. */
+static HanjolumIntegrationField started_by_hand(const uint8_t *costs, const uint8_t *step, const uint32_t *facing)
+{
+    static const int ACROSS[4] = {90, -9, -90, 9};
+    HanjolumIntegrationField f = {0};
+    int stride = step[5] % 2 ? 10 : 1, across = ACROSS[step[5]];
+    for (int i = 0; i < HANJOLUM_CELLS; i++) {
+        f.field[i] = costs[i] == HANJOLUM_WALL ? HANJOLUM_FIELD_IMPASSABLE + 65535u : 65535u;
+        f.positions[i] = NO_POSITION;
+    }
+    for (int cell = step[3]; cell <= step[4]; cell += stride) {
+        int counts = 0;
+        for (int beside = cell - stride; beside <= cell + stride; beside += stride)
+            counts |= beside >= step[3] && beside <= step[4] && (facing[beside + across] & HANJOLUM_FIELD_COST) != 65535;
+        if (counts) {
+            f.field[cell] = HANJOLUM_FIELD_PORTAL;
+            f.los_corners[f.count++] = (size_t)cell;
+        }
+    }
+    return f;
+}
+
+static HanjolumBuildAnswer field_at(bool sight, const Fenced *costs, const Fenced *route, size_t place)
+{
+    return sight ? hanjolum_leg_field(costs->at, costs->length, route->at, route->length, place)
+                 : hanjolum_leg_field_without_sight(costs->at, costs->length, route->at, route->length, place);
+}
+
+/* What the field of a leg's step has to be that is taken. */
+static HanjolumBuildAnswer due_field(bool sight, const Fenced *costs, const Fenced *route, size_t place)
+{
+    uint8_t part[HANJOLUM_CELLS];
+    const uint8_t *step = route->at + 8 * place, *own = costs->at + 100 * step[0];
+    if (place == 0)
+        return sight ? hanjolum_sector(own, 100, step, 8, false, NULL, 0, part, sizeof part)
+                     : hanjolum_sector_without_sight(own, 100, step, 8, false, NULL, 0, part, sizeof part);
+    HanjolumBuildAnswer previous = field_at(sight, costs, route, place - 1);
+    HanjolumIntegrationField given = started_by_hand(own, step, previous.field.field);
+    size_t window = (size_t)(step[4] - step[3]) / (step[5] % 2 ? 10 : 1) + 1;
+    later_fields[given.count < window]++;
+    return hanjolum_build(own, 100, given);
+}
+
+/* The field of a leg's step, at a place of the list or beyond it. */
+static void a_leg_field(bool sight, const Fenced *costs, const Fenced *route)
+{
+    static uint8_t whole[HANJOLUM_FLOOR];
+    size_t steps = route->length / 8, place = below(4) ? below((uint32_t)steps + 1) : (size_t)draw() << below(40);
+    uint8_t due = sight ? hanjolum_leg(costs->at, costs->length, route->at, route->length, whole, sizeof whole)
+                        : hanjolum_leg_without_sight(costs->at, costs->length, route->at, route->length, whole, sizeof whole);
+    if (place >= steps && due != 1 && due != 3)
+        due = 21;
+    HanjolumBuildAnswer a = field_at(sight, costs, route, place);
+    counted(a.number);
+    refused(a.number, a.field, a.waves);
+    if (a.number != due)
+        fail("the field of a leg's step has another number than the leg, or than its place gives");
+    closed_fields += due == 15;
+    misplaced_fields += due == 21;
+    if (due != 0)
+        return;
+    HanjolumBuildAnswer b = due_field(sight, costs, route, place);
+    if (!same_built(&a, &b))
+        fail("the field of a leg's step is not the one that is built from the window cells that count");
+}
+
 /* The leg without sight, on what the leg with sight was lent, and with the number that it had. */
 static void a_leg_without_sight(const Fenced *costs, const Fenced *route, Fenced *sheet, uint8_t with)
 {
@@ -500,7 +664,12 @@ static void a_leg(const Fenced *costs, const Fenced *route, Fenced *sheet)
         sectors_of(costs, route, sheet);
         journeys(costs, route, sheet, 1, follow_in);
     }
+    a_cart(sheet);
     a_leg_without_sight(costs, route, sheet, number);
+    a_cart(sheet);
+    a_cart_among_arrows(sheet);
+    a_leg_field(true, costs, route);
+    a_leg_field(false, costs, route);
 }
 
 /* A practice floor: every seed is taken, and a step to its goal too. */
@@ -941,13 +1110,6 @@ static void a_goal_alone(const uint8_t *costs, int goal, const HanjolumBuildAnsw
     }
 }
 
-static int same_built(const HanjolumBuildAnswer *a, const HanjolumBuildAnswer *b)
-{
-    const HanjolumIntegrationField *f = &a->field, *g = &b->field;
-    return memcmp(f->field, g->field, sizeof f->field) == 0 && memcmp(f->los_corners, g->los_corners, sizeof f->los_corners) == 0
-        && f->count == g->count && memcmp(f->positions, g->positions, sizeof f->positions) == 0 && a->waves == b->waves;
-}
-
 /* The sector call without sight, on what the call with sight was lent; `sighted` are the arrivals of what that call wrote. */
 static void without_sight(const Fenced *costs, const Fenced *route, const Fenced *previous, bool has, Fenced *sheet,
                           const HanjolumBuildAnswer *with, const HanjolumArrivals *sighted)
@@ -1088,6 +1250,12 @@ static void report(unsigned long rounds)
         fail("no cell arrives after a move, none never does, or none was looked at in a sector left by a window");
     if (alike == 0 || home == 0 || saved == 0 || leg_home == 0)
         fail("without sight no window was planned, no arrow was followed to the goal in a sector or a leg, or none that never arrives with sight");
+    if (outcomes[0] == 0 || outcomes[1] == 0 || outcomes[2] == 0 || outcomes[3] == 0)
+        fail("no cart moved, or none stood still with one of the three outcomes");
+    if (long_ways == 0 || never_ways == 0)
+        fail("no way ended after a hundred moves, or none never did");
+    if (later_fields[0] == 0 || later_fields[1] == 0 || closed_fields == 0 || misplaced_fields == 0)
+        fail("no field of a later step was built, with all cells of its window or with some, or none was refused with 15 or 21");
     printf("%lu rounds of calls, %lu accepted and %lu refused, %lu legs of several steps planned and %lu refused with 15, "
            "arrows followed from %lu cells to the goal's sector, %lu diagonal arrows looked at, "
            "%lu init, %lu sector calls, %lu legs, %lu bounds and %lu window costs refused with 16, %lu sector calls with 17, "
@@ -1095,10 +1263,13 @@ static void report(unsigned long rounds)
            "%lu tours, %lu of them in another order than listed, %lu cells that arrive after a move and %lu that never do, "
            "%lu that have to, in sectors left by a window, without sight %lu windows planned alike, %lu cells of goals' sectors "
            "followed to the goal, %lu of them cells that never arrive with sight, and %lu cells of legs, %lu sure cells, %lu practice floors, "
-           "%lu positions looked at and %lu of them beside an earlier corner, nothing found\n",
+           "%lu positions looked at and %lu of them beside an earlier corner, carts moved %lu, arrived %lu, in sight %lu and stopped %lu, "
+           "%lu ways of a hundred moves or more and %lu that never end, fields of later steps %lu with all cells of the window and "
+           "%lu with some, %lu refused with 15 and %lu with 21, nothing found\n",
            rounds, accepted, turned_away, planned, closed, followed, diagonal, on_wall[0], on_wall[1], on_wall[2],
            on_wall[3], on_wall[4], fieldless, unranged, miscounted, misplaced, ways_met[0], ways_met[1], toured,
-           reordered, arriving, lost, led, alike, home, saved, leg_home, sure, practised, positioned, earliest);
+           reordered, arriving, lost, led, alike, home, saved, leg_home, sure, practised, positioned, earliest, outcomes[1],
+           outcomes[2], outcomes[3], outcomes[0], long_ways, never_ways, later_fields[0], later_fields[1], closed_fields, misplaced_fields);
     written();
 }
 
