@@ -1,7 +1,8 @@
 /*
- * The deepest stack of a leg and of a goal's sector, with sight and without, of a call for window costs, of one for a tour and
- * of one for arrivals: plans legs of sixteen steps and their goals' sectors, asks for the costs of eight windows and the best of
- * all their orders, and for the arrivals of the leg's goal sector, on a painted stack and looks how far down the paint is gone.
+ * The deepest stack of a leg, of the field of its last step and of a goal's sector, with sight and without, of a call for window
+ * costs, of one for a tour, of one for arrivals, and of a cart's move and way: plans legs of sixteen steps and their goals'
+ * sectors, asks for the costs of eight windows and the best of all their orders, for the arrivals of the leg's goal sector, and
+ * for a move and a way from the leg's last sector, on a painted stack and looks how far down the paint is gone.
  * The floors are hard: sectors are changed cell by cell, and a change is kept where the waves do not become fewer and the
  * next step can still be planned. A leg without sight has floors of its own, hard for planning without sight. The windows are
  * those of a hard sector: its own and seven more cells of its edges.
@@ -120,6 +121,15 @@ static void *plan_goal(void *costs)
     return costs;
 }
 
+static void *field_of_last(void *unused)
+{
+    size_t last = HANJOLUM_STEPS - 1;
+    before = (uintptr_t)__builtin_frame_address(0);
+    number = sight ? hanjolum_leg_field(floor_costs, sizeof floor_costs, steps, sizeof steps, last).number
+                   : hanjolum_leg_field_without_sight(floor_costs, sizeof floor_costs, steps, sizeof steps, last).number;
+    return unused;
+}
+
 static void *cost_windows(void *sector)
 {
     before = (uintptr_t)__builtin_frame_address(0);
@@ -139,6 +149,20 @@ static void *follow(void *planned)
     before = (uintptr_t)__builtin_frame_address(0);
     number = hanjolum_arrivals(planned, HANJOLUM_CELLS).number;
     return planned;
+}
+
+static void *move_on(void *sector)
+{
+    before = (uintptr_t)__builtin_frame_address(0);
+    number = hanjolum_move(sheet, sizeof sheet, *(uint8_t *)sector, 44).number;
+    return sector;
+}
+
+static void *move_to_end(void *sector)
+{
+    before = (uintptr_t)__builtin_frame_address(0);
+    number = hanjolum_way(sheet, sizeof sheet, *(uint8_t *)sector, 44).number;
+    return sector;
 }
 
 /* A window step and seven windows of one cell behind it, of cells on the edges that are no walls; whether there are as
@@ -185,7 +209,7 @@ static void deeper(size_t *deepest, size_t used)
 }
 
 /* The deepest of each call, of all floors so far, and the most waves of a sector; the first of a pair is with sight. */
-static size_t of_legs[2], of_goals[2], of_windows, of_tours, of_arrivals;
+static size_t of_legs[2], of_fields[2], of_goals[2], of_windows, of_tours, of_arrivals, of_moves, of_ways;
 static long most[2];
 
 /* Makes a floor for a leg, every fourth of its sectors hard, and measures the calls for windows there. */
@@ -214,7 +238,10 @@ static void measure(uint8_t *stack)
         goal_sector = floor_costs + steps[0] * HANJOLUM_CELLS;
         deeper(&of_goals[!sight], depth(stack, plan_goal, goal_sector));
         deeper(&of_legs[!sight], depth(stack, plan, NULL));
+        deeper(&of_fields[!sight], depth(stack, field_of_last, NULL));
         deeper(&of_arrivals, depth(stack, follow, sheet + steps[0] * HANJOLUM_CELLS));
+        deeper(&of_moves, depth(stack, move_on, steps + (HANJOLUM_STEPS - 1) * HANJOLUM_STEP));
+        deeper(&of_ways, depth(stack, move_to_end, steps + (HANJOLUM_STEPS - 1) * HANJOLUM_STEP));
     }
 }
 
@@ -235,8 +262,10 @@ int main(int argc, char **argv)
     if (of_windows == 0)
         fail("no call for window costs was made");
     printf("%zu bytes of stack at most for a leg, with %ld waves, %zu without sight, with %ld; %zu for a goal's sector, %zu without "
-           "sight; %zu for window costs, %zu for a tour, %zu for arrivals\n",
-           of_legs[0], most[0], of_legs[1], most[1], of_goals[0], of_goals[1], of_windows, of_tours, of_arrivals);
+           "sight; %zu for the field of a leg's step, %zu without sight; %zu for window costs, %zu for a tour, %zu for arrivals, "
+           "%zu for a move, %zu for a way\n",
+           of_legs[0], most[0], of_legs[1], most[1], of_goals[0], of_goals[1], of_fields[0], of_fields[1], of_windows, of_tours,
+           of_arrivals, of_moves, of_ways);
     if (fflush(stdout) != 0)
         fail("standard output cannot be written");
     return 0;

@@ -27,10 +27,13 @@ struct input {
     HanjolumIntegrationField started, built;
     uint8_t fresh[HANJOLUM_CELLS];      /* the built field's first flow bytes */
     uint8_t planned[HANJOLUM_CELLS];    /* all of them */
+    uint8_t driven[HANJOLUM_FLOOR];     /* the leg's sheet, planned without sight */
+    uint8_t from[2];                    /* sector and cell of the leg's last sector with the longest way */
 };
 
 static struct input inputs[INPUTS];
 static uint8_t sheet[HANJOLUM_FLOOR];
+static uint8_t snake[HANJOLUM_FLOOR];   /* row after row, to and fro, over the whole floor: 6,399 moves */
 static uint32_t zeros[HANJOLUM_CELLS];
 static volatile unsigned sink;
 
@@ -96,9 +99,42 @@ static uint32_t make_leg(struct input *input, uint32_t seed)
     return seed;
 }
 
+static void make_snake(void)
+{
+    for (int i = 0; i < HANJOLUM_FLOOR; i++) {
+        int column = i % 80, row = i / 80, right = row % 2 == 0;
+        uint8_t byte = column == (right ? 79 : 0) ? HANJOLUM_FLOW_SOUTH : right ? HANJOLUM_FLOW_EAST : HANJOLUM_FLOW_WEST;
+        snake[100 * (row / 10 * 8 + column / 10) + row % 10 * 10 + column % 10] = byte;
+    }
+    if (hanjolum_way(snake, HANJOLUM_FLOOR, 0, 0).moves != 6399) {
+        fprintf(stderr, "time: the longest way has another number of moves\n");
+        exit(1);
+    }
+}
+
+/* The leg's sheet without sight, and where its longest way begins in the last sector. */
+static void make_driven(struct input *input)
+{
+    unsigned most = 0;
+    hanjolum_leg_without_sight(input->floor, HANJOLUM_FLOOR, input->steps, sizeof input->steps, input->driven, HANJOLUM_FLOOR);
+    input->from[0] = input->steps[(HANJOLUM_STEPS - 1) * HANJOLUM_STEP];
+    for (uint8_t cell = 0; cell < HANJOLUM_CELLS; cell++) {
+        HanjolumWay way = hanjolum_way(input->driven, HANJOLUM_FLOOR, input->from[0], cell);
+        if (way.outcome == HANJOLUM_OUTCOME_ARRIVED && way.moves > most) {
+            most = way.moves;
+            input->from[1] = cell;
+        }
+    }
+    if (most < HANJOLUM_STEPS) {
+        fprintf(stderr, "time: no way leads through a leg\n");
+        exit(1);
+    }
+}
+
 static void make_inputs(void)
 {
     uint32_t seed = 1;
+    make_snake();
     for (int i = 0; i < INPUTS; i++) {
         struct input *input = &inputs[i];
         HanjolumPracticeFloor floor = hanjolum_practice_floor(seed = leap(seed));
@@ -115,6 +151,7 @@ static void make_inputs(void)
         hanjolum_flow_new(input->goal, HANJOLUM_STEP, input->built, false, NULL, 0, input->fresh, HANJOLUM_CELLS);
         memcpy(input->planned, input->fresh, HANJOLUM_CELLS);
         hanjolum_flow_build(input->built, input->planned, HANJOLUM_CELLS);
+        make_driven(input);
     }
 }
 
@@ -131,6 +168,13 @@ CALL(arrivals, hanjolum_arrivals(in->planned, HANJOLUM_CELLS).number)
 CALL(leg, hanjolum_leg(in->floor, HANJOLUM_FLOOR, in->steps, sizeof in->steps, sheet, HANJOLUM_FLOOR))
 CALL(leg_without_sight,
      hanjolum_leg_without_sight(in->floor, HANJOLUM_FLOOR, in->steps, sizeof in->steps, sheet, HANJOLUM_FLOOR))
+CALL(leg_field,
+     hanjolum_leg_field(in->floor, HANJOLUM_FLOOR, in->steps, sizeof in->steps, HANJOLUM_STEPS - 1).number)
+CALL(leg_field_without_sight,
+     hanjolum_leg_field_without_sight(in->floor, HANJOLUM_FLOOR, in->steps, sizeof in->steps, HANJOLUM_STEPS - 1).number)
+CALL(move, hanjolum_move(in->driven, HANJOLUM_FLOOR, (uint8_t)(i % 64), (uint8_t)(i / 7 % 100)).number)
+CALL(way, hanjolum_way(in->driven, HANJOLUM_FLOOR, in->from[0], in->from[1]).number)
+CALL(longest_way, hanjolum_way(snake, HANJOLUM_FLOOR, 0, 0).number)
 CALL(bounds, hanjolum_bounds(COSTS, in->high, HANJOLUM_CELLS, in->window, HANJOLUM_STEP).number)
 CALL(window_costs, hanjolum_window_costs(COSTS, in->windows, sizeof in->windows).number)
 CALL(window_tour, hanjolum_window_tour(COSTS, in->windows, sizeof in->windows, 65535).number)
@@ -157,6 +201,11 @@ static const struct { const char *name; unsigned (*call)(struct input *, unsigne
     {"hanjolum_window_tour, eight windows, all orders", window_tour, 1},
     {"hanjolum_leg, sixteen steps", leg, 1},
     {"hanjolum_leg_without_sight, sixteen steps", leg_without_sight, 1},
+    {"hanjolum_leg_field, the last of sixteen steps", leg_field, 1},
+    {"hanjolum_leg_field_without_sight, the same", leg_field_without_sight, 1},
+    {"hanjolum_move", move, SMALL},
+    {"hanjolum_way, over sixteen sectors", way, 1},
+    {"hanjolum_way, the longest", longest_way, 1},
     {"hanjolum_leg_file_write, sixteen steps", leg_file_write, SMALL},
     {"hanjolum_leg_file_read, sixteen steps", leg_file_read, SMALL},
     {"hanjolum_practice_floor", practice_floor, 1},
