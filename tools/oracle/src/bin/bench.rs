@@ -2,7 +2,8 @@
 //! one run; our leg against its sector calls, where every window cell counts, and by itself, where some do not; our sector
 //! call and our leg without sight, which the Rust does not have, against those with sight; our bounds
 //! against the Rust's `init` and `build` on both floors; our costs from window to window against the Rust's `init` and
-//! `build` for each window, our tours against these, and our arrivals against the sector calls that write their sheets. The
+//! `build` for each window, our tours against these, our arrivals against the sector calls that write their sheets, our fields
+//! of a leg's steps against the leg, and a cart's moves and ways by themselves. The
 //! Rust is the copy altered as document 02, Jobs 7 and 11 ask, which writes the same bytes. A few inputs are timed at once,
 //! and of many rounds the least time counts: another program that runs adds to a time and never takes from it. Of the sector
 //! call the medians are compared too.
@@ -19,7 +20,7 @@ use altered::flowfields::route::RouteStep;
 use oracle::command;
 use oracle::copies::altered::{cost_field, route_step, window_cells};
 use oracle::floors::{self, Rng, Step};
-use oracle::groups::snakes;
+use oracle::groups::{longest_ways, snakes};
 use oracle::library::Library;
 use oracle::model::Model;
 use oracle::oracle::rust_built;
@@ -495,6 +496,79 @@ fn arrivals() {
     }
 }
 
+fn leg_fields() {
+    println!(
+        "nanoseconds a field of a leg of 16 steps, at the first place, the ninth and the last, and without sight at the last,"
+    );
+    println!("beside the leg: {LEGS} floors, the least of {ROUNDS} rounds");
+    println!("{:<14} {:>9} {:>9} {:>9} {:>9} {:>9}", "", "leg", "first", "ninth", "last", "without");
+    for (name, wanted) in [("random floor", Floor::Counting), ("open floor", Floor::Open), ("gaps", Floor::Gaps)] {
+        let (legs, mut sheet) = (drawn_legs(wanted), vec![0x55; 64 * CELLS]);
+        let mut times: [Times; 5] = Default::default();
+        let field = |leg: &Leg, place: usize| black_box(Library.leg_field(&leg.floor, &leg.steps, place)).number;
+        let without = |leg: &Leg| black_box(Library.leg_field_without_sight(&leg.floor, &leg.steps, 15)).number;
+        assert!(legs.iter().all(|leg| field(leg, 15) == 0 && without(leg) == 0), "the leg is planned");
+        for _ in 0..ROUNDS {
+            times[0].round(&legs, 1, |leg| as_a_leg(leg, &mut sheet));
+            [0, 8, 15]
+                .into_iter()
+                .zip(&mut times[1..4])
+                .for_each(|(place, times)| times.round(&legs, 1, |leg| field(leg, place)));
+            times[4].round(&legs, 1, without);
+        }
+        let [leg, first, ninth, last, without] = times.map(|side| side.each(LEGS));
+        println!("{name:<14} {leg:>9.0} {first:>9.0} {ninth:>9.0} {last:>9.0} {without:>9.0}");
+    }
+}
+
+/// A sheet and places on it.
+type Driven = (Vec<u8>, Vec<[u8; 2]>);
+
+/// Legs planned without sight, with the cells of the last sector from which a way arrives.
+fn planned_carts() -> Vec<Driven> {
+    let planned = drawn_legs(Floor::Counting).into_iter().map(|leg| {
+        let mut sheet = vec![0; 64 * CELLS];
+        assert_eq!(as_a_leg_without_sight(&leg, &mut sheet), 0, "the leg is planned");
+        let places = (0..CELLS as u8).map(|cell| [leg.steps[8 * 15], cell]);
+        let arrives = |place: &[u8; 2]| Library.way(&sheet, place[0], place[1]).outcome == outcome::ARRIVED;
+        let places = places.filter(arrives).collect();
+        (sheet, places)
+    });
+    planned.collect()
+}
+
+fn carts() {
+    println!(
+        "nanoseconds a move and a way, and the moves of a way: the least of {ROUNDS} rounds. `legs` are {LEGS} legs of 16 steps"
+    );
+    println!(
+        "planned without sight, from the last sector to the goal; `longest` a way over the whole floor; `never` a way between"
+    );
+    println!("two places, which is followed as long");
+    println!("{:<14} {:>9} {:>9} {:>9}", "", "move", "way", "moves");
+    let longest = longest_ways(Call::Way).next().expect("a way");
+    let pairs = (0..64 * CELLS).map(|cell| if cell % 2 == 0 { 0x12 } else { 0x18 }).collect();
+    let one = |sheet: Vec<u8>, place: [u8; 2]| vec![(sheet, vec![place])];
+    let groups =
+        [("legs", planned_carts()), ("longest", one(longest.sheet, longest.cart)), ("never", one(pairs, [27, 44]))];
+    for (name, sheets) in groups {
+        let mut times: [Times; 2] = Default::default();
+        let each: Vec<(&[u8], [u8; 2])> =
+            sheets.iter().flat_map(|(sheet, places)| places.iter().map(|place| (&sheet[..], *place))).collect();
+        let made = |(sheet, place): &(&[u8], [u8; 2])| black_box(Library.next_move(sheet, place[0], place[1])).number;
+        let way = |(sheet, place): &(&[u8], [u8; 2])| black_box(Library.way(sheet, place[0], place[1]));
+        assert!(!each.is_empty() && each.iter().all(|at| made(at) == 0 && way(at).number == 0), "the carts are taken");
+        let moves: usize = each.iter().map(|at| usize::from(way(at).moves)).sum();
+        for _ in 0..ROUNDS {
+            // A move is over before the clock has moved: a hundred of each.
+            times[0].round(&each, AT_ONCE, |at| (0..100).fold(0, |sum, _| sum | made(at)));
+            times[1].round(&each, AT_ONCE, |at| way(at).number);
+        }
+        let [made, way] = times.map(|side| side.each(each.len()));
+        println!("{name:<14} {:>9.1} {way:>9.0} {:>9}", made / 100.0, moves / each.len());
+    }
+}
+
 fn bench(words: Vec<String>) -> Result<(), String> {
     if let Some(word) = words.first() {
         return Err(format!("`{word}`: bench takes no words"));
@@ -504,7 +578,8 @@ fn bench(words: Vec<String>) -> Result<(), String> {
     }
     let without_sight = [Call::SectorWithoutSight, Call::LegWithoutSight];
     let others = [Call::Sector, Call::Leg, Call::Bounds, Call::WindowCosts, Call::WindowTour, Call::Arrivals];
-    Library::found(&[&others[..], &without_sight].concat())?;
+    let carts_calls = [Call::Move, Call::Way, Call::LegField, Call::LegFieldWithoutSight];
+    Library::found(&[&others[..], &without_sight, &carts_calls].concat())?;
     println!("the Rust and this driver are built with {}", env!("ORACLE_PROFILE"));
     sectors();
     legs();
@@ -514,6 +589,8 @@ fn bench(words: Vec<String>) -> Result<(), String> {
     squares();
     tours();
     arrivals();
+    leg_fields();
+    carts();
     Ok(())
 }
 

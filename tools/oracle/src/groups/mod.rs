@@ -24,7 +24,7 @@ pub use arrivals::{
 };
 pub use bad::{refused_floors, refused_tour, refused_windows};
 pub use bounds::{any_floors, floors_that_meet, range_kinds};
-pub use carts::{Cart, met as met_by_cart, move_kinds, some_carts, way_kinds};
+pub use carts::{Cart, longest_ways, met as met_by_cart, move_kinds, some_carts, way_kinds};
 pub use leg_fields::{Field, asked, field_kinds, field_that_meets as leg_field_that_meets};
 pub use legs::{
     Met, Place, closed_leg, leg_kinds, leg_on_walls_that_meets, leg_that_counts, leg_that_meets, wall_kinds,
