@@ -244,7 +244,7 @@ pub extern "C" fn hanjolum_way(sheet: &[u8], sector: u8, cell: u8) -> CartWay
     ensures told { λ r. ⌜ (r .number ≡ 0 → WayTold (now (sheet .entry)) (placeOf sector cell) r) ⌝ }
     ensures to_goal { λ r. ⌜ (r .number ≡ 0 → WayToGoal (now (sheet .entry)) sector cell r) ⌝ }
 {
-    leg_moves::whole_way(sheet, sector, cell)
+    leg_moves::way(sheet, sector, cell)
 }
 
 // A list of steps, written as a file to a buffer exactly as long: 0, or number 3 or 2.

@@ -247,7 +247,7 @@ fn way_from(sheet: &[u8], here: Spot) -> CartWay
 }
 
 // The moves of a cart until it stands still, or never: the same numbers. Nothing that is lent is written.
-pub fn whole_way(sheet: &[u8], sector: u8, cell: u8) -> CartWay
+pub fn way(sheet: &[u8], sector: u8, cell: u8) -> CartWay
     ensures answer { λ r. ⌜ r ≡ wayAnswer (now (sheet .entry)) sector cell ⌝ }
     ensures numbers { λ r. ⌜ CartNumbered (now (sheet .entry)) sector cell (r .number) ⌝ }
     ensures refused { λ r. ⌜ ((r .number ≡ 0 → ⊥) → WayRefused r) ⌝ }

@@ -9,7 +9,7 @@ fn cart_agrees(sheet: &[u8], bytes: &[u8]) -> bool {
     let sector = byte_at(bytes, 0);
     let cell = byte_at(bytes, 1);
     let made = leg_moves::next_move(sheet, sector, cell);
-    let way = leg_moves::whole_way(sheet, sector, cell);
+    let way = leg_moves::way(sheet, sector, cell);
     let told = [
         made.number,
         made.outcome,

@@ -1,4 +1,4 @@
--- `leg_moves::whole_way` meets its contract: refused by its number, or the moves from the place.
+-- `leg_moves::way` meets its contract: refused by its number, or the moves from the place.
 -- Assumes nothing.
 use mathlib.Core.Path.{_≡_, refl, sym, ap, _∙_}
 use denote.Ref.{now}
@@ -7,8 +7,8 @@ use Rattle.leg_moves.specs.Promise.{CartAccepted}
 use Rattle.leg_moves.proofs.Numbers.{taken}
 use Rattle.leg_moves.proofs.Calls.{refuses-way, takes-way}
 use borrow.Author.Needs.{needs}
-use Rattle.leg_moves.proofs.whole_way.Statement.{statement}
-use Rattle.leg_moves.proofs.whole_way.Tie as tie
+use Rattle.leg_moves.proofs.way.Statement.{statement}
+use Rattle.leg_moves.proofs.way.Tie as tie
 
 -- from where the number is known: the start, and that number; from where it is 0: that the call is accepted
 abbrev start : tie.After-cart-number → tie.Start
@@ -41,6 +41,6 @@ returns-2 c =
     let sheet = now (start (found .before .before) .args .sheet) in
     takes-way sheet _ _ (accepted (found .before)) _ (c .way-from .ensures ∙ ap (wayFrom sheet) (found .place-of .ensures .0))
 
-pub whole-way-spec : {M : Type 1} → statement M
-whole-way-spec =
+pub way-spec : {M : Type 1} → statement M
+way-spec =
     tie.close (tie.spec cart-number-requires returns place-of-requires way-from-requires returns-2)
