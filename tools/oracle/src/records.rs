@@ -40,7 +40,8 @@
 //!
 //! init.table, sector.table: the floors and steps of init.altered and sector.altered as they were drawn, with a wall under
 //! the goal or a window cell (number 16); there these walls are floor. In sector.table also windows without a previous
-//! field (number 17), which sector.altered has none of. leg.table: legs with such a step (16, or 8 before it).
+//! field (number 17), which sector.altered has none of. leg.table: legs with such a step (16, or 8 before it), and one that is
+//! refused with 10 where 15 would be found.
 //!
 //! leg.altered, leg.model, leg.table: the k-th 100 costs and sheet bytes are those of the sector that step k names.
 //! Cost bytes of sectors not named are 1; every byte of the sheet is 0x55 before the call, and those of sectors not
@@ -92,7 +93,7 @@ use crate::groups;
 use crate::judges::{self, Judge};
 use crate::model::{Model, Slip};
 use crate::oracle::{Oracle, rust_built, rust_started};
-use crate::refusals::named_cells;
+use crate::refusals::{across, named_cells};
 use crate::subject::*;
 
 /// The seed of what is drawn.
@@ -369,7 +370,7 @@ fn by_hand(rng: &mut Rng) -> IntegrationField {
 }
 
 /// Fields that the Rust starts, then others given by hand, then the floor on which positions carried along the waves are
-/// wrong, and fields that meet each kind of position.
+/// wrong, fields that meet each kind of position, and one whose list holds something in the places beyond its count.
 fn builds(mut rng: Rng) -> Vec<Vec<u8>> {
     let started = inputs(&mut rng).into_iter().skip(1).step_by(4);
     let mut records: Vec<Vec<u8>> = started.map(|(costs, step)| build(costs, rust_started(&costs, &step))).collect();
@@ -380,6 +381,10 @@ fn builds(mut rng: Rng) -> Vec<Vec<u8>> {
         let (costs, field) = groups::field_that_meets(&mut rng, kind);
         records.push(build(costs, field));
     }
+    let mut beyond = by_hand(&mut rng);
+    beyond.count = beyond.count.min(50);
+    beyond.los_corners[beyond.count..].fill(7);
+    records.push(build(floors::any(&mut rng), beyond));
     records
 }
 
@@ -620,7 +625,8 @@ fn leg_on_any(rng: &mut Rng, steps: Vec<u8>) -> Case {
 }
 
 /// Sixteen steps, legs of any length, then legs that meet each kind of window, 15 at the first step that can have it, in
-/// the middle and at the last, and legs with walls under goals and window cells, of each kind and at such steps.
+/// the middle and at the last, legs with walls under goals and window cells, of each kind and at such steps, legs that tell what
+/// the first and the last cell of a window do not compare, and one that is refused with 10 where 15 would be found.
 fn all_legs(mut rng: Rng) -> Vec<Case> {
     let mut cases = vec![leg_on_any(&mut rng, floors::straight_leg(16))];
     for most in [1, 2, 3, 5, 8, 12, 16] {
@@ -633,7 +639,28 @@ fn all_legs(mut rng: Rng) -> Vec<Case> {
     cases.extend(groups::leg_kinds().map(|kind| groups::leg_that_meets(&mut rng, kind)));
     cases.extend([(2, 2), (16, 2), (12, 7), (16, 16)].map(|(steps, at)| groups::closed_leg(&mut rng, steps, at)));
     cases.extend(groups::wall_kinds().map(|kind| groups::leg_on_walls_that_meets(&mut rng, kind)));
+    cases.extend([leg_that_shows(&mut rng, Slip::FirstSeesLower), leg_that_shows(&mut rng, Slip::LastSeesHigher)]);
+    cases.push(closed_and_unfacing(&mut rng));
     cases
+}
+
+/// A leg with a cell that does not count, which a slip plans otherwise.
+fn leg_that_shows(rng: &mut Rng, slip: Slip) -> Case {
+    loop {
+        let case = groups::leg_that_meets(rng, groups::Met::SomeCount);
+        if case.run(&Model { slip }) != case.run(&Model::PLAIN) {
+            return case;
+        }
+    }
+}
+
+/// A leg whose second window has no counting cell, and whose last step does not face the one before: 10 before 15.
+fn closed_and_unfacing(rng: &mut Rng) -> Case {
+    let mut case = groups::closed_leg(rng, 4, 3);
+    let named: Vec<u8> = case.steps.chunks(8).map(|step| step[0]).collect();
+    let free = |sector: &u8| !named.contains(sector) && across(*sector, case.steps[29]) != Some(named[2]);
+    case.steps[24] = (0..64).find(free).expect("a sector that is not named");
+    case
 }
 
 /// Those of some legs that a judge decides.
