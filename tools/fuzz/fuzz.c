@@ -24,15 +24,15 @@
  * cell of every sector, in at most 99 moves in each sector and one across each window. Over a sheet, drawn or planned, a cart's
  * move goes where the floor's columns and rows lead, and its way is that of moves one after the other, or never where they come
  * again to a place; each move that is followed is the one that the call answers, and the way from a reached cell of a leg without
- * sight arrives at the goal. The field of a leg's step has the leg's number, or 21 for a place beyond the list; the first is the
- * sector call's, and a later one is what is built from the window cells that count behind the field before. A fault, and a run in
+ * sight arrives at the goal. The field of a leg's step has the leg's number, or 21 for a place beyond the list; the first is what
+ * is built from the goal, and a later one from the window cells that count behind the field before. A fault, and a run in
  * which no call was accepted or none refused, no leg of several steps planned, none refused with 15, no arrow followed, no
  * diagonal one looked at, init, the sector call, a leg, bounds or window costs never refused with 16, the sector call never
  * with 17, bounds never with 18, window costs never with 19 or 20, no cell sure, no position looked at with and without an
  * earlier corner, no window reached or none cut off from another, no tour found or none with another order than the listed
  * one, no cell that arrives after a move, none that never does or none that has to in a sector left by a window, no window
  * planned without sight, no cell followed to the goal in a sector and in a leg without sight, none of them that never arrives
- * with sight, no move with one of the four outcomes, no way that ends after a hundred moves or none that never does, no field
+ * with sight, no move with one of the four outcomes, no way that ends after 1,600 moves or none that never does, no field
  * of a later step, with all cells of its window counting and with some, none refused with 15 or 21, or no practice floor with
  * all three costs, is one line on standard error and exit status 1.
  */
@@ -539,21 +539,25 @@ static void a_cart(const Fenced *sheet)
     if (way.outcome != told.outcome || way.sector != told.sector || way.cell != told.cell || way.moves != told.moves)
         fail("a way is not that of moves one after the other");
     outcomes[move.outcome]++;
-    long_ways += way.moves >= 100;
+    long_ways += way.moves >= 1600;
     never_ways += way.outcome == HANJOLUM_OUTCOME_NEVER;
 }
 
-/* A sheet of arrows, one direction in each of four parts of the floor, with few bytes made any; then a cart over it. */
+/* A sheet of arrows, one direction in each of four parts of the floor, or to and fro over all its rows, with few bytes made any;
+   then a cart over it. */
 static void a_cart_among_arrows(Fenced *sheet)
 {
     static const uint8_t directions[] = {1, 2, 4, 8, 3, 6, 12, 9};
-    int column = (int)below(80), row = (int)below(80);
+    int column = (int)below(80), row = (int)below(80), to_and_fro = below(4) == 0;
     uint8_t parts[4];
     for (int i = 0; i < 4; i++)
         parts[i] = (uint8_t)(0x10 + directions[below(8)]);
-    for (int i = 0; i < HANJOLUM_FLOOR && sheet->length == HANJOLUM_FLOOR; i++)
-        sheet->at[byte_of(i % 80, i / 80)] = parts[(i % 80 < column) + 2 * (i / 80 < row)];
-    for (int i = (int)below(8); i > 0 && sheet->length > 0; i--)
+    for (int i = 0; i < HANJOLUM_FLOOR && sheet->length == HANJOLUM_FLOOR; i++) {
+        int is_end = i % 80 == (i / 80 % 2 ? 0 : 79);
+        uint8_t snake = is_end ? HANJOLUM_FLOW_SOUTH : i / 80 % 2 ? HANJOLUM_FLOW_WEST : HANJOLUM_FLOW_EAST;
+        sheet->at[byte_of(i % 80, i / 80)] = to_and_fro ? snake : parts[(i % 80 < column) + 2 * (i / 80 < row)];
+    }
+    for (int i = (int)below(to_and_fro ? 2 : 8); i > 0 && sheet->length > 0; i--)
         sheet->at[below((uint32_t)sheet->length)] = (uint8_t)draw();
     a_cart(sheet);
 }
@@ -595,14 +599,25 @@ static HanjolumBuildAnswer field_at(bool sight, const Fenced *costs, const Fence
                  : hanjolum_leg_field_without_sight(costs->at, costs->length, route->at, route->length, place);
 }
 
+/* A goal's sector as init starts it, or without sight started by hand: the goal is the one listed corner. */
+static HanjolumIntegrationField started_at_goal(bool sight, const uint8_t *costs, const uint8_t *step)
+{
+    static const uint32_t unreached[HANJOLUM_CELLS];
+    static const uint8_t no_window[8] = {0, 0, 1, 1, 0, 0, 0, 0};   /* from cell 1 to cell 0: none */
+    if (sight)
+        return hanjolum_init(costs, 100, step, 8).field;
+    HanjolumIntegrationField f = started_by_hand(costs, no_window, unreached);
+    f.field[step[1]] = HANJOLUM_FIELD_GOAL;
+    f.los_corners[f.count++] = step[1];
+    return f;
+}
+
 /* What the field of a leg's step has to be that is taken. */
 static HanjolumBuildAnswer due_field(bool sight, const Fenced *costs, const Fenced *route, size_t place)
 {
-    uint8_t part[HANJOLUM_CELLS];
     const uint8_t *step = route->at + 8 * place, *own = costs->at + 100 * step[0];
     if (place == 0)
-        return sight ? hanjolum_sector(own, 100, step, 8, false, NULL, 0, part, sizeof part)
-                     : hanjolum_sector_without_sight(own, 100, step, 8, false, NULL, 0, part, sizeof part);
+        return hanjolum_build(own, 100, started_at_goal(sight, own, step));
     HanjolumBuildAnswer previous = field_at(sight, costs, route, place - 1);
     HanjolumIntegrationField given = started_by_hand(own, step, previous.field.field);
     size_t window = (size_t)(step[4] - step[3]) / (step[5] % 2 ? 10 : 1) + 1;
@@ -610,13 +625,14 @@ static HanjolumBuildAnswer due_field(bool sight, const Fenced *costs, const Fenc
     return hanjolum_build(own, 100, given);
 }
 
-/* The field of a leg's step, at a place of the list or beyond it. */
-static void a_leg_field(bool sight, const Fenced *costs, const Fenced *route)
+/* The field of a leg's step at a place of the list or beyond it, and of every step where the leg is planned. */
+static void leg_fields(bool sight, const Fenced *costs, const Fenced *route)
 {
     static uint8_t whole[HANJOLUM_FLOOR];
     size_t steps = route->length / 8, place = below(4) ? below((uint32_t)steps + 1) : (size_t)draw() << below(40);
     uint8_t due = sight ? hanjolum_leg(costs->at, costs->length, route->at, route->length, whole, sizeof whole)
                         : hanjolum_leg_without_sight(costs->at, costs->length, route->at, route->length, whole, sizeof whole);
+    bool is_planned = due == 0;
     if (place >= steps && due != 1 && due != 3)
         due = 21;
     HanjolumBuildAnswer a = field_at(sight, costs, route, place);
@@ -626,11 +642,13 @@ static void a_leg_field(bool sight, const Fenced *costs, const Fenced *route)
         fail("the field of a leg's step has another number than the leg, or than its place gives");
     closed_fields += due == 15;
     misplaced_fields += due == 21;
-    if (due != 0)
-        return;
-    HanjolumBuildAnswer b = due_field(sight, costs, route, place);
-    if (!same_built(&a, &b))
-        fail("the field of a leg's step is not the one that is built from the window cells that count");
+    for (place = 0; is_planned && place < steps; place++) {
+        HanjolumBuildAnswer b = due_field(sight, costs, route, place);
+        a = field_at(sight, costs, route, place);
+        counted(a.number);
+        if (a.number != 0 || !same_built(&a, &b))
+            fail("the field of a leg's step is not the one that is built from the window cells that count");
+    }
 }
 
 /* The leg without sight, on what the leg with sight was lent, and with the number that it had. */
@@ -668,8 +686,10 @@ static void a_leg(const Fenced *costs, const Fenced *route, Fenced *sheet)
     a_leg_without_sight(costs, route, sheet, number);
     a_cart(sheet);
     a_cart_among_arrows(sheet);
-    a_leg_field(true, costs, route);
-    a_leg_field(false, costs, route);
+    if (number == 2)
+        return;
+    leg_fields(true, costs, route);
+    leg_fields(false, costs, route);
 }
 
 /* A practice floor: every seed is taken, and a step to its goal too. */
@@ -1253,7 +1273,7 @@ static void report(unsigned long rounds)
     if (outcomes[0] == 0 || outcomes[1] == 0 || outcomes[2] == 0 || outcomes[3] == 0)
         fail("no cart moved, or none stood still with one of the three outcomes");
     if (long_ways == 0 || never_ways == 0)
-        fail("no way ended after a hundred moves, or none never did");
+        fail("no way ended after 1,600 moves or more, or none never did");
     if (later_fields[0] == 0 || later_fields[1] == 0 || closed_fields == 0 || misplaced_fields == 0)
         fail("no field of a later step was built, with all cells of its window or with some, or none was refused with 15 or 21");
     printf("%lu rounds of calls, %lu accepted and %lu refused, %lu legs of several steps planned and %lu refused with 15, "
@@ -1264,7 +1284,7 @@ static void report(unsigned long rounds)
            "%lu that have to, in sectors left by a window, without sight %lu windows planned alike, %lu cells of goals' sectors "
            "followed to the goal, %lu of them cells that never arrive with sight, and %lu cells of legs, %lu sure cells, %lu practice floors, "
            "%lu positions looked at and %lu of them beside an earlier corner, carts moved %lu, arrived %lu, in sight %lu and stopped %lu, "
-           "%lu ways of a hundred moves or more and %lu that never end, fields of later steps %lu with all cells of the window and "
+           "%lu ways of 1,600 moves or more and %lu that never end, fields of later steps %lu with all cells of the window and "
            "%lu with some, %lu refused with 15 and %lu with 21, nothing found\n",
            rounds, accepted, turned_away, planned, closed, followed, diagonal, on_wall[0], on_wall[1], on_wall[2],
            on_wall[3], on_wall[4], fieldless, unranged, miscounted, misplaced, ways_met[0], ways_met[1], toured,
