@@ -245,7 +245,8 @@ fn every_byte(call: Call) -> impl Iterator<Item = Case> {
 /// Every place with every direction, or every n-th where fewer inputs are asked for.
 fn every_place(call: Call, inputs: usize) -> impl Iterator<Item = Case> {
     let all = (0..6400).flat_map(|at| [1, 2, 4, 8, 3, 6, 12, 9].map(|bits| ((at % 80, at / 80), 0x10 + bits)));
-    let every = (8 * 6400 / inputs.max(1)).max(1);
+    // An odd step, so that every direction comes.
+    let every = (8 * 6400_usize).div_ceil(inputs.max(1));
     all.step_by(every | 1).map(move |(place, byte)| case(call, vec![byte; 6400], place))
 }
 
