@@ -1,6 +1,6 @@
 //! A group is held to the judges that it names.
 
-use oracle::groups::{Clean, GROUPS, Group, Met, Place, position_kinds};
+use oracle::groups::{Clean, GROUPS, Group, Met, Place, field_kinds, move_kinds, position_kinds, way_kinds};
 use oracle::judges::Judge;
 use oracle::model::{CLOSED, Model};
 use oracle::subject::Call;
@@ -40,13 +40,20 @@ fn groups_name_their_judges() {
     assert_eq!(names("window tour refusals"), ["table of refusals", "model"]);
     assert_eq!(names("arrivals"), ["model"]);
     assert_eq!(names("arrivals refusals"), ["table of refusals", "model"]);
+    assert_eq!(names("move"), ["model"]);
+    assert_eq!(names("way refusals"), ["table of refusals", "model"]);
+    assert_eq!(names("leg field"), ["altered Rust", "counted copy", "table of refusals", "model"]);
+    assert_eq!(names("leg field, gaps"), ["altered Rust", "counted copy", "model"]);
+    assert_eq!(names("leg field without sight"), all);
     assert_eq!(names("leg refusals"), ["altered Rust", "table of refusals", "model"]);
     assert_eq!(names("build refusals"), ["published Rust", "counted copy", "table of refusals", "model"]);
 }
 
 #[test]
 fn the_judges_that_decide_are_those_that_are_named() {
+    let fields = ["leg field", "leg field without sight"];
     let others = ["readers", "init", "sector", "leg", "leg, on walls", "sector without sight", "leg without sight"];
+    let others = [&others[..], &fields].concat();
     for group in GROUPS.iter().filter(|group| group.name.ends_with("refusals") || others.contains(&group.name)) {
         let clean = group.run(&Model::PLAIN, 5, 20_000).unwrap_or_else(|_| panic!("{} differs", group.name));
         assert_eq!(group.unmet(&clean), None);
@@ -60,8 +67,15 @@ fn the_judges_that_decide_are_those_that_are_named() {
         let with_field = [Call::Init, Call::Build, Call::Sector, Call::SectorWithoutSight];
         let fields = with_field.contains(&group.needs[0]);
         let goals = if fields { clean.without_sight.goals } else { judged(Judge::Altered) };
-        assert!(!without_sight || judged(Judge::Published) == goals);
-        let alone = if fields { 0 } else { judged(Judge::Model) };
+        // Of a leg's fields the first is the goal's, and the positions of all are the model's too.
+        let leg_fields = [Call::LegField, Call::LegFieldWithoutSight].contains(&group.needs[0]);
+        let published = judged(Judge::Published);
+        assert!(!without_sight || published == goals || (leg_fields && 0 < published && published < goals));
+        let alone = match fields {
+            true => 0,
+            false if leg_fields => judged(Judge::Model) - judged(Judge::Altered),
+            false => judged(Judge::Model),
+        };
         assert_eq!(apart + alone, clean.inputs);
         assert!(!fields || judged(Judge::Model) == clean.numbers[0]);
         let closed = clean.numbers[usize::from(CLOSED)];
@@ -130,5 +144,21 @@ fn walls_must_be_met(name: &str) {
         let mut clean = whole.clone();
         clean.met.remove(&met);
         assert!(group.unmet(&clean).expect("a fault").contains(&format!("did not meet `{met}` in")));
+    }
+}
+
+/// Fields of a leg's steps must have met each place and 15 on each side of it, and ways 6,399 moves and a circle.
+#[test]
+fn fields_and_ways_must_meet_each_kind() {
+    let kinds = [("leg field, gaps", field_kinds()), ("way", way_kinds()), ("move", move_kinds())];
+    for (name, kinds) in kinds {
+        let group = Group::named(name);
+        let whole = group.run(&Model::PLAIN, 6, 20_000).unwrap_or_else(|_| panic!("the model differs from itself"));
+        assert_eq!(group.unmet(&whole), None);
+        for met in kinds {
+            let mut clean = whole.clone();
+            clean.met.remove(&met);
+            assert!(group.unmet(&clean).expect("a fault").contains(&format!("did not meet `{met}` in")));
+        }
     }
 }
