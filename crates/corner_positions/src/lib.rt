@@ -44,7 +44,7 @@ fn entered_at(cost: u8, before: u32, built: u32) -> u32
     built - (cost as u32)
 }
 
-// The same for every cell.
+// For every cell, what it was entered from.
 fn entered_from(costs: &[u8], before: &[u32; 100], built: &[u32; 100]) -> [u32; 100]
     requires { ⌜ (length (now costs) ≡ 100) × Lowered (now costs) (now before) (now built) ⌝ }
     ensures { λ r. ⌜ r ≡ map (λ x. enteredFrom (getD (now (costs .entry)) x 0) (getD (now (before .entry)) x 0) (getD (now (built .entry)) x 0)) (below 100) ⌝ }
@@ -227,7 +227,7 @@ fn kept(before: u32, position: u8) -> u8
     position
 }
 
-// The same for every cell.
+// For every cell, its position, or none where it was wall, in sight or goal before.
 fn keep(before: &[u32; 100], positions: &[u8; 100]) -> [u8; 100]
     ensures { λ r. ⌜ r ≡ map (λ x. keptOf (getD (now (before .entry)) x 0) (getD (now (positions .entry)) x 0)) (below 100) ⌝ }
 {

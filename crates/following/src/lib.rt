@@ -62,7 +62,7 @@ fn moves_from(sheet: &[u8], index: usize) -> u8
     NEVER
 }
 
-// The same of every cell.
+// How many moves bring each cell's arrows to a byte that has arrived, or never.
 fn all_moves(sheet: &[u8]) -> [u8; 100]
     requires { ⌜ length (now sheet) ≡ 100 ⌝ }
     ensures { λ r. ⌜ r ≡ map (movesFrom (now (sheet .entry))) (below 100) ⌝ }

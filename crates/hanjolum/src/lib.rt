@@ -207,7 +207,7 @@ pub extern "C" fn hanjolum_leg_field(floor: &[u8], steps: &[u8], place: usize) -
     leg_field::leg_field(floor, steps, place)
 }
 
-// The same of the leg that is planned without sight.
+// The built field of a leg's step, as the leg without sight plans it, or number 1, 3, 21, 4 to 10, 16, or 15.
 #[no_mangle]
 pub extern "C" fn hanjolum_leg_field_without_sight(
     floor: &[u8],

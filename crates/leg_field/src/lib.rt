@@ -106,7 +106,7 @@ pub fn leg_field(floor: &[u8], steps: &[u8], place: usize) -> BuildAnswer
     field_by_sight(floor, steps, true, place)
 }
 
-// The same of the leg that is planned without sight.
+// The field of a step of the leg that is planned without sight: nothing that is lent is written.
 pub fn leg_field_without_sight(floor: &[u8], steps: &[u8], place: usize) -> BuildAnswer
     ensures answer { λ r. ⌜ r ≡ fieldAnswerBy false (now (floor .entry)) (now (steps .entry)) place ⌝ }
     ensures planned { λ r. ⌜ (r .number ≡ 0 → FieldPlanned false (now (floor .entry)) (stepsOf (now (steps .entry))) place r) ⌝ }

@@ -34,7 +34,7 @@ pub fn byte_at(bytes: &[u8], at: usize) -> u8
     0
 }
 
-// The same, as a count, a coordinate or a corner.
+// The byte at a place as a count, a coordinate or a corner; 0 where there is none.
 pub fn size_at(bytes: &[u8], at: usize) -> usize
     ensures { λ r. ⌜ (r ≡ getD (now (bytes .entry)) at 0) × (r < 256) ⌝ }
 {

@@ -59,7 +59,7 @@ fn permitted_towards(
     }
 }
 
-// The same in four directions, one after the other.
+// The permitted neighbours in four directions, one after the other, behind those that were found before.
 fn permitted_along(
     cells: &[u32; 100],
     index: usize,

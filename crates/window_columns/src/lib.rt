@@ -61,7 +61,7 @@ fn least_from(cells: &[u32; 100], steps: &[u8], i: usize) -> u32
     least_built(cells, target.window)
 }
 
-// The same for each of eight places.
+// The least built cost of each window's cells, at its place of eight; 65535 where the list has none.
 pub fn column_of(cells: &[u32; 100], steps: &[u8]) -> [u32; 8]
     requires { ⌜ WindowSteps (now steps) ⌝ }
     ensures { λ r. ⌜ r ≡ map (leastFrom (now (cells .entry)) (stepsOf (now (steps .entry)))) (below 8) ⌝ }
