@@ -98,34 +98,34 @@
  * and there are at most 101 at a time: no call needs as much as 80,000 bytes. Give a thread that calls sector, leg or
  * the field of a leg's step, with sight or without, bounds, window costs, tour, init or build 256 KB.
  * Below, for each call, its bytes of stack with 101 waves, beside what memcpy and memset need, read off the archive
- * (tools/stack/frames); and its nanoseconds, the median on practice floors (tools/time/header) on one core of an AMD EPYC that
+ * (tools/stack/frames); and its nanoseconds, the median on practice floors (tools/time/header) on one core of an Intel Xeon that
  * did nothing else. Neither is proved, and times belong to the machine. Readers of a byte are alike.
- *     hanjolum_sector, a goal                             68112      3268
- *     hanjolum_sector, a window                           68112      2400
- *     hanjolum_sector_without_sight, a goal               68112      2154
- *     hanjolum_arrivals                                     144      8451
- *     hanjolum_bounds                                     65536      6769
- *     hanjolum_window_costs, eight windows                65408      9992
- *     hanjolum_window_tour, eight windows, all orders     65232    568389
- *     hanjolum_leg, sixteen steps                         69216     45530
- *     hanjolum_leg_without_sight, sixteen steps           69216     42903
- *     hanjolum_leg_field, the last of sixteen steps       72368     43584
- *     hanjolum_leg_field_without_sight, the same          72368     41312
- *     hanjolum_move                                           8        11
- *     hanjolum_way, over sixteen sectors                     56      2463
- *     hanjolum_way, the longest                              56     66839
- *     hanjolum_leg_file_write, sixteen steps                  8         5
- *     hanjolum_leg_file_read, sixteen steps                   8         4
- *     hanjolum_practice_floor                               752       199
- *     hanjolum_init, a goal                               42648      1464
- *     hanjolum_build, a goal                              66224      1733
- *     hanjolum_flow_new, a goal                            1088       246
- *     hanjolum_flow_build, a goal                          1344       476
- *     hanjolum_line                                         664        37
- *     hanjolum_walk_bresenham_shallow                       848        50
- *     hanjolum_walk_bresenham_steep                         848        50
- *     hanjolum_line_end                                      56        10
- *     hanjolum_is_goal                                        8         4
+ *     hanjolum_sector, a goal                             68112      4528
+ *     hanjolum_sector, a window                           68112      2878
+ *     hanjolum_sector_without_sight, a goal               68112      2672
+ *     hanjolum_arrivals                                     144     12459
+ *     hanjolum_bounds                                     65536      7714
+ *     hanjolum_window_costs, eight windows                65408     11650
+ *     hanjolum_window_tour, eight windows, all orders     65232    735534
+ *     hanjolum_leg, sixteen steps                         69216     55023
+ *     hanjolum_leg_without_sight, sixteen steps           69216     52192
+ *     hanjolum_leg_field, the last of sixteen steps       72368     42308
+ *     hanjolum_leg_field_without_sight, the same          72368     40263
+ *     hanjolum_move                                           8        10
+ *     hanjolum_way, over sixteen sectors                     56      1920
+ *     hanjolum_way, the longest                              56     66595
+ *     hanjolum_leg_file_write, sixteen steps                  8         4
+ *     hanjolum_leg_file_read, sixteen steps                   8         3
+ *     hanjolum_practice_floor                               752       189
+ *     hanjolum_init, a goal                               42648      1801
+ *     hanjolum_build, a goal                              66224      1936
+ *     hanjolum_flow_new, a goal                            1088       138
+ *     hanjolum_flow_build, a goal                          1344       680
+ *     hanjolum_line                                         664        39
+ *     hanjolum_walk_bresenham_shallow                       848        53
+ *     hanjolum_walk_bresenham_steep                         848        52
+ *     hanjolum_line_end                                      56        12
+ *     hanjolum_is_goal                                        8         3
  */
 #ifndef HANJOLUM_H
 #define HANJOLUM_H
