@@ -1,6 +1,6 @@
 //! Flow bytes, the directions that they hold, and a cart's place on a floor.
 
-use crate::{CELLS, Outcome, SECTORS, move_from, sys};
+use crate::{CELLS, FLOOR, Outcome, SECTORS, move_from, sys};
 
 /// A direction to walk in.
 #[derive(Clone, Copy, Debug, PartialEq, Eq, Hash)]
@@ -121,11 +121,14 @@ impl Place {
         bytes.get(sector * CELLS + cell).copied()
     }
 
-    /// The place beside it in a direction; none where that is off the floor.
-    #[deprecated(since = "1.2.0", note = "drive by `move_from`, whose moves are proved")]
+    /// The place beside it in a direction; none where that is off the floor. It is the archive's answer for a sheet that has this
+    /// direction here, and nothing else.
+    #[deprecated(since = "1.2.0", note = "drive by `move_from`, with the sheet that was planned")]
     pub fn moved(self, direction: Direction) -> Option<Place> {
-        let ((column, row), (east, south)) = (self.column_and_row(), direction.differences());
-        Place::at(column.checked_add_signed(east)?, row.checked_add_signed(south)?)
+        let mut sheet = [0; FLOOR];
+        let byte = (1..16).find(|&byte| FlowByte(byte).direction() == Some(direction))?;
+        *sheet.get_mut(usize::from(self.sector) * CELLS + usize::from(self.cell))? = byte;
+        self.next(&sheet)
     }
 
     /// Where a cart's move leads from here by a floor's sheet, as [`move_from`] answers it; none where the cart stands still,
