@@ -1,6 +1,6 @@
--- Where no cell is a wall, a look draws no line and makes no wall: the table of line ends is lent wherever it is read.
---     lent-looked, lent-around, lent-wave     it stays lent, over a look, over four looks, over a wave
---     table-met                               at a wall it is there
+-- Where no cell is a wall, a look draws no line and makes no wall: the ends of the goal's lines are lent wherever they are read.
+--     lent-looked, lent-around, lent-wave     they stay lent, over a look, over four looks, over a wave
+--     ends-met                                at a wall they are there
 -- Assumes nothing.
 use mathlib.Core.Path.{_≡_, refl, sym, _∙_}
 use mathlib.Core.Bool.{Bool, true, false, cond, _||_, true≢false}
@@ -16,7 +16,7 @@ use Rattle.fields.specs.declared.Stepped.the-variants.{Cell, Outside}
 use Rattle.fields.specs.Cell.{cellAt, indexOf, stepped}
 use Rattle.integration_field.specs.Word.{isLos, isGoal, isBlocked, isImpassable}
 use Rattle.integration_field.specs.Diagonal.{wallAt}
-use Rattle.line_end_table.specs.Ends.{HoldsEnds}
+use Rattle.line_end_table.specs.Ends.{EndsFor}
 use Rattle.started_field.specs.Sight.{Sight, sightWord, seen, wallMet, neighbourLooked, looked, lookedAround, waveLooked}
 use Rattle.started_field.proofs.Words.{seen-flags}
 use Rattle.integration_init.specs.Held.{NoWall, Lent}
@@ -56,19 +56,19 @@ module _ (line : ℕ → List ℕ) (wave : ℕ) (wave-in : wave ≤ 100) where
   open-wave [] s w = w
   open-wave (i ∷ is) s w = open-wave is _ (open-around i orthogonal s w)
 
-  module _ (ends : List (List ℕ)) (s : Sight) where
-    pub lent-looked : (from : ℕ) (d : CompassDir) (to : Stepped) → Lent ends (s .cells) → Lent ends (looked line wave from d to s .cells)
+  module _ (goal : ℕ) (ends : List ℕ) (s : Sight) where
+    pub lent-looked : (from : ℕ) (d : CompassDir) (to : Stepped) → Lent goal ends (s .cells) → Lent goal ends (looked line wave from d to s .cells)
     lent-looked from d to (inl w) = inl (open-looked from d to s w)
     lent-looked from d to (inr h) = inr h
 
-    pub lent-around : (from : ℕ) (ds : List CompassDir) → Lent ends (s .cells) → Lent ends (lookedAround line wave from ds s .cells)
+    pub lent-around : (from : ℕ) (ds : List CompassDir) → Lent goal ends (s .cells) → Lent goal ends (lookedAround line wave from ds s .cells)
     lent-around from ds (inl w) = inl (open-around from ds s w)
     lent-around from ds (inr h) = inr h
 
-    pub lent-wave : (is : List ℕ) → Lent ends (s .cells) → Lent ends (waveLooked line wave is s .cells)
+    pub lent-wave : (is : List ℕ) → Lent goal ends (s .cells) → Lent goal ends (waveLooked line wave is s .cells)
     lent-wave is (inl w) = inl (open-wave is s w)
     lent-wave is (inr h) = inr h
 
-pub table-met : (ends : List (List ℕ)) (cells : List ℕ) (n : ℕ) → wallAt cells n ≡ true → Lent ends cells → HoldsEnds ends
-table-met ends cells n e (inl w) = absurd (true≢false (sym e ∙ w n))
-table-met ends cells n e (inr h) = h
+pub ends-met : (goal : ℕ) (ends cells : List ℕ) (n : ℕ) → wallAt cells n ≡ true → Lent goal ends cells → EndsFor goal ends
+ends-met goal ends cells n e (inl w) = absurd (true≢false (sym e ∙ w n))
+ends-met goal ends cells n e (inr h) = h

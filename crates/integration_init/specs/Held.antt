@@ -8,7 +8,7 @@ use Prim.Native.Nat.{ℕ, _<_, _≤_}
 use lib.ListN.{length, take}
 use Rattle.integration_field.specs.Diagonal.{wallAt}
 use Rattle.integration_field.specs.Listed.{padded}
-use Rattle.line_end_table.specs.Ends.{HoldsEnds}
+use Rattle.line_end_table.specs.Ends.{EndsFor}
 use Rattle.started_field.specs.Sight.{Sight}
 use Rattle.started_field.specs.Room.{Room}
 
@@ -59,13 +59,13 @@ AppliedAll step cells corners count queue queued cells' corners' count' queue' q
 abbrev pub NoWall : List ℕ → Type 0
 NoWall cells = (n : ℕ) → wallAt cells n ≡ false
 
--- the table of line ends is lent wherever some cell is a wall: without one no line is drawn
-abbrev pub Lent : List (List ℕ) → List ℕ → Type 0
-Lent ends cells = NoWall cells ⊎ HoldsEnds ends
+-- the ends of a goal's lines are lent wherever some cell is a wall: without one no line is drawn
+abbrev pub Lent : ℕ → List ℕ → List ℕ → Type 0
+Lent goal ends cells = NoWall cells ⊎ EndsFor goal ends
 
--- a wave's cost, the goal, and a cell of the wave; and what is known of the table of line ends
-pub record InWave (Table : Type 0) (wave goal from : ℕ) : Type 0 where
+-- a wave's cost, the goal, and a cell of the wave; and what is known of the ends of the goal's lines
+pub record InWave (Ends : Type 0) (wave goal from : ℕ) : Type 0 where
   pub wave-in : wave ≤ 100
   pub goal-in : goal < 100
   pub from-in : from < 100
-  pub table : Table
+  pub ends : Ends

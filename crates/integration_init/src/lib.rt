@@ -25,7 +25,7 @@ ghost use Rattle.integration_field.specs.Promise.{ZeroField};
 ghost use Rattle.route.specs.Target.{targetOf};
 ghost use Rattle.integration_field.specs.Word.{isLos, isGoal, isBlocked, isImpassable};
 ghost use Rattle.integration_field.specs.Diagonal.{wallAt};
-ghost use Rattle.line_end_table.specs.Ends.{HoldsEnds};
+ghost use Rattle.line_end_table.specs.Ends.{EndsFor};
 ghost use Rattle.route.specs.Inner.{heldCells, heldTarget, WindowHeld, TargetHeld};
 ghost use Rattle.started_field.specs.Started.{startedAt, startedFrom, startedWithout, started, initRefused, initAnswer, StartedField};
 ghost use Rattle.started_field.specs.CornerLine.{cornerLine};
@@ -139,14 +139,14 @@ fn extend_los_corner(
     corner: usize,
     goal: usize,
     wavefront_cost: u32,
-    ends: &[[u8; 100]],
+    ends: &[u8; 100],
 ) -> usize
-    requires { ⌜ (Ready (now cells) (now corners) count) × (InWave (HoldsEnds (now ends)) «wavefront_cost» goal corner) ⌝ }
+    requires { ⌜ (Ready (now cells) (now corners) count) × (InWave (EndsFor goal (now ends)) «wavefront_cost» goal corner) ⌝ }
     ensures { λ r. ⌜ Applied (extended (cornerLine goal) «wavefront_cost» corner)
         (now (cells .entry)) (now (corners .entry)) count (now (cells .exit)) (now (corners .exit)) r ⌝ }
 {
     let from = FieldCell::from_index(corner);
-    let end = FieldCell::from_index(line_end_table::read_end(ends, corner, goal));
+    let end = FieldCell::from_index(fields::index_of(ends[corner]));
     let mut drawn: [usize; 10] = [0; 10];
     let size = bresenham::draw_cells_between_points(from, end, &mut drawn);
     mark_line(cells, corners, count, corner, &drawn, size, wavefront_cost)
@@ -162,9 +162,9 @@ fn try_side(
     side: CompassDir,
     goal: usize,
     wavefront_cost: u32,
-    ends: &[[u8; 100]],
+    ends: &[u8; 100],
 ) -> usize
-    requires { ⌜ (Ready (now cells) (now corners) count) × ((InWave (HoldsEnds (now ends)) «wavefront_cost» goal from) × (wall < 100)) ⌝ }
+    requires { ⌜ (Ready (now cells) (now corners) count) × ((InWave (EndsFor goal (now ends)) «wavefront_cost» goal from) × (wall < 100)) ⌝ }
     ensures { λ r. ⌜ Applied (sideTried (cornerLine goal) «wavefront_cost» from wall side)
         (now (cells .entry)) (now (corners .entry)) count (now (cells .exit)) (now (corners .exit)) r ⌝ }
 {
@@ -188,9 +188,9 @@ fn meet_wall(
     dir: CompassDir,
     goal: usize,
     wavefront_cost: u32,
-    ends: &[[u8; 100]],
+    ends: &[u8; 100],
 ) -> usize
-    requires { ⌜ (Ready (now cells) (now corners) count) × ((InWave (HoldsEnds (now ends)) «wavefront_cost» goal from) × (wall < 100)) ⌝ }
+    requires { ⌜ (Ready (now cells) (now corners) count) × ((InWave (EndsFor goal (now ends)) «wavefront_cost» goal from) × (wall < 100)) ⌝ }
     ensures { λ r. ⌜ Applied (wallMet (cornerLine goal) «wavefront_cost» from wall dir)
         (now (cells .entry)) (now (corners .entry)) count (now (cells .exit)) (now (corners .exit)) r ⌝ }
 {
@@ -238,10 +238,10 @@ fn look_at(
     n: usize,
     goal: usize,
     wavefront_cost: u32,
-    ends: &[[u8; 100]],
+    ends: &[u8; 100],
 ) -> Counts
     requires { ⌜ (ReadyAll (now cells) (now corners) (counts .corners) (now queue) (counts .queued))
-        × ((InWave (Lent (now ends) (now cells)) «wavefront_cost» goal from) × (n < 100)) ⌝ }
+        × ((InWave (Lent goal (now ends) (now cells)) «wavefront_cost» goal from) × (n < 100)) ⌝ }
     ensures { λ r. ⌜ AppliedAll (neighbourLooked (cornerLine goal) «wavefront_cost» from dir n)
         (now (cells .entry)) (now (corners .entry)) (counts .corners) (now (queue .entry)) (counts .queued)
         (now (cells .exit)) (now (corners .exit)) (r .corners) (now (queue .exit)) (r .queued) ⌝ }
@@ -285,10 +285,10 @@ fn look(
     dir: CompassDir,
     goal: usize,
     wavefront_cost: u32,
-    ends: &[[u8; 100]],
+    ends: &[u8; 100],
 ) -> Counts
     requires { ⌜ (ReadyAll (now cells) (now corners) (counts .corners) (now queue) (counts .queued))
-        × (InWave (Lent (now ends) (now cells)) «wavefront_cost» goal from) ⌝ }
+        × (InWave (Lent goal (now ends) (now cells)) «wavefront_cost» goal from) ⌝ }
     ensures { λ r. ⌜ AppliedAll (looked (cornerLine goal) «wavefront_cost» from dir (stepped (cellAt from) dir))
         (now (cells .entry)) (now (corners .entry)) (counts .corners) (now (queue .entry)) (counts .queued)
         (now (cells .exit)) (now (corners .exit)) (r .corners) (now (queue .exit)) (r .queued) ⌝ }
@@ -320,10 +320,10 @@ fn look_around(
     from: usize,
     goal: usize,
     wavefront_cost: u32,
-    ends: &[[u8; 100]],
+    ends: &[u8; 100],
 ) -> Counts
     requires { ⌜ (ReadyAll (now cells) (now corners) (counts .corners) (now queue) (counts .queued))
-        × (InWave (Lent (now ends) (now cells)) «wavefront_cost» goal from) ⌝ }
+        × (InWave (Lent goal (now ends) (now cells)) «wavefront_cost» goal from) ⌝ }
     ensures { λ r. ⌜ AppliedAll (lookedAround (cornerLine goal) «wavefront_cost» from orthogonal)
         (now (cells .entry)) (now (corners .entry)) (counts .corners) (now (queue .entry)) (counts .queued)
         (now (cells .exit)) (now (corners .exit)) (r .corners) (now (queue .exit)) (r .queued) ⌝ }
@@ -362,10 +362,10 @@ fn look_wave(
     next: &mut [u8; 100],
     goal: usize,
     wavefront_cost: u32,
-    ends: &[[u8; 100]],
+    ends: &[u8; 100],
 ) -> Counts
     requires { ⌜ (Ready (now cells) (now corners) count)
-        × ((Indexes 100 (now wavefront) size) × ((length (now next) ≡ 100) × (InWave (Lent (now ends) (now cells)) «wavefront_cost» goal goal))) ⌝ }
+        × ((Indexes 100 (now wavefront) size) × ((length (now next) ≡ 100) × (InWave (Lent goal (now ends) (now cells)) «wavefront_cost» goal goal))) ⌝ }
     ensures { λ r. ⌜ HoldsAll (waveLooked (cornerLine goal) «wavefront_cost» (take size (now (wavefront .entry)))
         (sightOf (now (cells .entry)) (now (corners .entry)) count []))
         (now (cells .exit)) (now (corners .exit)) (r .corners) (now (next .exit)) (r .queued) ⌝ }
@@ -392,20 +392,22 @@ fn look_wave(
     counts
 }
 
-// Spreads sight, one wave a call, until a wave is empty or the falling number is 0. Answers how many corners are listed.
+// Spreads sight, one wave a call, until a wave is empty or the falling number is 0. The wave and the places for the next one are lent from above, and
+// change places in the call for the next wave: so a wave takes no memory of its own. Answers how many corners are listed.
 fn propagate_los(
     cells: &mut [u32; 100],
     corners: &mut [usize; 100],
     count: usize,
-    wavefront: &[u8; 100],
+    wavefront: &mut [u8; 100],
     size: usize,
+    next: &mut [u8; 100],
     goal: usize,
     wavefront_cost: u32,
     falling: usize,
-    ends: &[[u8; 100]],
+    ends: &[u8; 100],
 ) -> usize
-    requires { ⌜ (Ready (now cells) (now corners) count) × ((Indexes 100 (now wavefront) size)
-        × ((goal < 100) × ((«wavefront_cost» + falling ≤ 101) × (Lent (now ends) (now cells))))) ⌝ }
+    requires { ⌜ (Ready (now cells) (now corners) count) × ((Indexes 100 (now wavefront) size) × ((length (now next) ≡ 100)
+        × ((goal < 100) × ((«wavefront_cost» + falling ≤ 101) × (Lent goal (now ends) (now cells)))))) ⌝ }
     ensures { λ r. ⌜ ((before : List ℕ) (k : ℕ) → «wavefront_cost» ≡ suc k
         → sightOf (now (cells .entry)) (now (corners .entry)) count (take size (now (wavefront .entry))) ≡ sightAfter (cornerLine goal) before goal k
         → Holds (sightAfter (cornerLine goal) before goal (k + falling)) (now (cells .exit)) (now (corners .exit)) r) ⌝ }
@@ -416,14 +418,13 @@ fn propagate_los(
     if size == 0 {
         return count;
     }
-    let mut next: [u8; 100] = [0; 100];
     let counts = look_wave(
         cells,
         corners,
         count,
         wavefront,
         size,
-        &mut next,
+        next,
         goal,
         wavefront_cost,
         ends,
@@ -434,8 +435,9 @@ fn propagate_los(
         cells,
         corners,
         listed,
-        &next,
+        next,
         queued,
+        wavefront,
         goal,
         wavefront_cost + 1,
         falling - 1,
@@ -457,12 +459,23 @@ fn has_wall(cells: &[u32; 100]) -> bool
     found
 }
 
-// Spreads sight from the goal. Where a corner's line ends is read from a table, which is laid out here, once, and lent to the waves. Without a
-// wall there is no corner and no line: then one row of zeros is lent in its place, which nothing reads. Answers how many corners are listed.
+// Where the lines of a goal's corners end, for the waves of its sight: read from the table of line ends. Without a wall there is no corner and no line:
+// then they are zeros, which nothing reads.
+fn ends_to_lend(cells: &[u32; 100], goal: usize) -> [u8; 100]
+    requires { ⌜ (length (now cells) ≡ 100) × (goal < 100) ⌝ }
+    ensures { λ r. ⌜ Lent goal r (now (cells .entry)) ⌝ }
+{
+    if has_wall(cells) {
+        return line_end_table::read_ends(goal);
+    }
+    [0; 100]
+}
+
+// Spreads sight from the goal, which is the one cell of `wavefront`. Answers how many corners are listed.
 fn spread_sight(
     cells: &mut [u32; 100],
     corners: &mut [usize; 100],
-    wavefront: &[u8; 100],
+    wavefront: &mut [u8; 100],
     goal: usize,
 ) -> usize
     requires { ⌜ (Ready (now cells) (now corners) 0) × ((Indexes 100 (now wavefront) 1) × (goal < 100)) ⌝ }
@@ -470,13 +483,20 @@ fn spread_sight(
         → sightOf (now (cells .entry)) (now (corners .entry)) 0 (take 1 (now (wavefront .entry))) ≡ sightAfter (cornerLine goal) before goal 0
         → Holds (sightAfter (cornerLine goal) before goal 100) (now (cells .exit)) (now (corners .exit)) r) ⌝ }
 {
-    if has_wall(cells) {
-        let mut ends: [[u8; 100]; 100] = [[0; 100]; 100];
-        line_end_table::ends::lay_out(&mut ends);
-        return propagate_los(cells, corners, 0, wavefront, 1, goal, 1, 100, &ends);
-    }
-    let none: [[u8; 100]; 1] = [[0; 100]; 1];
-    propagate_los(cells, corners, 0, wavefront, 1, goal, 1, 100, &none)
+    let ends = ends_to_lend(cells, goal);
+    let mut next: [u8; 100] = [0; 100];
+    propagate_los(
+        cells,
+        corners,
+        0,
+        wavefront,
+        1,
+        &mut next,
+        goal,
+        1,
+        100,
+        &ends,
+    )
 }
 
 // A cell's word as its cost gives it.
@@ -542,7 +562,7 @@ fn start_from(costs: &[u8], goal: usize) -> IntegrationField
     cells[goal] = INT_BITS_GOAL;
     let mut wavefront: [u8; 100] = [0; 100];
     wavefront[0] = goal as u8;
-    field.count = spread_sight(&mut cells, &mut field.los_corners, &wavefront, goal);
+    field.count = spread_sight(&mut cells, &mut field.los_corners, &mut wavefront, goal);
     field.field = cells;
     field
 }

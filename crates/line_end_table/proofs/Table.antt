@@ -1,18 +1,20 @@
 -- A table that passes one test, which antt computes entry by entry, holds the line end of each pair.
 --     every-end     the table
 --     in-row        and what it holds is read by row and place in the row
+--     read-more     a goal's ends, read corner by corner
 -- Assumes nothing.
-use mathlib.Core.Path.{_≡_, _∙_, subst, sym, ap}
-use mathlib.Core.Bool.{Bool, true, false}
+use mathlib.Core.Path.{_≡_, refl, _∙_, subst, sym, ap}
+use mathlib.Core.Bool.{Bool, true, false, not}
 use mathlib.Core.List.{List, [], _∷_}
-use Prim.Native.Nat.{ℕ, zero, suc, _+_, _*_, _/_, _%_, _<_}
+use Prim.Native.Nat.{ℕ, zero, suc, _+_, _*_, _/_, _%_, _<_, _≤_}
 use native.Mathlib.Nat.{add-zero, zero-add, add-suc, suc-add, le-of-suc-le-suc, not-suc-le-zero}
 use native.Mathlib.Omega.{arith}
-use lib.Dec.{T, eqb, eqb→eq}
-use lib.ListN.{length, getD}
+use lib.Dec.{T, eqb, eqb→eq, ltb, ltb→lt, nltb→le}
+use lib.ListN.{length, getD, set, length-set}
+use lib.Seq.{getD-set-same, getD-set-other}
 use Rattle.fields.specs.Cell.{cellAt, indexOf}
 use Rattle.line_end.specs.LineEnd.{lineEnd}
-use Rattle.line_end_table.specs.Ends.{entryAt, HoldsEnds}
+use Rattle.line_end_table.specs.Ends.{entryAt, HoldsEnds, EndsTo}
 
 -- ---- a test of each entry, for any table
 abbrev both : Bool → Bool → Bool
@@ -76,3 +78,18 @@ in-row ends held corner goal p q =
     let c : (corner * 100 + goal) / 100 ≡ corner = omega arith in
     let g : (corner * 100 + goal) % 100 ≡ goal = omega arith in
     rw (c, g) at (held .each corner goal p q)
+
+-- ---- a goal's ends, read corner by corner: with the end of the next corner at its place they reach one further
+pub read-more : (goal : ℕ) (found : List ℕ) (i x : ℕ) → i < 100 → x ≡ indexOf (lineEnd (cellAt i) (cellAt goal))
+    → EndsTo i goal found → EndsTo (i + 1) goal (set found i x)
+read-more goal found i x room here before =
+    record { full = length-set found i x ∙ before .full; each = λ corner h. go corner h (ltb corner i) refl }
+  where
+    go : (corner : ℕ) → corner < i + 1 → (b : Bool) → ltb corner i ≡ b → getD (set found i x) corner 0 ≡ indexOf (lineEnd (cellAt corner) (cellAt goal))
+    go corner h true e =
+        let less : corner < i = ltb→lt corner i (subst T (sym e) tt) in
+        getD-set-other found i corner x 0 (λ q. absurd (omega arith)) ∙ before .each corner less
+    go corner h false e =
+        let least : i ≤ corner = nltb→le corner i (subst (λ (b : Bool). T (not b)) (sym e) tt) in
+        let same : i ≡ corner = omega arith in
+        subst (λ (c : ℕ). getD (set found i x) c 0 ≡ indexOf (lineEnd (cellAt c) (cellAt goal))) same (getD-set-same found i x 0 (rw (before .full) room) ∙ here)

@@ -16,3 +16,12 @@ entryAt ends place = getD (getD ends (place / 100) []) (place % 100) 0
 pub record HoldsEnds (ends : List (List ℕ)) : Type 0 where
   pub long : length ends ≡ 100
   pub each : (corner goal : ℕ) → corner < 100 → goal < 100 → entryAt ends (corner * 100 + goal) ≡ indexOf (lineEnd (cellAt corner) (cellAt goal))
+
+-- Of such a table what one goal reads: a place for each corner, and for the corners below a number the index of the cell in which its line ends.
+pub record EndsTo (corners goal : ℕ) (ends : List ℕ) : Type 0 where
+  pub full : length ends ≡ 100
+  pub each : (corner : ℕ) → corner < corners → getD ends corner 0 ≡ indexOf (lineEnd (cellAt corner) (cellAt goal))
+
+-- and for all corners
+abbrev pub EndsFor : ℕ → List ℕ → Type 0
+EndsFor goal ends = EndsTo 100 goal ends

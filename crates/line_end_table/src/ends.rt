@@ -10004,7 +10004,7 @@ const LINE_ENDS: [[u8; 100]; 100] = [
     ],
 ];
 
-// Lays the table out where it is lent. A constant is laid out anew at each use: so it is used here alone, once for a field, and read where it lies.
+// Lays the table out where it is lent. A constant is laid out anew at each use: so it is used here alone, and read where it lies.
 pub fn lay_out(ends: &mut [[u8; 100]; 100])
     ensures { λ _. ⌜ HoldsEnds (now (ends .exit)) ⌝ }
 {

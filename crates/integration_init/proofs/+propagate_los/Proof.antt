@@ -24,15 +24,15 @@ use Rattle.integration_init.proofs.look_wave.Reads as wave
 use Rattle.integration_init.proofs.+propagate_los.{statement}
 use Rattle.integration_init.proofs.+propagate_los.Tie.{close}
 
-abbrev μ : Measures 4 kinds.ps ℕ
-μ κs a = a .1 .1 .1 .1 .1 .1 .1 .0
+abbrev μ : Measures 5 kinds.ps ℕ
+μ κs a = a .1 .1 .1 .1 .1 .1 .1 .1 .0
 
 -- what the function is given at the measure t, what a call of it asks below t, and what its calls ask and ensure
-abbrev at : ℕ → In 4 kinds.ps
-at t = and 4 kinds.ps (is 4 kinds.ps μ t) go.Pre
+abbrev at : ℕ → In 5 kinds.ps
+at t = and 5 kinds.ps (is 5 kinds.ps μ t) go.Pre
 
-abbrev below : ℕ → In 4 kinds.ps
-below t = and 4 kinds.ps (falls 4 kinds.ps _<_ μ t) go.Pre
+abbrev below : ℕ → In 5 kinds.ps
+below t = and 5 kinds.ps (falls 5 kinds.ps _<_ μ t) go.Pre
 
 abbrev calls : ℕ → lts.Claims
 calls t = (wave.Asked, wave.Learnt, below t, go.Post)
@@ -52,7 +52,7 @@ module _ (t : ℕ) where
   start c = c .before .before
 
   abbrev left : Looked → Left
-  left c = c .before .before .before .before
+  left c = c .before .before .before .before .before
 
   -- the sight at entry
   abbrev entry : Start → Sight
@@ -68,7 +68,7 @@ module _ (t : ℕ) where
 
   -- the wave's cost is at most 100
   wave-in : (c : Left) → start c .args .wavefront-cost ≤ 100
-  wave-in c = omega (arith, falls-on c, start c .pre .1 .1 .1 .1 .0)
+  wave-in c = omega (arith, falls-on c, start c .pre .1 .1 .1 .1 .1 .0)
 
   returns : lts.Need-returns (calls t) (at t) go.Post
   returns c before k e f =
@@ -87,33 +87,35 @@ module _ (t : ℕ) where
 
   look-wave-requires : lts.Need-look-wave-requires (calls t) (at t) go.Post
   look-wave-requires c κs =
-      let l = c .before .before .before in
+      let l = c .before .before .before .before in
       let p = start l .pre .1 in
-      (p .0, (p .1 .0, (refl, record { wave-in = wave-in l; goal-in = p .1 .1 .0; from-in = p .1 .1 .0; table = p .1 .1 .1 .1 })))
+      let q = p .1 .1 .1 in
+      (p .0, (p .1 .0, (p .1 .1 .0, record { wave-in = wave-in l; goal-in = q .0; from-in = q .0; ends = q .1 .1 })))
 
   add-cost : lts.Need-add-propagate-los (calls t) (at t) go.Post
-  add-cost c = let looked = c .before .before .before in omega (arith, wave-in (left looked))
+  add-cost c = let looked = c .before .before .before .before in omega (arith, wave-in (left looked))
 
   sub-falling : lts.Need-sub-propagate-los (calls t) (at t) go.Post
-  sub-falling c = let looked = c .before .before .before in falls-on (left looked)
+  sub-falling c = let looked = c .before .before .before .before in falls-on (left looked)
 
   propagate-los-requires : lts.Need-propagate-los-requires (calls t) (at t) go.Post
   propagate-los-requires c κs =
-      let looked = c .before .before .before in
+      let looked = c .before .before .before .before in
       let s = start (left looked) in
       let a = s .args in
-      let p = s .pre .1 .1 .1 in
+      let given = s .pre .1 .1 in
+      let p = given .1 .1 in
       let h = falls-on (left looked) in
       let less : a .falling - 1 < t = omega (arith, s .pre .0) in
       let sum : a .wavefront-cost + 1 + (a .falling - 1) ≤ 101 = omega (arith, p .1 .0) in
       let ready = all-ready (looked .look-wave .ensures) in
       let begun = sightOf (now (a .cells)) (now (a .corners)) (a .count) [] in
-      let lent = lent-wave (cornerLine (a .goal)) (a .wavefront-cost) (wave-in (left looked)) _ begun (take (a .size) (now (a .wavefront))) (p .1 .1) in
-      (less, (all-begins ready, (held-wavefront ready, (p .0, (sum, rw (looked .look-wave .ensures .held .cells-held) lent)))))
+      let lent = lent-wave (cornerLine (a .goal)) (a .wavefront-cost) (wave-in (left looked)) _ _ begun (take (a .size) (now (a .wavefront))) (p .1 .1) in
+      (less, (all-begins ready, (held-wavefront ready, (given .0 .full, (p .0, (sum, rw (looked .look-wave .ensures .held .cells-held) lent))))))
 
   returns-3 : lts.Need-returns-3 (calls t) (at t) go.Post
   returns-3 c before k e f =
-      let looked = c .before .before .before .before in
+      let looked = c .before .before .before .before .before in
       let s = start (left looked) in
       let a = s .args in
       let line = cornerLine (a .goal) in

@@ -1,5 +1,5 @@
--- `integration_init::extend_los_corner` meets its contract: the end that the table holds is the definition's and lies in the sector, and so
--- the line is the definition's.
+-- `integration_init::extend_los_corner` meets its contract: the end that is lent for the corner is the definition's and lies in the sector, and
+-- so the line is the definition's.
 -- Assumes nothing.
 use mathlib.Core.Path.{_≡_, refl, sym, ap, ap₂, subst, _∙_}
 use mathlib.Core.List.{map}
@@ -23,11 +23,14 @@ use Rattle.integration_init.proofs.extend_los_corner.Tie as tie
 abbrev Ended : Type 0
 Ended = tie.After-from-index2
 
+abbrev placed : Ended → tie.After-from-index
+placed c = c .before .before .before
+
 abbrev start : Ended → tie.Start
-start c = c .before .before .before
+start c = placed c .before
 
 abbrev from : Ended → FieldCell
-from c = c .before .before .from-index .result
+from c = placed c .from-index .result
 
 abbrev end : Ended → FieldCell
 end c = c .from-index2 .result
@@ -37,19 +40,18 @@ abbrev defined : Ended → FieldCell
 defined c = lineEnd (cellAt (start c .args .corner)) (cellAt (start c .args .goal))
 
 from-inside : (c : Ended) → Inside (from c)
-from-inside c = subst Inside (sym (c .before .before .from-index .ensures)) (cell-inside (start c .args .corner) (start c .pre .1 .from-in))
+from-inside c = subst Inside (sym (placed c .from-index .ensures)) (cell-inside (start c .args .corner) (start c .pre .1 .from-in))
 
 defined-inside : (c : Ended) → Inside (defined c)
 defined-inside c = end-inside _ (cellAt (start c .args .goal)) (cell-inside (start c .args .corner) (start c .pre .1 .from-in))
 
 end-is : (c : Ended) → end c ≡ defined c
-end-is c = c .from-index2 .ensures ∙ ap cellAt (c .before .read-end .ensures) ∙ cell-of-index (defined c) (defined-inside c)
+end-is c =
+    let w = start c .pre .1 in
+    c .from-index2 .ensures ∙ ap cellAt (c .before .index-of .ensures ∙ w .ends .each _ (w .from-in)) ∙ cell-of-index (defined c) (defined-inside c)
 
 end-within : (c : Ended) → Inside (end c)
 end-within c = subst Inside (sym (end-is c)) (defined-inside c)
-
-read-end-requires : tie.Need-read-end-requires
-read-end-requires c κs = let w = c .before .pre .1 in (w .table, w .from-in, w .goal-in)
 
 draw-requires : tie.Need-draw-cells-between-points-requires
 draw-requires c κs = let e = c .before in ((from-inside e, end-within e), refl)
@@ -80,12 +82,13 @@ returns c =
     let e = ended d in
     let l = d .draw-cells-between-points in
     let cells : take (l .result) (l .last .1 .1 .0) ≡ map indexOf (line (cellAt (start e .args .corner)) (defined e)) =
-    drawn-list (l .ensures) ∙ ap (map indexOf) (ap₂ line (e .before .before .from-index .ensures) (end-is e)) in
+    drawn-list (l .ensures) ∙ ap (map indexOf) (ap₂ line (placed e .from-index .ensures) (end-is e)) in
     rw (← cells) (c .mark-line .ensures)
 
 pub extend-los-corner-spec : {M : Type 1} → statement M
 extend-los-corner-spec = tie.close (tie.spec
     (λ c κs. search needs)
-    read-end-requires
+    (λ c. search needs)
+    (λ c κs. search needs)
     (λ c κs. search needs)
     draw-requires mark-line-requires returns)

@@ -23,7 +23,7 @@ Inv-loop cells₀ corners₀ queue₀ from goal wavefront-cost ends counted₀ s
     × ReadyAll cells corners (counted .corners) queue (counted .queued)
     × (lookedAround (cornerLine goal) wavefront-cost from orthogonal (sightOf cells₀ corners₀ (counted₀ .corners) (take (counted₀ .queued) queue₀))
     ≡ lookedAround (cornerLine goal) wavefront-cost from (drop side orthogonal) (sightOf cells corners (counted .corners) (take (counted .queued) queue)))
-    × Lent ends cells
+    × Lent goal ends cells
 
 abbrev μ-loop : tie.MeasureT-loop
 μ-loop cells₀ corners₀ queue₀ from goal wavefront-cost ends counted₀ side₀ cells corners queue counted side = 4 - side
@@ -43,14 +43,14 @@ returns : tie.Need-returns Inv-loop μ-loop
 returns c = let in-sector = c .before .pre .1 .from-in in absurd (omega arith)
 
 loop-holds : tie.Need-loop-holds Inv-loop μ-loop
-loop-holds c = (search needs, c .before .pre .0, refl, c .before .pre .1 .table)
+loop-holds c = (search needs, c .before .pre .0, refl, c .before .pre .1 .ends)
 
 look-requires : tie.Need-look-requires Inv-loop μ-loop
 look-requires c κs =
     let known = c .before .before .before in
     let turn = known .before .before in
     let w = start turn .pre .1 in
-    (turn .loop .inv .1, record { wave-in = w .wave-in; goal-in = w .goal-in; from-in = w .from-in; table = turn .loop .inv .3 })
+    (turn .loop .inv .1, record { wave-in = w .wave-in; goal-in = w .goal-in; from-in = w .from-in; ends = turn .loop .inv .3 })
 
 loop-again : tie.Need-loop-again Inv-loop μ-loop
 loop-again c =
@@ -69,7 +69,7 @@ loop-again c =
           ∙ ap (lookedAround line (a .wavefront-cost) (a .from) (drop (l .side + 1) orthogonal))
           (ap towards (sym (told .from-boundary .ensures)) ∙ sym (held-all (c .look .ensures))),
       rw (c .look .ensures .held .cells-held)
-          (lent-looked line (a .wavefront-cost) (start turn .pre .1 .wave-in) _ (held turn) (a .from) dir (stepped (cellAt (a .from)) dir) (l .inv .3)),
+          (lent-looked line (a .wavefront-cost) (start turn .pre .1 .wave-in) _ _ (held turn) (a .from) dir (stepped (cellAt (a .from)) dir) (l .inv .3)),
     )
 
 returns-2 : tie.Need-returns-2 Inv-loop μ-loop

@@ -13,7 +13,7 @@ use Rattle.started_field.specs.CornerLine.{cornerLine}
 use Rattle.integration_init.specs.Held.{sightOf}
 use Rattle.integration_init.proofs.Looks.{all-begins, wall-held, seen-room, seen-held}
 use Rattle.integration_init.proofs.Masks.{none-set, one-set}
-use Rattle.integration_init.proofs.Walls.{table-met}
+use Rattle.integration_init.proofs.Walls.{ends-met}
 use Rattle.integration_init.proofs.look_at.Statement.{statement}
 use Rattle.integration_init.proofs.look_at.Tie as tie
 
@@ -54,8 +54,8 @@ meet-wall-requires c κs =
     let wall = c .before .before in
     let s = begun (wall .before) in
     let w = s .pre .1 .0 in
-    let met = table-met _ (now (s .args .cells)) (s .args .n) (sym (wall .before .is-impassable .ensures) ∙ wall .if2 .taken) (w .table) in
-    (all-begins (s .pre .0), (record { wave-in = w .wave-in; goal-in = w .goal-in; from-in = w .from-in; table = met }, s .pre .1 .1))
+    let met = ends-met _ _ (now (s .args .cells)) (s .args .n) (sym (wall .before .is-impassable .ensures) ∙ wall .if2 .taken) (w .ends) in
+    (all-begins (s .pre .0), (record { wave-in = w .wave-in; goal-in = w .goal-in; from-in = w .from-in; ends = met }, s .pre .1 .1))
 
 returns-2 : tie.Need-returns-2
 unfolding neighbourLooked

@@ -24,7 +24,7 @@ Inv-loop cells₀ corners₀ count wavefront size next₀ goal wavefront-cost en
     × ReadyAll cells corners (counts .corners) next (counts .queued)
     × (waveLooked (cornerLine goal) wavefront-cost (take size wavefront) (sightOf cells₀ corners₀ count [])
     ≡ waveLooked (cornerLine goal) wavefront-cost (slice i size wavefront) (sightOf cells corners (counts .corners) (take (counts .queued) next)))
-    × Lent ends cells
+    × Lent goal ends cells
 
 abbrev μ-loop : tie.MeasureT-loop
 μ-loop cells₀ corners₀ count wavefront size next₀ goal wavefront-cost ends counts₀ i₀ cells corners next counts i = size - i
@@ -52,7 +52,7 @@ held c = let l = c .loop in sightOf (l .cells) (l .corners) (l .counts .corners)
 loop-holds : tie.Need-loop-holds Inv-loop μ-loop
 loop-holds c =
     let p = c .pre in
-    (search needs, record { room = p .0 .room; held = p .0 .held; full = p .1 .1 .0; queue-held = refl; queued-held = refl }, refl, p .1 .1 .1 .table)
+    (search needs, record { room = p .0 .room; held = p .0 .held; full = p .1 .1 .0; queue-held = refl; queued-held = refl }, refl, p .1 .1 .1 .ends)
 
 look-around-requires : tie.Need-look-around-requires Inv-loop μ-loop
 look-around-requires c κs =
@@ -60,7 +60,7 @@ look-around-requires c κs =
     let l = turn told .loop in
     let p = start (turn told) .pre .1 in
     let from-in : told .index-of .result < 100 = omega (arith, told .index-of .ensures, p .0 .cells-in (l .i) (tested told .loop-test .taken)) in
-    (l .inv .1, record { wave-in = p .1 .1 .wave-in; goal-in = p .1 .1 .goal-in; from-in = from-in; table = l .inv .3 })
+    (l .inv .1, record { wave-in = p .1 .1 .wave-in; goal-in = p .1 .1 .goal-in; from-in = from-in; ends = l .inv .3 })
 
 loop-again : tie.Need-loop-again Inv-loop μ-loop
 loop-again c =
@@ -78,7 +78,7 @@ loop-again c =
           ∙ ap (λ (n : ℕ). rest (lookedAround line (a .wavefront-cost) n orthogonal (held (turn told)))) (sym (told .index-of .ensures))
           ∙ ap rest (sym (held-all (c .look-around .ensures))),
       rw (c .look-around .ensures .held .cells-held)
-          (lent-around line (a .wavefront-cost) (s .pre .1 .1 .1 .wave-in) _ (held (turn told)) _ orthogonal (l .inv .3)),
+          (lent-around line (a .wavefront-cost) (s .pre .1 .1 .1 .wave-in) _ _ (held (turn told)) _ orthogonal (l .inv .3)),
     )
 
 returns : tie.Need-returns Inv-loop μ-loop

@@ -69,7 +69,7 @@ extend-los-corner-requires c κs =
     let told = c .before .before in
     let s = start₂ (at-wall (told .before)) in
     let w = s .pre .1 .0 in
-    (s .pre .0, record { wave-in = w .wave-in; goal-in = w .goal-in; from-in = index told .1; table = w .table })
+    (s .pre .0, record { wave-in = w .wave-in; goal-in = w .goal-in; from-in = index told .1; ends = w .ends })
 
 returns-3 : tie.Need-returns-3
 unfolding sideTried
