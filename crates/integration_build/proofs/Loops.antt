@@ -3,6 +3,7 @@
 --     corners-step, corners-end    the same for the test of the corners
 --     corner-more                  a corner more
 --     clear-first .. clear-end     the places beyond the list, cleared
+--     copy-more, copy-all          a list copied into another of its length
 -- Assumes nothing.
 use mathlib.Core.Path.{_≡_, sym, ap, ap₂, _∙_}
 use mathlib.Core.Bool.{true, false}
@@ -85,3 +86,16 @@ module _ (corners : List ℕ) (count : ℕ) where
 
     pub clear-end : (l : List ℕ) → length l ≡ 100 → take 100 l ≡ take 100 (padded (take count corners)) → l ≡ padded (take count corners)
     clear-end l full e = sym (take-all 100 l (omega arith)) ∙ e ∙ take-all 100 (padded (take count corners)) (omega (arith, whole))
+
+-- ---- a list copied, element by element
+
+module _ (costs held : List ℕ) (long : length costs ≡ 100) (full : length held ≡ 100) where
+  pub copy-more : (i : ℕ) → i < 100 → take i held ≡ take i costs → take (i + 1) (set held i (getD costs i 0)) ≡ take (i + 1) costs
+  copy-more i h t =
+      rw add-one
+      (take-suc-set held i (getD costs i 0) (omega arith)
+      ∙ ap (λ (l : List ℕ). l ++ getD costs i 0 ∷ []) t
+      ∙ sym (take-suc costs i 0 (omega arith)))
+
+  pub copy-all : take 100 held ≡ take 100 costs → held ≡ costs
+  copy-all t = sym (take-all 100 held (omega arith)) ∙ t ∙ take-all 100 costs (omega arith)

@@ -3,9 +3,11 @@
 --     settles-empty    a wave from no cell changes none
 --     settles-still    a wave that changes no cell is the last
 --     settles-more     a wave that changes a cell, and then the waves from those cells
+--     settles-on       where no wave is left to run, the count stays
+--     settles-all      where none was counted before, the count is of all
 --     built-cells      any number of waves from 99 on gives the definition's cells and count
---     built-is         and the record with them is the field built without positions
---     built-from, positions-are   to which positions are added, and then it is the definition's answer
+--     waves-leave      so do the waves from the first wave on
+--     built-is         and the record with them is the built field
 -- Assumes nothing.
 use mathlib.Core.Path.{_≡_, refl, sym, ap, ap₂, subst, _∙_}
 use mathlib.Core.Bool.{false}
@@ -24,15 +26,14 @@ use Rattle.integration_field.specs.declared.IntegrationField.{IntegrationField}
 use Rattle.integration_field.specs.Listed.{padded, Indexes, listOf}
 use Rattle.integration_field.specs.Wave.{offeredBy, changedFrom, next}
 use Rattle.integration_field.specs.Build.{Built, isEmpty, build}
-use Rattle.integration_field.specs.Answer.{answerOf, Accepted}
+use Rattle.integration_field.specs.Answer.{Accepted}
 use Rattle.integration_field.proofs.Lists.{corners-length}
 use Rattle.integration_field.proofs.Settled.{settle-none, settle-more, settle-any, settle-build}
 use Rattle.integration_field.proofs.Least.{rests-within}
 use Rattle.integration_field.proofs.Answers.{all-cells, all-below}
 use Rattle.integration_build.proofs.Changed.{changed-member, member-changed, changed-first-member}
 use Rattle.integration_build.proofs.Members.{settles-same}
-use Rattle.integration_build.specs.Without.{builtWithout, answerWithout, withPositions, BuiltFrom}
-use Rattle.integration_build.specs.Wavefront.{Settles}
+use Rattle.integration_build.specs.Wavefront.{Settles, SettlesFrom}
 use Rattle.integration_build.specs.Inner.{ChangedCells}
 
 -- where the cells are as before, none changed
@@ -88,6 +89,23 @@ module _ (costs cells wave : List ℕ) where
               ∙ sym (settle-more costs n _ h (has-member (changedFrom 0 cells after) (getD places 0 0) one));
         }
 
+module _ {costs cells wave : List ℕ} {fuel : ℕ} {left : List ℕ} where
+  pub settles-on : {counted : ℕ} → Settles costs cells wave fuel left 0 → SettlesFrom costs cells wave counted fuel left counted
+  settles-on {counted} s = record { more = 0; counted-on = omega arith; settles = s }
+
+  pub settles-all : {waves : ℕ} → SettlesFrom costs cells wave 0 fuel left waves → Settles costs cells wave fuel left waves
+  settles-all {waves} s = let e : s .more ≡ waves = omega arith in subst (λ (n : ℕ). Settles costs cells wave fuel left n) e (s .settles)
+
+-- a field, built, with these positions
+abbrev pub builtWith : List ℕ → IntegrationField → List ℕ → IntegrationField
+builtWith costs f positions =
+    record {
+      field = build costs (f .field) (listOf f) .cells;
+      «los_corners» = padded (listOf f);
+      count = length (listOf f);
+      positions = positions;
+    }
+
 module _ (costs : List ℕ) (f : IntegrationField) (long : length (f .«los_corners») ≡ 100) (a : Accepted costs f) where
   many : length (listOf f) ≡ f .count
   many = corners-length f long (a .count-in)
@@ -116,34 +134,32 @@ module _ (costs : List ℕ) (f : IntegrationField) (long : length (f .«los_corn
         let t : Settles costs (f .field) (listOf f) m left waves = rw listed at s in
         t .settled enough ∙ settle-build costs (f .field) (listOf f) m enough
 
-  -- the record that comes out
-  pub built-is : (places : List ℕ) → places ≡ padded (listOf f) → {left : List ℕ} {waves : ℕ}
-      → record { cells = left; waves = waves } ≡ build costs (f .field) (listOf f)
-      → record { number = 0; field = record { field = left; «los_corners» = places; count = f .count; positions = f .positions }; waves = waves }
-      ≡ answerWithout costs f
-  built-is places e {left} {waves} b =
-      ap₂ (λ (l : List ℕ) (n : ℕ). record {
-        number = 0;
-        field = record { field = left; «los_corners» = l; count = n; positions = f .positions };
-        waves = waves;
-      }) e (sym many)
-      ∙ ap (λ (x : Built). record {
-        number = 0;
-        field = record { field = x .cells; «los_corners» = padded (listOf f); count = length (listOf f); positions = f .positions };
-        waves = x .waves;
-      }) b
+  -- so the waves from the first wave on: the list's, where the places beyond the list are cleared
+  module _ (places wave : List ℕ) (cleared : places ≡ padded (listOf f)) (first : wave ≡ padded (take (f .count) places)) where
+    pub same-list : take (f .count) places ≡ listOf f
+    same-list = listed 100 (omega arith) places cleared
 
-  -- its list is the one that the field had
-  same-list : listOf (builtWithout costs f) ≡ listOf f
-  same-list = take-append-seam (listOf f) (replicate (100 - length (listOf f)) 0)
+    pub places-in : Indexes 100 places (f .count)
+    places-in = corners-indexes 100 (omega arith) places cleared (f .count) (omega arith)
 
-  -- so that its positions can be sought, and are the definition's
-  pub built-from : length (f .field) ≡ 100 → BuiltFrom costs (f .field) (answerWithout costs f)
-  built-from full = record {
-    full = full;
-    cells-are = ap (λ (l : List ℕ). build costs (f .field) l .cells) (sym same-list);
-    list-in = corners-indexes 100 (omega arith) _ refl (length (listOf f)) (omega (arith, many));
-  }
+    wave-is : wave ≡ padded (listOf f)
+    wave-is = first ∙ ap padded same-list
 
-  pub positions-are : withPositions costs (f .field) (answerWithout costs f) ≡ answerOf 0 costs f
-  positions-are = rw same-list
+    pub wave-in : Indexes 100 wave (f .count)
+    wave-in = corners-indexes 100 (omega arith) wave wave-is (f .count) (omega arith)
+
+    pub waves-leave : length (f .field) ≡ 100 → {left : List ℕ} {waves : ℕ} → Settles costs (f .field) (take (f .count) wave) 100 left waves
+        → record { cells = left; waves = waves } ≡ build costs (f .field) (listOf f)
+    waves-leave full s = built-cells 100 (omega arith) wave wave-is full s (omega arith)
+
+    -- and the record that holds what they leave, whatever positions it has
+    pub built-is : {left : List ℕ} {waves : ℕ} → record { cells = left; waves = waves } ≡ build costs (f .field) (listOf f) → (positions : List ℕ)
+        → record { field = left; «los_corners» = places; count = f .count; positions = positions } ≡ builtWith costs f positions
+    built-is {left} b positions =
+        ap₂ (λ (l : List ℕ) (n : ℕ). record { field = left; «los_corners» = l; count = n; positions = positions }) cleared (sym many)
+        ∙ ap (λ (x : Built). record {
+          field = x .cells;
+          «los_corners» = padded (listOf f);
+          count = length (listOf f);
+          positions = positions;
+        }) b

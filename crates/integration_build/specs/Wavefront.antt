@@ -2,7 +2,7 @@
 -- Assumes nothing.
 use mathlib.Core.Path.{_≡_}
 use mathlib.Core.List.{List}
-use Prim.Native.Nat.{ℕ, _≤_}
+use Prim.Native.Nat.{ℕ, _+_, _≤_}
 use Rattle.integration_field.specs.Rest.{Rests}
 use Rattle.integration_field.specs.Build.{settle}
 
@@ -11,3 +11,9 @@ pub record Settles (costs cells wave : List ℕ) (fuel : ℕ) (left : List ℕ) 
   pub within : waves ≤ fuel
   pub settled : (h : Rests costs fuel (record { cells = cells; changed = wave }))
       → record { cells = left; waves = waves } ≡ settle costs fuel (record { cells = cells; changed = wave }) h
+
+-- the same, where `waves` goes on from those that were counted before
+pub record SettlesFrom (costs cells wave : List ℕ) (counted fuel : ℕ) (left : List ℕ) (waves : ℕ) : Type 0 where
+  pub more : ℕ
+  pub counted-on : waves ≡ counted + more
+  pub settles : Settles costs cells wave fuel left more

@@ -17,9 +17,9 @@ ghost use Rattle.integration_field.specs.Answer.{answerOf, allCells, Accepted, 
 ghost use Rattle.integration_field.specs.Promise.{LeastWalks, Counted, EarliestCorners, ListKept, BuildRefused};
 ghost use Rattle.least_walks.specs.Promise.{BuildsStarted};
 ghost use Rattle.arrows.specs.Promise.{StartedArrows};
-ghost use Rattle.integration_build.specs.Without.{answerWithout, withPositions, BuiltFrom};
-ghost use Rattle.integration_build.specs.Wavefront.{Settles};
-ghost use Rattle.integration_build.specs.Inner.{NotBelowAll, ChangedCells};
+ghost use Rattle.integration_build.specs.Without.{builtWithout};
+ghost use Rattle.integration_build.specs.Wavefront.{Settles, SettlesFrom};
+ghost use Rattle.integration_build.specs.Inner.{NotBelowAll, ChangedCells, OfferReady, WaveReady};
 
 // A cost byte as a number of a cell's width.
 fn wide(cost: u8) -> u32
@@ -75,7 +75,7 @@ fn relax(
 // its index is told by the index that the step is made from. Answers how many cells are listed.
 fn offer_towards(
     cells: &mut [u32; 100],
-    costs: &[u8],
+    costs: &[u8; 100],
     before: &[u32; 100],
     next: &mut [u8; 100],
     found: usize,
@@ -83,8 +83,7 @@ fn offer_towards(
     cell: usize,
     dir: CompassDir,
 ) -> usize
-    requires { ⌜ (value < 65536) × ((length (now costs) ≡ 100)
-        × (NotBelowAll (now before) value × ChangedCells (now before) (now cells) (now next) found)) ⌝ }
+    requires { ⌜ OfferReady (now before) (now cells) (now next) found value ⌝ }
     ensures offers { λ _. ⌜ now (cells .exit) ≡ offered (now (costs .entry)) value (stepped (cellAt cell) dir) (now (cells .entry)) ⌝ }
     ensures changes { λ r. ⌜ ChangedCells (now (before .entry)) (now (cells .exit)) (now (next .exit)) r ⌝ }
 {
@@ -101,15 +100,14 @@ fn offer_towards(
 // A value offered to the four neighbours. Answers how many cells are listed.
 fn offer_around(
     cells: &mut [u32; 100],
-    costs: &[u8],
+    costs: &[u8; 100],
     before: &[u32; 100],
     next: &mut [u8; 100],
     found: usize,
     value: u32,
     cell: usize,
 ) -> usize
-    requires { ⌜ (value < 65536) × ((length (now costs) ≡ 100)
-        × (NotBelowAll (now before) value × ChangedCells (now before) (now cells) (now next) found)) ⌝ }
+    requires { ⌜ OfferReady (now before) (now cells) (now next) found value ⌝ }
     ensures offers { λ _. ⌜ now (cells .exit) ≡ offeredAround (now (costs .entry)) value (cellAt cell) orthogonal (now (cells .entry)) ⌝ }
     ensures changes { λ r. ⌜ ChangedCells (now (before .entry)) (now (cells .exit)) (now (next .exit)) r ⌝ }
 {
@@ -126,13 +124,13 @@ fn offer_around(
 // The offers of a wavefront's cells, each from the value that the wave before left. The cells that they change are listed; answers how many.
 fn offer_wave(
     cells: &mut [u32; 100],
-    costs: &[u8],
+    costs: &[u8; 100],
     before: &[u32; 100],
     wave: &[u8; 100],
     count: usize,
     next: &mut [u8; 100],
 ) -> usize
-    requires { ⌜ (Indexes 100 (now wave) count) × ((length (now costs) ≡ 100) × ChangedCells (now before) (now cells) (now next) 0) ⌝ }
+    requires { ⌜ (Indexes 100 (now wave) count) × ChangedCells (now before) (now cells) (now next) 0 ⌝ }
     ensures offers { λ _. ⌜ now (cells .exit) ≡ offeredBy (now (costs .entry)) (now (before .entry)) (take count (now (wave .entry))) (now (cells .entry)) ⌝ }
     ensures changes { λ r. ⌜ ChangedCells (now (before .entry)) (now (cells .exit)) (now (next .exit)) r ⌝ }
 {
@@ -147,32 +145,80 @@ fn offer_wave(
     found
 }
 
-// The waves from a wavefront on, one a call, at most `fuel` of them. Answers how many changed a cell.
+// The waves from a wavefront on, one a call, at most `fuel` of them; `waves` were counted before. The wavefront, the places for the cells that it changes
+// and those for the words from before it are lent from above, and the two wavefronts change places in the call for the next wave, which is the last
+// thing that a wave does. So a wave takes no memory of its own. Answers how many waves changed a cell, with those counted before.
 fn propagate_integrated_wavefront(
-    costs: &[u8],
+    costs: &[u8; 100],
     cells: &mut [u32; 100],
-    wavefront: &[u8; 100],
+    before: &mut [u32; 100],
+    wavefront: &mut [u8; 100],
     count: usize,
+    next: &mut [u8; 100],
+    waves: usize,
     fuel: usize,
 ) -> usize
-    requires { ⌜ (Indexes 100 (now wavefront) count) × ((length (now cells) ≡ 100) × (length (now costs) ≡ 100)) ⌝ }
-    ensures { λ r. ⌜ Settles (now (costs .entry)) (now (cells .entry)) (take count (now (wavefront .entry))) fuel (now (cells .exit)) r ⌝ }
+    requires { ⌜ WaveReady (now cells) (now wavefront) count (now next) waves fuel ⌝ }
+    ensures { λ r. ⌜ SettlesFrom (now (costs .entry)) (now (cells .entry)) (take count (now (wavefront .entry))) waves fuel (now (cells .exit)) r ⌝ }
 {
     if fuel == 0 {
-        return 0;
+        return waves;
     }
     // No cell offers, so none changes: a field without corners.
     if count == 0 {
-        return 0;
+        return waves;
     }
-    let before = *cells;
-    let mut next: [u8; 100] = [0; 100];
-    let some = offer_wave(cells, costs, &before, wavefront, count, &mut next);
+    *before = *cells;
+    let some = offer_wave(cells, costs, before, wavefront, count, next);
     if some == 0 {
-        return 0;
+        return waves;
     }
-    let rest = propagate_integrated_wavefront(costs, cells, &next, some, fuel - 1);
-    rest + 1
+    propagate_integrated_wavefront(
+        costs,
+        cells,
+        before,
+        next,
+        some,
+        wavefront,
+        waves + 1,
+        fuel - 1,
+    )
+}
+
+// The cost bytes as an array, which is lent by one address. (A slice that is handed on lies in the memory of the function that hands it on, so that its
+// call of the next wave could not be the last thing that it does.)
+fn held_costs(costs: &[u8]) -> [u8; 100]
+    requires { ⌜ length (now costs) ≡ 100 ⌝ }
+    ensures { λ r. ⌜ r ≡ now (costs .entry) ⌝ }
+{
+    let mut held: [u8; 100] = [0; 100];
+    let mut i = 0;
+    while i < 100 {
+        held[i] = costs[i];
+        i += 1;
+    }
+    held
+}
+
+// The waves of building, from the first wavefront on: what they are lent is held here, once for all of them. No number of waves from 99 on gives another
+// answer than 100. Answers how many changed a cell.
+fn run_waves(costs: &[u8], cells: &mut [u32; 100], wavefront: &mut [u8; 100], count: usize) -> usize
+    requires { ⌜ (length (now costs) ≡ 100) × ((length (now cells) ≡ 100) × Indexes 100 (now wavefront) count) ⌝ }
+    ensures { λ r. ⌜ Settles (now (costs .entry)) (now (cells .entry)) (take count (now (wavefront .entry))) 100 (now (cells .exit)) r ⌝ }
+{
+    let held = held_costs(costs);
+    let mut before: [u32; 100] = [0; 100];
+    let mut next: [u8; 100] = [0; 100];
+    propagate_integrated_wavefront(
+        &held,
+        cells,
+        &mut before,
+        wavefront,
+        count,
+        &mut next,
+        0,
+        100,
+    )
 }
 
 // Whether each listed corner is the index of a cell.
@@ -223,51 +269,45 @@ fn put(positions: &mut [u8; 100], found: [u8; 100])
     *positions = found;
 }
 
-// A field whose corners are cells, built, but for its positions, which stay as they were given: its cells are lent to the waves, and no number of
-// waves from 99 on gives another answer than 100. It is built where it is answered from, so that it is not copied once more.
-pub fn build_without_positions(costs: &[u8], given: IntegrationField) -> BuildAnswer
+// A field whose corners are cells, built, but for its positions, which stay as they were given: for who answers no field.
+pub fn build_without_positions(costs: &[u8], given: IntegrationField) -> IntegrationField
     requires { ⌜ Accepted (now costs) given ⌝ }
-    ensures { λ r. ⌜ r ≡ answerWithout (now (costs .entry)) given ⌝ }
+    ensures { λ r. ⌜ r ≡ builtWithout (now (costs .entry)) given ⌝ }
 {
-    let count = given.count;
+    let mut field = given;
+    let count = field.count;
+    clear_beyond(&mut field.los_corners, count);
+    let mut wavefront = corner_wave(&field.los_corners, count);
+    run_waves(costs, &mut field.field, &mut wavefront, count);
+    field
+}
+
+// A field whose corners are cells, built, its positions among it: for who answers the field. It is built where it is answered from, so that its record
+// lies on the stack once.
+pub fn built(costs: &[u8], given: IntegrationField) -> BuildAnswer
+    requires { ⌜ Accepted (now costs) given ⌝ }
+    ensures { λ r. ⌜ r ≡ answerOf 0 (now (costs .entry)) given ⌝ }
+{
+    let before = given.field;
     let mut answer = BuildAnswer {
         number: 0,
         field: given,
         waves: 0,
     };
-    clear_beyond(&mut answer.field.los_corners, count);
-    let first = corner_wave(&answer.field.los_corners, count);
-    let waves = propagate_integrated_wavefront(costs, &mut answer.field.field, &first, count, 100);
-    answer.waves = waves;
-    answer
-}
-
-// A field built without positions, and its positions: `before` are its cells before building.
-fn add_positions(costs: &[u8], before: &[u32; 100], built: BuildAnswer) -> BuildAnswer
-    requires { ⌜ (length (now costs) ≡ 100) × BuiltFrom (now costs) (now before) built ⌝ }
-    ensures { λ r. ⌜ r ≡ withPositions (now (costs .entry)) (now (before .entry)) built ⌝ }
-{
-    let mut answer = built;
     let count = answer.field.count;
+    clear_beyond(&mut answer.field.los_corners, count);
+    let mut wavefront = corner_wave(&answer.field.los_corners, count);
+    let waves = run_waves(costs, &mut answer.field.field, &mut wavefront, count);
+    answer.waves = waves;
     let positions = corner_positions::corner_positions(
         costs,
-        before,
+        &before,
         &answer.field.field,
         &answer.field.los_corners,
         count,
     );
     put(&mut answer.field.positions, positions);
     answer
-}
-
-// A field whose corners are cells, built, its positions among it: for who answers the field.
-pub fn built(costs: &[u8], given: IntegrationField) -> BuildAnswer
-    requires { ⌜ Accepted (now costs) given ⌝ }
-    ensures { λ r. ⌜ r ≡ answerOf 0 (now (costs .entry)) given ⌝ }
-{
-    let before = given.field;
-    let answer = build_without_positions(costs, given);
-    add_positions(costs, &before, answer)
 }
 
 // A field given by hand, built on these costs.

@@ -1,37 +1,89 @@
--- `integration_build::built` meets its contract: built without positions, and then they are added.
+-- `integration_build::built` meets its contract: the waves run as they do without positions, and positions are sought in what they leave.
 -- Assumes nothing.
-use mathlib.Core.Path.{_≡_, ap, _∙_}
-use lib.ListN.{length}
+use mathlib.Core.Path.{_≡_, refl, sym, ap, ap₂, _∙_}
+use mathlib.Core.List.{List}
+use Prim.Native.Nat.{ℕ}
 use denote.Ref.{now}
+use lib.ListN.{length, take}
 use borrow.Author.Needs.{needs}
-use Rattle.integration_build.specs.Without.{withPositions}
-use Rattle.integration_build.proofs.Recursion.{built-from, positions-are}
+use Rattle.integration_field.specs.declared.IntegrationField.{IntegrationField}
+use Rattle.integration_field.specs.Listed.{padded, listOf}
+use Rattle.integration_field.specs.Build.{Built, build}
+use Rattle.integration_field.specs.Position.{positions as positionsOf}
+use Rattle.integration_build.proofs.Recursion.{builtWith, same-list, places-in, wave-in, waves-leave, built-is}
 use Rattle.integration_build.proofs.built.Statement.{statement}
 use Rattle.integration_build.proofs.built.Tie as tie
 
-full : (s : tie.Start) → length (s .args .given .field) ≡ 100
+-- the places: where the waves have run, the first wave is made, the places beyond the list are cleared; the call
+abbrev first : tie.After-run-waves → tie.After-corner-wave
+first r = r .before .before .before
+
+abbrev cleared : tie.After-corner-wave → tie.After-clear-beyond
+cleared w = w .before .before .before
+
+abbrev start : tie.After-clear-beyond → tie.Start
+start m = m .before .before .before .before
+
+-- what the call is given
+abbrev costs : tie.Start → List ℕ
+costs s = now (s .args .costs)
+
+abbrev given : tie.Start → IntegrationField
+given s = s .args .given
+
+full : (s : tie.Start) → length (given s .field) ≡ 100
 full s = search needs
 
-long : (s : tie.Start) → length (s .args .given .«los_corners») ≡ 100
+long : (s : tie.Start) → length (given s .«los_corners») ≡ 100
 long s = search needs
 
--- where it is built without positions, and the call
-abbrev start : tie.After-build-without-positions → tie.Start
-start c = c .before .before .before
-
-add-positions-requires : tie.Need-add-positions-requires
-add-positions-requires c κs =
-    let m = c .before in
+corner-wave-requires : tie.Need-corner-wave-requires
+corner-wave-requires c κs =
+    let m = c .before .before in
     let s = start m in
-    rw (m .build-without-positions .ensures) (s .pre .costs-hundred, built-from (now (s .args .costs)) (s .args .given) (long s) (s .pre) (full s))
+    places-in (costs s) (given s) (long s) (s .pre) _ _ (m .clear-beyond .ensures) refl
+
+run-waves-requires : tie.Need-run-waves-requires
+run-waves-requires c κs =
+    let w = c .before .before in
+    let m = cleared w in
+    let s = start m in
+    (s .pre .costs-hundred, (full s, wave-in (costs s) (given s) (long s) (s .pre) _ _ (m .clear-beyond .ensures) (w .corner-wave .ensures)))
+
+-- where the waves have run: what they leave, and the list that positions are sought for
+module _ (r : tie.After-run-waves) where
+  abbrev w : tie.After-corner-wave
+  w = first r
+
+  abbrev s : tie.Start
+  s = start (cleared w)
+
+  left : record { cells = r .run-waves .last .1 .0; waves = r .run-waves .result } ≡ build (costs s) (given s .field) (listOf (given s))
+  left =
+      waves-leave (costs s) (given s) (long s) (s .pre) _ _ (cleared w .clear-beyond .ensures) (w .corner-wave .ensures) (full s)
+      (r .run-waves .ensures)
+
+  listed : take (given s .count) (cleared w .clear-beyond .last .0) ≡ listOf (given s)
+  listed = same-list (costs s) (given s) (long s) (s .pre) _ _ (cleared w .clear-beyond .ensures) (w .corner-wave .ensures)
+
+positions-requires : tie.Need-corner-positions-requires
+positions-requires c κs =
+    let r = c .before .before .before .before in
+    let p = s r .pre in
+    let m = cleared (w r) in
+    let corners-in = places-in (costs (s r)) (given (s r)) (long (s r)) p _ _ (m .clear-beyond .ensures) refl in
+    let cells-are = ap (λ (b : Built). b .cells) (left r) ∙ ap (λ (l : List ℕ). build (costs (s r)) (given (s r) .field) l .cells) (sym (listed r)) in
+    (p .costs-hundred, (full (s r), (corners-in, cells-are)))
 
 returns : tie.Need-returns
 returns c =
-    let m = c .before .before in
-    let s = start m in
-    let costs = now (s .args .costs) in
-    let f = s .args .given in
-    c .add-positions .ensures ∙ ap (withPositions costs (f .field)) (m .build-without-positions .ensures) ∙ positions-are costs f (long s) (s .pre)
+    let found = c .before .before in
+    let r = found .before .before .before .before .before in
+    let m = cleared (w r) in
+    let sought = c .put .ensures ∙ found .corner-positions .ensures ∙ ap (positionsOf (costs (s r)) (given (s r) .field)) (listed r) in
+    let field = built-is (costs (s r)) (given (s r)) (long (s r)) (s r .pre) _ _ (m .clear-beyond .ensures) (w r .corner-wave .ensures) (left r) _
+    ∙ ap (builtWith (costs (s r)) (given (s r))) sought in
+    ap₂ (λ (x : IntegrationField) (n : ℕ). record { number = 0; field = x; waves = n }) field (ap (λ (b : Built). b .waves) (left r))
 
 pub built-spec : {M : Type 1} → statement M
-built-spec = tie.close (tie.spec (λ c κs. search needs) add-positions-requires returns)
+built-spec = tie.close (tie.spec (λ c κs. search needs) corner-wave-requires run-waves-requires positions-requires (λ c κs. search needs) returns)

@@ -18,11 +18,11 @@ use Rattle.integration_build.proofs.offer_towards.Tie as tie
 returns : tie.Need-returns
 returns c =
     let step = c .before .before in
-    let s = step .before .before .before in
+    let s = step .before .before in
     let a = s .args in (
       ap (λ (t : Stepped). offered (now (a .costs)) (a .value) t (now (a .cells)))
           (sym (step-told _ _ (step .before .from-index .ensures) (step .get-in-compass-direction .ensures .0) (c .enum-told .given .1))),
-      s .pre .1 .1 .1,
+      s .pre .changed,
     )
 
 -- where the step is taken, the call, and where its step arrives
@@ -30,7 +30,7 @@ abbrev step : tie.After-known-told → tie.After-get-in-compass-direction
 step c = c .before .before .before
 
 abbrev start : tie.After-known-told → tie.Start
-start c = step c .before .before .before
+start c = step c .before .before
 
 abbrev neighbour : tie.After-known-told → FieldCell
 neighbour c = c .before .neighbour .given .0 .0
@@ -43,14 +43,12 @@ arrives c =
 index : (c : tie.After-index-beside) → let i = c .index-beside .result in (i ≡ indexOf (neighbour (c .before))) × (i < 100)
 index c = c .index-beside .ensures _ (arrives (c .before))
 
-shared-slice-read-wide : tie.Need-shared-slice-read-wide
-shared-slice-read-wide c = omega (arith, index (c .before) .1, start (c .before .before) .pre .1 .0)
-
 relax-requires : tie.Need-relax-requires
 relax-requires c κs =
     let found = c .before .before .before .before in
-    let p = start (found .before) .pre .1 .1 in
-    (index found .1, ((p .0 .0, p .0 .1, omega (arith, p .0 .2)), p .1))
+    let p = start (found .before) .pre in
+    let least = p .not-below in
+    (index found .1, ((least .0, least .1, omega (arith, least .2)), p .changed))
 
 returns-2 : tie.Need-returns-2
 returns-2 c =
@@ -66,9 +64,9 @@ returns-2 c =
 
 pub offer-towards-spec : {M : Type 1} → statement M
 offer-towards-spec = tie.close (tie.spec
-    (λ c κs. search needs) (λ c κs. near-made (c .from-index .ensures) (c .before .before .fits .cell)) (λ c. search needs) (λ c. search needs)
+    (λ c κs. search needs) (λ c κs. near-made (c .from-index .ensures) (c .before .fits .cell)) (λ c. search needs) (λ c. search needs)
     returns
     (λ c κs. (neighbour c, arrives c))
-    shared-slice-read-wide
+    (λ c. index c .1)
     (λ c κs. search needs) (λ c. search needs)
     relax-requires returns-2)

@@ -25,7 +25,7 @@ abbrev μ-loop : tie.MeasureT-loop
 μ-loop cells₀ costs before wave count next₀ found₀ i₀ cells next found i = count - i
 
 loop-holds : tie.Need-loop-holds Inv-loop μ-loop
-loop-holds c = (search needs, refl, c .before .pre .1 .1)
+loop-holds c = (search needs, refl, c .pre .1)
 
 element-copy-out-index-of : tie.Need-element-copy-out-index-of Inv-loop μ-loop
 element-copy-out-index-of c = search needs
@@ -37,7 +37,7 @@ turn c = c .before .before
 cell-in : (c : tie.After-index-of Inv-loop μ-loop) → c .index-of .result < 100
 cell-in c =
     let t = turn c in
-    let h = t .before .before .before .pre .0 .cells-in (t .before .loop .i) (t .loop-test .taken) in
+    let h = t .before .before .pre .0 .cells-in (t .before .loop .i) (t .loop-test .taken) in
     omega (arith, c .index-of .ensures)
 
 mul-low-bits : tie.Need-mul-low-bits Inv-loop μ-loop
@@ -51,9 +51,9 @@ offer-around-requires c κs =
     let found = c .before .before .before .before in
     let t = turn found in
     let value = c .before .before .low-bits in
-    let told : NotBelowAll (t .before .before .before .args .before .now) (value .result) =
+    let told : NotBelowAll (t .before .before .args .before .now) (value .result) =
     (found .index-of .result, cell-in found, omega (arith, value .ensures)) in
-    (omega (arith, value .ensures), (t .before .before .before .pre .1 .0, (told, t .before .loop .inv .2)))
+    record { value-in = omega (arith, value .ensures); not-below = told; changed = t .before .loop .inv .2 }
 
 add-i : tie.Need-add-i Inv-loop μ-loop
 add-i c = search needs
@@ -66,7 +66,7 @@ loop-again c =
     let found = c .before .before .before .before .before in
     let t = turn found in
     let l = t .before .loop in
-    let s = t .before .before .before in
+    let s = t .before .before in
     let a = s .args in
     let room : a .count ≤ length (a .wave .now) = omega (arith, s .pre .0 .count-in, s .pre .0 .full) in
     let cell = found .index-of .result in
@@ -83,7 +83,7 @@ loop-again c =
 
 returns : tie.Need-returns Inv-loop μ-loop
 returns c =
-    let a = c .before .before .before .args in
+    let a = c .before .before .args in
     let l = c .before .loop in
     let e : l .i ≡ a .count = omega arith in
     let made = l .inv .1
