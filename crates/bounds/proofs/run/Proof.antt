@@ -13,14 +13,14 @@ use Rattle.bounds.proofs.Laws.{runs}
 use Rattle.bounds.proofs.run.Statement.{statement}
 use Rattle.bounds.proofs.run.Tie as tie
 
-build-target-requires : tie.Need-build-target-requires
-build-target-requires c κs = search needs
+build-window-requires : tie.Need-build-window-requires
+build-window-requires c κs = search needs
 
 costs-of-requires : tie.Need-costs-of-requires
 costs-of-requires c κs = search needs
 
-build-target-requires-2 : tie.Need-build-target-requires-2
-build-target-requires-2 c κs = search needs
+build-window-requires-2 : tie.Need-build-window-requires-2
+build-window-requires-2 c κs = search needs
 
 costs-of-requires-2 : tie.Need-costs-of-requires-2
 costs-of-requires-2 c κs = search needs
@@ -40,16 +40,16 @@ returns c =
     let t = s .args .target in
     let byte : (x : ℕ) → x < 100 → getD low x 0 ≤ 255 = λ x h. omega (arith, known .shared-slice-known .given x) in
     runs low (now (s .args .high)) (heldTarget t) (s .pre .low-hundred) (held-in t (s .pre .target-held)) (s .pre .by-window) byte _ _ _ _ _
-    (ap (λ (f : IntegrationField). f .field) (built .build-target .ensures)) (ap (λ (f : IntegrationField). f .field) (built-2 .build-target2 .ensures))
+    (ap (λ (f : IntegrationField). f .field) (built .build-window .ensures)) (ap (λ (f : IntegrationField). f .field) (built-2 .build-window2 .ensures))
     (counted .costs-of .ensures) (counted-2 .costs-of2 .ensures) (c .sure-cells .ensures)
 
 pub run-spec : {M : Type 1} → statement M
 run-spec =
     tie.close
     (tie.spec
-    build-target-requires
+    build-window-requires
     costs-of-requires
-    build-target-requires-2
+    build-window-requires-2
     costs-of-requires-2
     sure-cells-requires
     returns)

@@ -9,6 +9,8 @@ use denote.Ref.{now}
 use lib.ListN.{length}
 use Rattle.utilities.specs.Lists.{below}
 use Rattle.route.specs.Target.{targetOf}
+use Rattle.route.proofs.Targets.{target-window}
+use Rattle.step_list.specs.Inner.{stepAt}
 use Rattle.step_list.specs.Steps.{stepsOf, stepOf}
 use Rattle.step_list.proofs.Steps.{steps-count, step-of}
 use Rattle.integration_field.specs.declared.IntegrationField.{IntegrationField}
@@ -27,8 +29,14 @@ returns c =
 target-at-requires : tie.Need-target-at-requires
 target-at-requires c κs = search needs
 
-build-target-requires : tie.Need-build-target-requires
-build-target-requires c κs = search needs
+build-window-requires : tie.Need-build-window-requires
+build-window-requires c κs =
+    let s = c .before .before .before .before in
+    let steps = now (s .args .steps) in
+    let j = s .args .j in
+    let l : j < length steps / 8 = omega arith in
+    let t = c .target-at .ensures in
+    (s .pre .costs-hundred, record { held = t .0; by-window = rw (t .1, target-window (stepAt steps j) (s .pre .each .windows j l)) })
 
 column-of-requires : tie.Need-column-of-requires
 column-of-requires c κs = search needs
@@ -42,12 +50,12 @@ returns-2 c =
     let steps = now (s .args .steps) in
     let j = s .args .j in
     let l : j < length steps / 8 = omega arith in
-    let built : b .build-target .result .field ≡ builtCells costs (targetOf (stepOf (stepsOf steps) j))
-    = ap (λ (f : IntegrationField). f .field) (b .build-target .ensures)
+    let built : b .build-window .result .field ≡ builtCells costs (targetOf (stepOf (stepsOf steps) j))
+    = ap (λ (f : IntegrationField). f .field) (b .build-window .ensures)
     ∙ ap (builtCells costs) (t .target-at .ensures .1 ∙ ap targetOf (sym (step-of steps j l))) in
     c .column-of .ensures ∙ ap (λ (cells : List ℕ). map (leastFrom cells (stepsOf steps)) (below 8)) built
     ∙ column-used costs (stepsOf steps) j (omega (arith, steps-count steps))
 
 pub column-at-spec : {M : Type 1} → statement M
 column-at-spec =
-    tie.close (tie.spec returns target-at-requires build-target-requires column-of-requires returns-2)
+    tie.close (tie.spec returns target-at-requires build-window-requires column-of-requires returns-2)
