@@ -2,6 +2,7 @@
 --     same-rows, same-number    for a place in the list it is the leg's
 --     beyond-told               21 comes exactly where the place is beyond the list, and neither 1 nor 3 is due
 --     place-in, judged-so       what is known where nothing is refused before a step is planned
+--     judged-0, none-closed     and where nothing is refused at all
 --     refuses, accepts          all that is promised of a refused call, and of an accepted one
 -- Assumes nothing.
 use mathlib.Core.Path.{_≡_, refl, sym, ap, subst, _∙_}
@@ -79,6 +80,22 @@ module _ (floor steps : List ℕ) (place : ℕ) where
 
     pub none : someClosed sight floor (stepsOf steps) ≡ false → fieldNumberBy sight floor steps place ≡ 0
     none c = same-number (place-in z) blank blank-full sight ∙ open-0 sight floor steps blank (judged-so z) c
+
+  -- where nothing is refused, neither is due
+  module _ (sight : Bool) (z : fieldNumberBy sight floor steps place ≡ 0) where
+    pub judged-0 : firstNumber (fieldRows floor steps place) ≡ 0
+    judged-0 = go (firstNumber (fieldRows floor steps place)) refl
+      where
+        go : (n : ℕ) → firstNumber (fieldRows floor steps place) ≡ n → firstNumber (fieldRows floor steps place) ≡ 0
+        go zero e = e
+        go (suc n) e = sym (judged-first sight (λ q. absurd (omega (arith, e, q)))) ∙ z
+
+    pub none-closed : someClosed sight floor (stepsOf steps) ≡ false
+    none-closed = go (someClosed sight floor (stepsOf steps)) refl
+      where
+        go : (b : Bool) → someClosed sight floor (stepsOf steps) ≡ b → b ≡ false
+        go true e = absurd (omega (arith, fifteen sight judged-0 e, z))
+        go false e = refl
 
 -- ---- 21
 

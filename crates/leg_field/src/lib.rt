@@ -16,10 +16,11 @@ ghost use Rattle.step_list.specs.Steps.{stepsOf};
 ghost use Rattle.leg_plan.specs.Leg.{part};
 ghost use Rattle.leg_plan.specs.Inner.{LegReady};
 ghost use Rattle.leg.specs.Inner.{StepReady};
-ghost use Rattle.leg_field.specs.Field.{fieldRows, fieldAnswerBy};
+ghost use Rattle.leg_field.specs.Field.{fieldRows, fieldNumberBy, fieldAnswerBy};
 ghost use Rattle.leg_field.specs.Promise.{FieldPlanned, AsLeg, BeyondList};
 ghost use Rattle.leg_field.specs.Inner.{Handed};
 
+// A byte as an index.
 fn wide(byte: u8) -> usize
     ensures { λ r. ⌜ r ≡ byte ⌝ }
 {
@@ -73,20 +74,31 @@ fn field_of(floor: &[u8], step: &[u8], target: Target) -> BuildAnswer
     integration_build::built(costs, field)
 }
 
-// The field of the step at a place. A closed window of any step is found first, as the leg finds it.
-fn field_by_sight(floor: &[u8], steps: &[u8], sight: bool, place: usize) -> BuildAnswer
+// The call's number: before a step is planned, or 15 where a window of any step is closed, as the leg finds it.
+fn number_by_sight(floor: &[u8], steps: &[u8], sight: bool, place: usize) -> u8
+    ensures { λ r. ⌜ r ≡ fieldNumberBy sight (now (floor .entry)) (now (steps .entry)) place ⌝ }
+{
+    let number = field_number(floor, steps, place);
+    if number != 0 {
+        return number;
+    }
+    if leg::is_some_closed(floor, steps, sight) {
+        return 15;
+    }
+    0
+}
+
+// What the call answers with its number: refused, or the field of the step at the place.
+fn field_by_sight(number: u8, floor: &[u8], steps: &[u8], sight: bool, place: usize) -> BuildAnswer
+    requires { ⌜ number ≡ fieldNumberBy sight (now floor) (now steps) place ⌝ }
     ensures answer { λ r. ⌜ r ≡ fieldAnswerBy sight (now (floor .entry)) (now (steps .entry)) place ⌝ }
     ensures planned { λ r. ⌜ (r .number ≡ 0 → FieldPlanned sight (now (floor .entry)) (stepsOf (now (steps .entry))) place r) ⌝ }
     ensures as_leg { λ r. ⌜ AsLeg sight (now (floor .entry)) (now (steps .entry)) place (r .number) ⌝ }
     ensures beyond { λ r. ⌜ (r .number ≡ 21) ↔ BeyondList (now (floor .entry)) (now (steps .entry)) place ⌝ }
     ensures refused { λ r. ⌜ ((r .number ≡ 0 → ⊥) → BuildRefused r) ⌝ }
 {
-    let number = field_number(floor, steps, place);
     if number != 0 {
         return integration_field::refused(number);
-    }
-    if leg::is_some_closed(floor, steps, sight) {
-        return integration_field::refused(15);
     }
     let previous = cells_before(floor, steps, sight, place);
     let at = place * 8;
@@ -103,7 +115,8 @@ pub fn leg_field(floor: &[u8], steps: &[u8], place: usize) -> BuildAnswer
     ensures beyond { λ r. ⌜ (r .number ≡ 21) ↔ BeyondList (now (floor .entry)) (now (steps .entry)) place ⌝ }
     ensures refused { λ r. ⌜ ((r .number ≡ 0 → ⊥) → BuildRefused r) ⌝ }
 {
-    field_by_sight(floor, steps, true, place)
+    let number = number_by_sight(floor, steps, true, place);
+    field_by_sight(number, floor, steps, true, place)
 }
 
 // The field of a step of the leg that is planned without sight: nothing that is lent is written.
@@ -114,5 +127,6 @@ pub fn leg_field_without_sight(floor: &[u8], steps: &[u8], place: usize) -> Buil
     ensures beyond { λ r. ⌜ (r .number ≡ 21) ↔ BeyondList (now (floor .entry)) (now (steps .entry)) place ⌝ }
     ensures refused { λ r. ⌜ ((r .number ≡ 0 → ⊥) → BuildRefused r) ⌝ }
 {
-    field_by_sight(floor, steps, false, place)
+    let number = number_by_sight(floor, steps, false, place);
+    field_by_sight(number, floor, steps, false, place)
 }
