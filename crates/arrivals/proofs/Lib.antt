@@ -1,3 +1,4 @@
 pub mod Told
 pub mod Followed
+pub mod Trails
 pub mod Examples
