@@ -8,8 +8,6 @@
 --     cell-further, moves-further     m moves more are made from where n have led
 --     made-first        where j moves and no fewer arrive, and n are enough, j are made
 --     made-all          where fewer than n do not arrive, all are made
---     here-stops, step-goes, step-leaves, over   what following from one cell comes to, one move at a time
---     moves-followed    it answers the number of moves that is defined
 -- Assumes nothing.
 use mathlib.Core.Path.{_≡_, refl, sym, ap, subst, _∙_}
 use mathlib.Core.Bool.{Bool, true, false, true≢false, not, _||_}
@@ -31,10 +29,9 @@ use Rattle.route.proofs.Below.{holds-at}
 use Rattle.flow_bits.specs.Byte.{bitsOf, dirWith, dirOf}
 use Rattle.arrows.specs.Arrows.{Away}
 use Rattle.arrows.proofs.Moves.{away, reads-so}
-use Rattle.arrivals.specs.Following.{isArrival, Follows, Comes, there, further, ComesFirst, Arrival, arrives-after, arrives-never}
-use Rattle.arrivals.specs.Decided.{Begun, here, moved, begun, first-once, first-there, first-few, arrival}
-use Rattle.arrivals.specs.Arrivals.{movesOf, movesFrom}
-use Rattle.arrivals.specs.Inner.{readStep, followedFrom, steppedTo, nextOf, moveOf, cellAfter, movesIn}
+use Rattle.arrivals.specs.Following.{isArrival, Follows, Comes, there, further, ComesFirst}
+use Rattle.arrivals.specs.Decided.{Begun, here, moved, begun, first-once, first-there}
+use Rattle.arrivals.specs.Inner.{readStep, steppedTo, nextOf, moveOf, cellAfter, movesIn}
 
 -- a direction that bits read as has those bits: computed once, for all sixteen
 bits-back : (a : ℕ) → a < 16 → points (dirWith all a) ≡ true → bitsOf (dirWith all a) ≡ a
@@ -170,63 +167,3 @@ module _ (bytes : List ℕ) where
           let own = goes x e (Cell c) q in
           let all = rest (indexOf c) (f .enters) (λ m l d. o (suc m) (omega arith) (further f d)) in
           omega (arith, moves-more n x, own .1, ap (movesIn bytes n) (own .0), all)
-
-  -- ---- one move at a time
-
-  pub over : (k x : ℕ) → followedFrom bytes zero k x ≡ 255
-  unfolding followedFrom
-  over k x = refl
-
-  module _ (n k x : ℕ) where
-    pub here-stops : isArrival (getD bytes x 0) ≡ true → followedFrom bytes (suc n) k x ≡ k
-    unfolding followedFrom
-    here-stops e = rw e
-
-    pub step-goes : (c : FieldCell) → isArrival (getD bytes x 0) ≡ false → readStep bytes x ≡ Cell c
-        → followedFrom bytes (suc n) k x ≡ followedFrom bytes n (k + 1) (indexOf c)
-    unfolding followedFrom
-    step-goes c e s = rw (e, s)
-
-    pub step-leaves : isArrival (getD bytes x 0) ≡ false → readStep bytes x ≡ Outside → followedFrom bytes (suc n) k x ≡ 255
-    unfolding followedFrom
-    step-leaves e s = rw (e, s)
-
-  -- ---- where n moves and no fewer arrive
-
-  followed-first : (n k j x : ℕ) → ComesFirst bytes j x → j < n → followedFrom bytes n k x ≡ k + j
-  followed-first zero k j x v h = absurd (omega arith)
-  followed-first (suc n) k j x v h =
-      go (isArrival (getD bytes x 0)) refl (begun bytes (v .comes)) (λ m y w l. followed-first n (k + 1) m y w l)
-    where
-      go : (b : Bool) → isArrival (getD bytes x 0) ≡ b → Begun bytes j x
-          → ((m y : ℕ) → ComesFirst bytes m y → m < n → followedFrom bytes n (k + 1) y ≡ k + 1 + m) → followedFrom bytes (suc n) k x ≡ k + j
-      go true e s rest =
-          let z : j ≡ zero = first-once bytes v (first-there bytes e) in
-          here-stops n k x e ∙ omega arith
-      go false e (here t z) rest = absurd (true≢false (sym t ∙ e))
-      go false e (moved m y f c q) rest =
-          let w = after-move f c (λ i l d. v .no-fewer i (omega arith) d) in
-          let r = rest m y w (omega arith) in
-          step-goes n k x (cellAt y) e (follows-read f) ∙ ap (followedFrom bytes n (k + 1)) (index-of-cell y) ∙ r ∙ omega arith
-
-  -- ---- where none of fewer than n moves arrives
-
-  followed-never : (n k x : ℕ) → x < 100 → ((m : ℕ) → m < n → Comes bytes m x → ⊥) → followedFrom bytes n k x ≡ 255
-  followed-never zero k x h o = over k x
-  followed-never (suc n) k x h o = go (isArrival (getD bytes x 0)) refl (readStep bytes x) refl (λ y l p. followed-never n (k + 1) y l p)
-    where
-      go : (b : Bool) → isArrival (getD bytes x 0) ≡ b → (s : Stepped) → readStep bytes x ≡ s
-          → ((y : ℕ) → y < 100 → ((m : ℕ) → m < n → Comes bytes m y → ⊥) → followedFrom bytes n (k + 1) y ≡ 255) → followedFrom bytes (suc n) k x ≡ 255
-      go true e s q rest = absurd (o zero (omega arith) (there e))
-      go false e Outside q rest = step-leaves n k x e q
-      go false e (Cell c) q rest =
-          let f = read-follows x c h q in
-          step-goes n k x c e q ∙ rest (indexOf c) (f .enters) (λ m l d. o (suc m) (omega arith) (further f d))
-
-  pub moves-followed : (x : ℕ) → x < 100 → followedFrom bytes 100 0 x ≡ movesFrom bytes x
-  unfolding movesFrom
-  moves-followed x h = go (arrival bytes x)
-    where
-      go : (a : Arrival bytes x) → followedFrom bytes 100 0 x ≡ movesOf a
-      go (arrives-after j v) = followed-first 100 0 j x v (omega (arith, first-few bytes v)) ∙ zero-add j
-      go (arrives-never o) = followed-never 100 0 x h (λ m l c. o m c)

@@ -1,47 +1,79 @@
--- `following::all_moves` meets its contract. The loop's invariant: the numbers of the first i cells are in their places.
+-- `following::all_moves` meets its contract. The loop's invariant: the trails are those of so many moves.
 -- Assumes nothing.
-use mathlib.Core.Path.{_≡_, refl}
-use Prim.Native.Nat.{_-_, _≤_}
+use mathlib.Core.Logic.{inr}
+use mathlib.Core.List.{List}
+use Prim.Native.Nat.{ℕ, _-_, _≤_, _<_}
 use native.Mathlib.Omega.{arith}
+use borrow.Author.Needs.{needs}
 use denote.Ref.{now}
-use Rattle.utilities.proofs.Lists.{FilledTo, filled-more, filled-all}
-use Rattle.arrivals.specs.Arrivals.{movesFrom}
+use Rattle.arrivals.proofs.Trails.{Made, round-made, short-made, told-all, all-decide}
 use Rattle.following.proofs.all_moves.Statement.{statement}
 use Rattle.following.proofs.all_moves.Tie as tie
 
 abbrev Inv-loop : tie.InvT-loop
-Inv-loop sheet moves₀ i₀ moves i = (i ≤ 100) × FilledTo 100 (movesFrom sheet) i moves
+Inv-loop sheet trails₀ made₀ trails made = (1 ≤ made) × Made sheet made trails
 
 abbrev μ-loop : tie.MeasureT-loop
-μ-loop sheet moves₀ i₀ moves i = 100 - i
+μ-loop sheet trails₀ made₀ trails made = 100 - made
+
+-- a turn of the loop: the sheet, and the trails of so many moves
+module _ (t : tie.At-loop Inv-loop μ-loop) where
+  abbrev sheet : List ℕ
+  sheet = now (t .before .before .before .args .sheet)
+
+  abbrev made : ℕ
+  made = t .loop .made
+
+  abbrev trails : List ℕ
+  trails = t .loop .trails
+
+  are-made : Made sheet made trails
+  are-made = t .loop .inv .1
+
+-- where it was asked whether all have arrived: the turn, and that it is a further one
+module _ (m : tie.After-all-arrived Inv-loop μ-loop) where
+  abbrev turn : tie.At-loop Inv-loop μ-loop
+  turn = m .before .before .before
+
+  few : made turn < 100
+  few = omega (arith, m .before .before .loop-test .taken)
 
 loop-holds : tie.Need-loop-holds Inv-loop μ-loop
-loop-holds c = (omega arith, record { full = refl; first = refl })
+loop-holds c = (omega arith, c .first-trails .ensures)
 
-moves-from-requires : tie.Need-moves-from-requires Inv-loop μ-loop
-moves-from-requires c κs = (c .before .before .before .pre, c .loop-test .taken)
-
-array-write-moves : tie.Need-array-write-moves Inv-loop μ-loop
-array-write-moves c = omega arith
-
-add-i : tie.Need-add-i Inv-loop μ-loop
-add-i c = omega arith
-
-loop-less : tie.Need-loop-less Inv-loop μ-loop
-loop-less c = omega arith
-
-loop-again : tie.Need-loop-again Inv-loop μ-loop
-loop-again c =
-    let l = c .before .before .loop in
-    let sheet = now (c .before .before .before .before .args .sheet) in
-    (omega arith, filled-more 100 (movesFrom sheet) (l .i) (l .moves) _ (omega (arith, c .before .loop-test .taken)) (c .moves-from .ensures) (l .inv .1))
+all-arrived-requires : tie.Need-all-arrived-requires Inv-loop μ-loop
+all-arrived-requires c κs = omega (arith, c .before .loop-test .taken)
 
 returns : tie.Need-returns Inv-loop μ-loop
 returns c =
-    let l = c .before .loop in
-    let sheet = now (c .before .before .before .args .sheet) in
-    let e : l .i ≡ 100 = omega (arith, c .loop-test .left, l .inv .0) in
-    filled-all 100 (movesFrom sheet) (l .moves) (rw e at (l .inv .1))
+    let m = c .before .before .before in
+    let t = turn m in
+    let decided = all-decide (sheet t) (made t) (trails t) (are-made t) (m .all-arrived .ensures (c .before .before .if1 .taken)) in
+    told-all (sheet t) (made t) (trails t) (are-made t) decided (c .all-told .ensures)
+
+doubled-requires : tie.Need-doubled-requires Inv-loop μ-loop
+doubled-requires c κs =
+    let m = c .before .before in
+    let t = turn m in
+    short-made (sheet t) (made t) (trails t) (are-made t) (few m)
+
+add-made : tie.Need-add-made Inv-loop μ-loop
+add-made c = omega (arith, few (c .before .before .before))
+
+loop-less : tie.Need-loop-less Inv-loop μ-loop
+loop-less c =
+    let m = c .before .before .before in
+    omega (arith, few m, turn m .loop .inv .0)
+
+loop-again : tie.Need-loop-again Inv-loop μ-loop
+loop-again c =
+    let t = turn (c .before .before .before) in
+    (omega (arith, t .loop .inv .0), round-made (sheet t) (made t) (trails t) (are-made t) (c .doubled .ensures))
+
+returns-2 : tie.Need-returns-2 Inv-loop μ-loop
+returns-2 c =
+    let t = c .before .before .before in
+    told-all (sheet t) (made t) (trails t) (are-made t) (λ x h. inr (omega (arith, c .before .before .loop-test .left))) (c .all-told2 .ensures)
 
 pub all-moves-spec : {M : Type 1} → statement M
 all-moves-spec =
@@ -49,10 +81,14 @@ all-moves-spec =
     (tie.spec
     Inv-loop
     μ-loop
+    (λ c κs. c .before .pre)
     loop-holds
-    moves-from-requires
-    array-write-moves
-    add-i
+    all-arrived-requires
+    (λ c κs. search needs)
+    returns
+    doubled-requires
+    add-made
     loop-less
     loop-again
-    returns)
+    (λ c κs. search needs)
+    returns-2)
