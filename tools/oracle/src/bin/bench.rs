@@ -479,7 +479,7 @@ fn arrivals() {
     println!(
         "beside the sector call that wrote the sheet. `snakes` are ways over all 100 cells, `pairs` a sheet of cells that"
     );
-    println!("point at each other, which are followed longest, 100 moves from each cell");
+    println!("point at each other and never arrive");
     println!("{:<14} {:>9} {:>9}", "", "sector", "arrivals");
     for (name, open, window) in
         [("random goal", false, false), ("random window", false, true), ("open goal", true, false)]
