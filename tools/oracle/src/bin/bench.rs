@@ -150,6 +150,14 @@ struct Leg {
     steps: Vec<u8>,
 }
 
+impl Leg {
+    /// The leg of so many of its first steps.
+    fn first(mut self, steps: usize) -> Leg {
+        self.steps.truncate(8 * steps);
+        self
+    }
+}
+
 /// What is asked of a floor.
 #[derive(Clone, Copy, PartialEq)]
 enum Floor {
@@ -316,6 +324,12 @@ fn legs() {
         println!("{name:<14} {sectors:>9.0} {as_leg:>9.0}  {:>11.2}", as_leg / sectors);
     }
     println!("{:<14} {:>9} {:>9.0}", "gaps", "", measure_alone(&drawn_legs(Floor::Gaps)));
+    println!("how a leg grows, on the random floors: its first steps alone, and what a step takes");
+    println!("{:<14} {:>9} {:>9}", "", "leg", "a step");
+    for steps in [1, 2, 4, 8, 16] {
+        let leg = measure_alone(&drawn_legs(Floor::Counting).into_iter().map(|leg| leg.first(steps)).collect::<Vec<_>>());
+        println!("{:<14} {leg:>9.0} {:>9.0}", format!("{steps} steps"), leg / steps as f64);
+    }
 }
 
 /// Two floors with a window, low and high, in both forms.
