@@ -7,9 +7,9 @@ ghost use Rattle.tours.specs.Tours.{moveCost, cheapestEntry, leastFigure};
 ghost use Rattle.tours.specs.Promise.{TourSquare};
 
 // The cheapest entry into a window so far, once the entry from one more window is looked at; from itself there is none.
-fn enter_from(square: [[u32; 8]; 8], from: usize, window: usize, cheapest: u32) -> u32
+fn enter_from(square: &[[u32; 8]; 8], from: usize, window: usize, cheapest: u32) -> u32
     requires { ⌜ (from < 8) × (window < 8) ⌝ }
-    ensures { λ r. ⌜ r ≡ cond (eqb from window) cheapest (min (moveCost square from window) cheapest) ⌝ }
+    ensures { λ r. ⌜ r ≡ cond (eqb from window) cheapest (min (moveCost (now (square .entry)) from window) cheapest) ⌝ }
 {
     if from == window {
         return cheapest;
@@ -22,9 +22,9 @@ fn enter_from(square: [[u32; 8]; 8], from: usize, window: usize, cheapest: u32) 
 }
 
 // The cheapest entry into a window from another.
-fn cheapest_entry(square: [[u32; 8]; 8], n: usize, window: usize) -> u32
+fn cheapest_entry(square: &[[u32; 8]; 8], n: usize, window: usize) -> u32
     requires { ⌜ (n ≤ 8) × (window < 8) ⌝ }
-    ensures { λ r. ⌜ r ≡ cheapestEntry square window n ⌝ }
+    ensures { λ r. ⌜ r ≡ cheapestEntry (now (square .entry)) window n ⌝ }
 {
     let mut cheapest = 65535u32;
     let mut from = 0usize;
@@ -43,7 +43,7 @@ pub fn least_figure(square: [[u32; 8]; 8], n: usize) -> u32
     let mut least = 0u32;
     let mut window = 1usize;
     while window < n {
-        least += cheapest_entry(square, n, window);
+        least += cheapest_entry(&square, n, window);
         window += 1;
     }
     least

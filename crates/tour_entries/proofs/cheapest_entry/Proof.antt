@@ -33,7 +33,7 @@ returns : tie.Need-returns Inv-loop μ-loop
 returns c =
     let a = c .before .before .args in
     let all : c .before .loop .from ≡ a .n = omega arith in
-    c .before .loop .inv .1 ∙ ap (cheapestEntry (a .square) (a .window)) all
+    c .before .loop .inv .1 ∙ ap (cheapestEntry (a .square .now) (a .window)) all
 
 pub cheapest-entry-spec : {M : Type 1} → statement M
 cheapest-entry-spec =

@@ -11,19 +11,19 @@ use Rattle.tour_entries.proofs.least_figure.Statement.{statement}
 use Rattle.tour_entries.proofs.least_figure.Tie as tie
 
 abbrev Inv-loop : tie.InvT-loop
-Inv-loop square n least₀ window₀ least window =
+Inv-loop n square least₀ window₀ least window =
     (1 ≤ window) × (window ≤ n) × (least ≤ (window - 1) * 65535) × (least + summed (entry square n) (numbersFrom window (n - window)) ≡ leastFigure square n)
 
 abbrev μ-loop : tie.MeasureT-loop
-μ-loop square n least₀ window₀ least window = n - window
+μ-loop n square least₀ window₀ least window = n - window
 
 small : (m : tie.After-cheapest-entry Inv-loop μ-loop) → m .cheapest-entry .result ≤ 65535
 small m =
-    let a = m .before .before .before .args in
-    omega (arith, m .cheapest-entry .ensures, entry-small (a .square) (m .before .before .loop .window) (a .n))
+    let a = m .before .before .before .before .args in
+    omega (arith, m .cheapest-entry .ensures, entry-small (a .t1) (m .before .before .before .loop .window) (a .n))
 
 loop-holds : tie.Need-loop-holds Inv-loop μ-loop
-loop-holds c = (omega arith, omega arith, omega arith, omega (arith, figure-starts (c .args .square) (c .args .n)))
+loop-holds c = (omega arith, omega arith, omega arith, omega (arith, figure-starts (c .args .t1) (c .args .n)))
 
 cheapest-entry-requires : tie.Need-cheapest-entry-requires Inv-loop μ-loop
 cheapest-entry-requires c κs = omega arith
@@ -39,8 +39,8 @@ loop-less c = omega arith
 
 loop-again : tie.Need-loop-again Inv-loop μ-loop
 loop-again c =
-    let a = c .before .before .before .args in
-    let goes = figure-goes (a .square) (a .n) (c .before .before .loop .window) (omega arith) in
+    let a = c .before .before .before .before .args in
+    let goes = figure-goes (a .t1) (a .n) (c .before .before .before .loop .window) (omega arith) in
     (omega arith, omega arith, omega (arith, small c), omega (arith, goes, c .cheapest-entry .ensures))
 
 returns : tie.Need-returns Inv-loop μ-loop
