@@ -1,5 +1,6 @@
 -- The orders of numbers that rise stand strictly in dictionary order.
---     numbers-rise      the numbers from a on rise
+--     number-at         the numbers from a on, by place
+--     numbers-rise      they rise
 --     without-rises     and so do rising numbers without one of them
 --     ascends           an order at an earlier place is earlier in the dictionary
 -- Assumes nothing.
@@ -20,7 +21,7 @@ Rising l = (i j : ℕ) → i < j → j < length l → getD l i 0 < getD l j 0
 
 -- ---- the numbers from a on
 
-number-at : (a k i : ℕ) → i < k → getD (numbersFrom a k) i 0 ≡ a + i
+pub number-at : (a k i : ℕ) → i < k → getD (numbersFrom a k) i 0 ≡ a + i
 number-at a zero i h = absurd (omega arith)
 number-at a (suc k) zero h = omega arith
 number-at a (suc k) (suc i) h = omega (arith, number-at (suc a) k i (omega arith))

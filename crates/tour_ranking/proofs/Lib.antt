@@ -1,2 +1,6 @@
 pub mod Loops
+pub mod Made
+pub mod Next
+pub mod Places
+pub mod Reversing
 pub mod Unranking
