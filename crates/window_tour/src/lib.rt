@@ -1,16 +1,18 @@
-// A tour of 2 to 8 windows: from the first window, each other once, no way back, with the smallest sum of the orders tried. Orders are made one at
-// a time, from their place in the dictionary of all orders.
+// A tour of 2 to 8 windows: from the first window, each other once, no way back, with the smallest sum of the orders tried. Each order is made from
+// the one before, and the sums of its moves are kept place by place, so that they are made anew only from the first place that changed on.
 use tours::Tour;
 use tours::WindowTour;
 ghost use mathlib.Core.Path.{_≡_};
-ghost use mathlib.Core.List.{[]};
 ghost use Prim.Native.Nat.{_-_, _<_, _≤_};
 ghost use lib.ListN.{getD, take};
 ghost use Rattle.tour_orders.specs.Orders.{orders, factorial};
 ghost use Rattle.tour_orders.specs.Told.{AllOrders};
-ghost use Rattle.tours.specs.Tours.{moveCost, tourSum, tourCounts, noTour, betterTour, bestTour, triedCount, windowTour};
+ghost use Rattle.tours.specs.Tours.{moveCost, noTour, bestTour, triedCount, windowTour};
 ghost use Rattle.tours.specs.Promise.{TourSquare, BestAnswer, LeastAnswer};
-ghost use Rattle.window_tour.specs.Inner.{WindowNumbers};
+ghost use Rattle.window_tour.specs.Inner.{WindowNumbers, MovesReady, weight, weighed, SumsKept, heldTour};
+
+// What a move of 65535 weighs, and the lowest sum while no order is found: more than the moves of any order that counts.
+const NO_ORDER: u32 = 524288;
 
 // A byte as an index.
 fn wide(x: u8) -> usize
@@ -19,74 +21,54 @@ fn wide(x: u8) -> usize
     x as usize
 }
 
-// What the move into the window at a place of an order costs: from window a to window b, row a, place b.
-fn move_cost(square: [[u32; 8]; 8], order: [u8; 8], at: usize) -> u32
-    requires { ⌜ (1 ≤ at) × (at < 8) × WindowNumbers order ⌝ }
-    ensures { λ r. ⌜ r ≡ moveCost square (getD order (at - 1) 0) (getD order at 0) ⌝ }
+// What the move into the window at a place of an order weighs: its cost, from window a to window b in row a at place b. A 65535 weighs so much
+// that one sum tells both what an order comes to and whether it counts.
+fn move_weight(square: &[[u32; 8]; 8], order: &[u8; 8], at: usize) -> u32
+    requires { ⌜ (1 ≤ at) × (at < 8) × WindowNumbers (now order) ⌝ }
+    ensures { λ r. ⌜ r ≡ weight (moveCost (now (square .entry)) (getD (now (order .entry)) (at - 1) 0) (getD (now (order .entry)) at 0)) ⌝ }
 {
     let from = wide(order[at - 1]);
     let to = wide(order[at]);
-    square[from][to]
+    let cost = square[from][to];
+    if cost == 65535 {
+        return NO_ORDER;
+    }
+    cost
 }
 
-// The sum of an order's moves.
-fn tour_sum(square: [[u32; 8]; 8], n: usize, order: [u8; 8]) -> u32
-    requires { ⌜ TourSquare square n × WindowNumbers order ⌝ }
-    ensures { λ r. ⌜ r ≡ tourSum square (take n order) ⌝ }
+// Sums an order's moves from a place on, and keeps the sum at each place. Answers the whole sum.
+fn add_moves(
+    square: &[[u32; 8]; 8],
+    order: &[u8; 8],
+    n: usize,
+    from: usize,
+    sums: &mut [u32; 8],
+) -> u32
+    requires { ⌜ MovesReady (now square) n (now order) from (now sums) ⌝ }
+    ensures { λ r. ⌜ (r ≡ weighed (now (square .entry)) (now (order .entry)) (n - 1))
+        × SumsKept (now (square .entry)) (now (order .entry)) n (now (sums .exit)) ⌝ }
 {
-    let mut sum = 0u32;
-    let mut at = 1usize;
+    let mut sum = sums[from - 1];
+    let mut at = from;
     while at < n {
-        sum += move_cost(square, order, at);
+        sum += move_weight(square, order, at);
+        sums[at] = sum;
         at += 1;
     }
     sum
 }
 
-// Whether an order counts: none of its moves costs 65535.
-fn tour_counts(square: [[u32; 8]; 8], n: usize, order: [u8; 8]) -> bool
-    requires { ⌜ TourSquare square n × WindowNumbers order ⌝ }
-    ensures { λ r. ⌜ r ≡ tourCounts square (take n order) ⌝ }
+// The tour with the lowest sum, or none where no sum was lower than NO_ORDER.
+fn found_tour(lowest: u32, order: [u8; 8]) -> Tour
+    ensures { λ r. ⌜ r ≡ heldTour lowest order ⌝ }
 {
-    let mut at = 1usize;
-    while at < n {
-        if move_cost(square, order, at) == 65535 {
-            return false;
-        }
-        at += 1;
+    if lowest < NO_ORDER {
+        return Tour {
+            found: true,
+            order,
+            sum: lowest,
+        };
     }
-    true
-}
-
-// The best order so far, once the order at a place is tried too: it is taken where it counts and its sum is smaller.
-fn try_order(square: [[u32; 8]; 8], n: usize, place: usize, best: Tour) -> Tour
-    requires { ⌜ TourSquare square n × (place < factorial (n - 1)) ⌝ }
-    ensures { λ r. ⌜ r ≡ betterTour square best (getD (orders n) place []) ⌝ }
-{
-    let order = tour_ranking::order_at(n, place);
-    if !tour_counts(square, n, order) {
-        return best;
-    }
-    let sum = tour_sum(square, n, order);
-    let found = best.found;
-    let lowest = best.sum;
-    if found {
-        if lowest <= sum {
-            return best;
-        }
-    }
-    Tour {
-        found: true,
-        order,
-        sum,
-    }
-}
-
-// No order: order and sum all 0.
-fn no_tour() -> Tour
-    ensures { λ r. ⌜ r ≡ noTour ⌝ }
-{
-    let order = [0u8; 8];
     Tour {
         found: false,
         order,
@@ -94,19 +76,27 @@ fn no_tour() -> Tour
     }
 }
 
-// The best of the first orders of the dictionary.
-fn best_tour(square: [[u32; 8]; 8], n: usize, tried: usize) -> Tour
-    requires { ⌜ TourSquare square n × (tried ≤ factorial (n - 1)) ⌝ }
-    ensures { λ r. ⌜ r ≡ bestTour square noTour (take tried (orders n)) ⌝ }
+// The best of the first orders of the dictionary: an order is taken where its sum is lower than all before.
+fn best_tour(square: &[[u32; 8]; 8], n: usize, tried: usize) -> Tour
+    requires { ⌜ TourSquare (now square) n × (tried ≤ factorial (n - 1)) ⌝ }
+    ensures { λ r. ⌜ r ≡ bestTour (now (square .entry)) noTour (take tried (orders n)) ⌝ }
 {
-    let mut best = no_tour();
+    let mut order = tour_ranking::first_order(n);
+    let mut changed = 1usize;
+    let mut sums = [0u32; 8];
+    let mut best = [0u8; 8];
+    let mut lowest = NO_ORDER;
     let mut place = 0usize;
     while place < tried {
-        let next = try_order(square, n, place, best);
-        best = next;
+        let sum = add_moves(square, &order, n, changed, &mut sums);
+        if sum < lowest {
+            lowest = sum;
+            best = order;
+        }
+        changed = tour_ranking::next_order(&mut order, n);
         place += 1;
     }
-    best
+    found_tour(lowest, best)
 }
 
 // The number of orders tried: the limit or all, the smaller.
@@ -131,7 +121,7 @@ pub fn window_tour(square: [[u32; 8]; 8], n: usize, limit: u16) -> WindowTour
     ensures least { λ r. ⌜ LeastAnswer square n r ⌝ }
 {
     let tried = tried_count(n, limit);
-    let best = best_tour(square, n, tried);
+    let best = best_tour(&square, n, tried);
     let least = tour_entries::least_figure(square, n);
     let order = best.order;
     WindowTour {

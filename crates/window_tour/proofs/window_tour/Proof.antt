@@ -18,24 +18,24 @@ tried-count-requires : tie.Need-tried-count-requires
 tried-count-requires c κs = search needs
 
 best-tour-requires : tie.Need-best-tour-requires
-best-tour-requires c κs = (c .before .pre, at-most-all c)
+best-tour-requires c κs = (c .before .before .pre, at-most-all (c .before))
 
 least-figure-requires : tie.Need-least-figure-requires
 least-figure-requires c κs = search needs
 
-cast-t8 : tie.Need-cast-t8
-cast-t8 c =
-    let m = c .before .before .before in
+cast-t11 : tie.Need-cast-t11
+cast-t11 c =
+    let m = c .before .before .before .before in
     omega (arith, at-most-all m, factorial-few (m .before .args .n - 1) (omega arith))
 
 returns : tie.Need-returns
 returns c =
-    let m = c .before .before .before in
+    let m = c .before .before .before .before in
     let a = m .before .args in
-    promised (a .square) (a .n) (a .limit) (m .before .pre)
-    (answered (a .square) (a .n) (a .limit) (m .tried-count .ensures) (c .before .before .best-tour .ensures) (c .before .least-figure .ensures))
+    promised (a .t1) (a .n) (a .limit) (m .before .pre)
+    (answered (a .t1) (a .n) (a .limit) (m .tried-count .ensures) (c .before .before .best-tour .ensures) (c .before .least-figure .ensures))
 
 pub window-tour-spec : {M : Type 1} → statement M
 window-tour-spec =
     tie.close
-    (tie.spec tried-count-requires best-tour-requires least-figure-requires cast-t8 returns)
+    (tie.spec tried-count-requires best-tour-requires least-figure-requires cast-t11 returns)
