@@ -3,4 +3,3 @@ pub mod Made
 pub mod Next
 pub mod Places
 pub mod Reversing
-pub mod Unranking
