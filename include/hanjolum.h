@@ -94,33 +94,35 @@
  * bounds judges 1 for either floor, and 16 on both. The calls for window costs and tours judge 4 to 8, 16 and 20 for one step
  * before the next.
  *
- * Stack and time.  Every call ends, on all input. Each wave is one call on the stack, of 592 bytes in the compiled archive,
- * and there are at most 101 at a time: no call needs as much as 80,000 bytes. Give a thread that calls sector, leg or
- * the field of a leg's step, with sight or without, bounds, window costs, tour, init or build 256 KB.
- * Below, for each call, its bytes of stack with 101 waves, beside what memcpy and memset need, read off the archive
+ * Stack and time.  Every call ends, on all input. In the program each wave of a field is a call of its own; the compiler makes
+ * a loop of them, so that no function of the archive calls itself. Before sight spreads from a goal (init, sector, leg and
+ * field of a leg's step, with sight), the table of line ends lies on the stack, 10,000 bytes; beside it no call needs more than
+ * 10,016 bytes. Give a thread that makes those four calls 32 KB, and one that makes only others 16 KB, beside what the thread
+ * itself needs. That is the compiler's doing and not proved.
+ * Below, for each call, its bytes of stack in all, beside what memcpy and memset need, read off the archive
  * (tools/stack/frames); and its nanoseconds, the median on practice floors (tools/time/header) on one core of an Intel Xeon that
  * did nothing else. Neither is proved, and times belong to the machine. Readers of a byte are alike.
- *     hanjolum_sector, a goal                             68112      4528
- *     hanjolum_sector, a window                           68112      2878
- *     hanjolum_sector_without_sight, a goal               68112      2672
- *     hanjolum_arrivals                                     144     12459
- *     hanjolum_bounds                                     65536      7714
- *     hanjolum_window_costs, eight windows                65408     11650
- *     hanjolum_window_tour, eight windows, all orders     65232    735534
- *     hanjolum_leg, sixteen steps                         69216     55023
- *     hanjolum_leg_without_sight, sixteen steps           69216     52192
- *     hanjolum_leg_field, the last of sixteen steps       72368     42308
- *     hanjolum_leg_field_without_sight, the same          72368     40263
+ *     hanjolum_sector, a goal                              19264      4528
+ *     hanjolum_sector, a window                            19264      2878
+ *     hanjolum_sector_without_sight, a goal                 9192      2672
+ *     hanjolum_arrivals                                     640     12459
+ *     hanjolum_bounds                                      7520      7714
+ *     hanjolum_window_costs, eight windows                  5264     11650
+ *     hanjolum_window_tour, eight windows, all orders       4800    735534
+ *     hanjolum_leg, sixteen steps                          19008     55023
+ *     hanjolum_leg_without_sight, sixteen steps             8936     52192
+ *     hanjolum_leg_field, the last of sixteen steps        20016     42308
+ *     hanjolum_leg_field_without_sight, the same            9944     40263
  *     hanjolum_move                                           8        10
- *     hanjolum_way, over sixteen sectors                     56      1920
- *     hanjolum_way, the longest                              56     66595
- *     hanjolum_leg_file_write, sixteen steps                  8         4
- *     hanjolum_leg_file_read, sixteen steps                   8         3
+ *     hanjolum_way, over sixteen sectors                         56      1920
+ *     hanjolum_way, the longest                                  56     66595
+ *     hanjolum_leg_file_write, sixteen steps                       8         4
+ *     hanjolum_leg_file_read, sixteen steps                        8         3
  *     hanjolum_practice_floor                               752       189
- *     hanjolum_init, a goal                               42648      1801
- *     hanjolum_build, a goal                              66224      1936
- *     hanjolum_flow_new, a goal                            1088       138
- *     hanjolum_flow_build, a goal                          1344       680
+ *     hanjolum_init, a goal                                16272      1801
+ *     hanjolum_build, a goal                                7376      1936
+ *     hanjolum_flow_new, a goal                              1088       138
+ *     hanjolum_flow_build, a goal                            1344       680
  *     hanjolum_line                                         664        39
  *     hanjolum_walk_bresenham_shallow                       848        53
  *     hanjolum_walk_bresenham_steep                         848        52

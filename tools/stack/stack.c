@@ -1,8 +1,9 @@
 /*
- * The deepest stack of a leg, of the field of its last step and of a goal's sector, with sight and without, of a call for window
- * costs, of one for a tour, of one for arrivals, and of a cart's move and way: plans legs of sixteen steps and their goals'
- * sectors, asks for the costs of eight windows and the best of all their orders, for the arrivals of the leg's goal sector, and
- * for a move and a way from the leg's last sector, on a painted stack and looks how far down the paint is gone.
+ * The deepest stack of a leg, of the field of its last step and of a goal's sector, with sight and without, of `init` and `build`
+ * by hand, of a call for bounds, of one for window costs, of one for a tour, of one for arrivals, and of a cart's move and way:
+ * plans legs of sixteen steps and their goals' sectors, starts and builds those sectors by hand, asks for the bounds of a window,
+ * for the costs of eight windows and the best of all their orders, for the arrivals of the leg's goal sector, and for a move and
+ * a way from the leg's last sector, on a painted stack and looks how far down the paint is gone.
  * The floors are hard: sectors are changed cell by cell, and a change is kept where the waves do not become fewer and the
  * next step can still be planned. A leg without sight has floors of its own, hard for planning without sight. The windows are
  * those of a hard sector: its own and seven more cells of its edges.
@@ -33,7 +34,15 @@ static uint8_t steps[HANJOLUM_STEPS * HANJOLUM_STEP];
 static uint8_t windows[HANJOLUM_WINDOWS * HANJOLUM_STEP];
 static bool sight;
 static uintptr_t before;
+
+/* Where the stack of a function called now begins: below what its caller keeps, the answer that the caller has room for among it. */
+__attribute__((noinline)) static uintptr_t called_here(void)
+{
+    return (uintptr_t)__builtin_frame_address(0);
+}
+
 static uint8_t number;
+static HanjolumIntegrationField started;
 
 /* A walk over the first two rows of sectors, out and back: each step leaves for the sector before it. */
 static void make_steps(void)
@@ -106,7 +115,7 @@ static long harden(uint8_t *costs, const uint8_t *step, const uint8_t *next)
 
 static void *plan(void *unused)
 {
-    before = (uintptr_t)__builtin_frame_address(0);
+    before = called_here();
     number = sight ? hanjolum_leg(floor_costs, sizeof floor_costs, steps, sizeof steps, sheet, sizeof sheet)
                    : hanjolum_leg_without_sight(floor_costs, sizeof floor_costs, steps, sizeof steps, sheet, sizeof sheet);
     return unused;
@@ -114,53 +123,77 @@ static void *plan(void *unused)
 
 static void *plan_goal(void *costs)
 {
-    before = (uintptr_t)__builtin_frame_address(0);
+    before = called_here();
     number = sight ? hanjolum_sector(costs, HANJOLUM_CELLS, steps, HANJOLUM_STEP, false, NULL, 0, sheet, HANJOLUM_CELLS).number
                    : hanjolum_sector_without_sight(costs, HANJOLUM_CELLS, steps, HANJOLUM_STEP, false, NULL, 0, sheet,
                                                    HANJOLUM_CELLS).number;
     return costs;
 }
 
+static void *start_goal(void *costs)
+{
+    HanjolumInitAnswer answer;
+    before = called_here();
+    answer = hanjolum_init(costs, HANJOLUM_CELLS, steps, HANJOLUM_STEP);
+    number = answer.number;
+    started = answer.field;
+    return costs;
+}
+
+static void *build_started(void *costs)
+{
+    before = called_here();
+    number = hanjolum_build(costs, HANJOLUM_CELLS, started).number;
+    return costs;
+}
+
 static void *field_of_last(void *unused)
 {
     size_t last = HANJOLUM_STEPS - 1;
-    before = (uintptr_t)__builtin_frame_address(0);
+    before = called_here();
     number = sight ? hanjolum_leg_field(floor_costs, sizeof floor_costs, steps, sizeof steps, last).number
                    : hanjolum_leg_field_without_sight(floor_costs, sizeof floor_costs, steps, sizeof steps, last).number;
     return unused;
 }
 
+static void *bound_costs(void *sector)
+{
+    before = called_here();
+    number = hanjolum_bounds(sector, HANJOLUM_CELLS, sector, HANJOLUM_CELLS, windows, HANJOLUM_STEP).number;
+    return sector;
+}
+
 static void *cost_windows(void *sector)
 {
-    before = (uintptr_t)__builtin_frame_address(0);
+    before = called_here();
     number = hanjolum_window_costs(sector, HANJOLUM_CELLS, windows, sizeof windows).number;
     return sector;
 }
 
 static void *tour_windows(void *sector)
 {
-    before = (uintptr_t)__builtin_frame_address(0);
+    before = called_here();
     number = hanjolum_window_tour(sector, HANJOLUM_CELLS, windows, sizeof windows, UINT16_MAX).number;
     return sector;
 }
 
 static void *follow(void *planned)
 {
-    before = (uintptr_t)__builtin_frame_address(0);
+    before = called_here();
     number = hanjolum_arrivals(planned, HANJOLUM_CELLS).number;
     return planned;
 }
 
 static void *move_on(void *sector)
 {
-    before = (uintptr_t)__builtin_frame_address(0);
+    before = called_here();
     number = hanjolum_move(sheet, sizeof sheet, *(uint8_t *)sector, 44).number;
     return sector;
 }
 
 static void *move_to_end(void *sector)
 {
-    before = (uintptr_t)__builtin_frame_address(0);
+    before = called_here();
     number = hanjolum_way(sheet, sizeof sheet, *(uint8_t *)sector, 44).number;
     return sector;
 }
@@ -209,7 +242,7 @@ static void deeper(size_t *deepest, size_t used)
 }
 
 /* The deepest of each call, of all floors so far, and the most waves of a sector; the first of a pair is with sight. */
-static size_t of_legs[2], of_fields[2], of_goals[2], of_windows, of_tours, of_arrivals, of_moves, of_ways;
+static size_t of_legs[2], of_fields[2], of_goals[2], of_starts, of_builds, of_bounds, of_windows, of_tours, of_arrivals, of_moves, of_ways;
 static long most[2];
 
 /* Makes a floor for a leg, every fourth of its sectors hard, and measures the calls for windows there. */
@@ -223,6 +256,7 @@ static void make_floor(uint8_t *stack, int first)
         long waves = harden(costs, step, next);
         most[!sight] = waves > most[!sight] ? waves : most[!sight];
         if (i > 0 && make_windows(costs, step)) {
+            deeper(&of_bounds, depth(stack, bound_costs, costs));
             deeper(&of_windows, depth(stack, cost_windows, costs));
             deeper(&of_tours, depth(stack, tour_windows, costs));
         }
@@ -237,6 +271,8 @@ static void measure(uint8_t *stack)
         make_floor(stack, leg % 2);
         goal_sector = floor_costs + steps[0] * HANJOLUM_CELLS;
         deeper(&of_goals[!sight], depth(stack, plan_goal, goal_sector));
+        deeper(&of_starts, depth(stack, start_goal, goal_sector));
+        deeper(&of_builds, depth(stack, build_started, goal_sector));
         deeper(&of_legs[!sight], depth(stack, plan, NULL));
         deeper(&of_fields[!sight], depth(stack, field_of_last, NULL));
         deeper(&of_arrivals, depth(stack, follow, sheet + steps[0] * HANJOLUM_CELLS));
@@ -262,10 +298,10 @@ int main(int argc, char **argv)
     if (of_windows == 0)
         fail("no call for window costs was made");
     printf("%zu bytes of stack at most for a leg, with %ld waves, %zu without sight, with %ld; %zu for a goal's sector, %zu without "
-           "sight; %zu for the field of a leg's step, %zu without sight; %zu for window costs, %zu for a tour, %zu for arrivals, "
-           "%zu for a move, %zu for a way\n",
-           of_legs[0], most[0], of_legs[1], most[1], of_goals[0], of_goals[1], of_fields[0], of_fields[1], of_windows, of_tours,
-           of_arrivals, of_moves, of_ways);
+           "sight; %zu for the field of a leg's step, %zu without sight; %zu for init, %zu for build, %zu for bounds, %zu for window "
+           "costs, %zu for a tour, %zu for arrivals, %zu for a move, %zu for a way\n",
+           of_legs[0], most[0], of_legs[1], most[1], of_goals[0], of_goals[1], of_fields[0], of_fields[1], of_starts, of_builds,
+           of_bounds, of_windows, of_tours, of_arrivals, of_moves, of_ways);
     if (fflush(stdout) != 0)
         fail("standard output cannot be written");
     return 0;

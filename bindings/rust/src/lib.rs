@@ -8,8 +8,8 @@
 //! the condition in words, and not one byte that it was lent has changed. No call panics, allocates or keeps anything, and
 //! any may be called from several threads at once. `include/hanjolum.h` says at length what each promises.
 //!
-//! A call needs less than 80,000 bytes of stack (read off the archive, not proved), and two or three kilobytes more here for
-//! its answers: 256 KB for a thread is enough.
+//! A call with sight needs less than 20,240 bytes of stack and any other less than 10,240 (read off the archive, not proved), and
+//! two or three kilobytes more here for its answers: 32 KB beside what a thread itself needs is enough.
 //!
 //! A goal's sector and a leg are planned without sight ([`sector_without_sight`], [`leg_without_sight`]) or with sight
 //! ([`sector`], [`leg`]). Without sight every reached cell but the goal has an arrow, and where no cost is 0 the arrows lead to
