@@ -328,10 +328,6 @@ fn look_around(
         (now (cells .entry)) (now (corners .entry)) (counts .corners) (now (queue .entry)) (counts .queued)
         (now (cells .exit)) (now (corners .exit)) (r .corners) (now (queue .exit)) (r .queued) ⌝ }
 {
-    // It always is a cell of the sector: said to the compiler, which then leaves a test out of each look.
-    if 99 < from {
-        return counts;
-    }
     let mut counted = counts;
     let mut side: u8 = 0;
     while side < 4 {

@@ -33,17 +33,14 @@ abbrev Turn : Type 0
 Turn = tie.At-loop Inv-loop μ-loop
 
 abbrev start : Turn → tie.Start Inv-loop μ-loop
-start l = l .before .before
+start l = l .before
 
 -- what the arrays hold before a look
 abbrev held : Turn → Sight
 held c = let l = c .loop in sightOf (l .cells) (l .corners) (l .counted .corners) (take (l .counted .queued) (l .queue))
 
-returns : tie.Need-returns Inv-loop μ-loop
-returns c = let in-sector = c .before .pre .1 .from-in in absurd (omega arith)
-
 loop-holds : tie.Need-loop-holds Inv-loop μ-loop
-loop-holds c = (search needs, c .before .pre .0, refl, c .before .pre .1 .ends)
+loop-holds c = (search needs, c .pre .0, refl, c .pre .1 .ends)
 
 look-requires : tie.Need-look-requires Inv-loop μ-loop
 look-requires c κs =
@@ -72,8 +69,8 @@ loop-again c =
           (lent-looked line (a .wavefront-cost) (start turn .pre .1 .wave-in) _ _ (held turn) (a .from) dir (stepped (cellAt (a .from)) dir) (l .inv .3)),
     )
 
-returns-2 : tie.Need-returns-2 Inv-loop μ-loop
-returns-2 c =
+returns : tie.Need-returns Inv-loop μ-loop
+returns c =
     let turn = c .before in
     let a = start turn .args in
     let l = turn .loop in
@@ -84,8 +81,8 @@ returns-2 c =
 
 pub look-around-spec : {M : Type 1} → statement M
 look-around-spec = tie.close (tie.spec
-    Inv-loop μ-loop returns loop-holds
+    Inv-loop μ-loop loop-holds
     (λ c κs. search needs)
     look-requires
     (λ c. search needs) (λ c. search needs)
-    loop-again returns-2)
+    loop-again returns)
