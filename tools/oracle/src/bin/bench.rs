@@ -327,8 +327,13 @@ fn legs() {
     println!("how a leg grows, on the random floors: its first steps alone, and what a step takes");
     println!("{:<14} {:>9} {:>9}", "", "leg", "a step");
     for steps in [1, 2, 4, 8, 16] {
-        let leg = measure_alone(&drawn_legs(Floor::Counting).into_iter().map(|leg| leg.first(steps)).collect::<Vec<_>>());
-        println!("{:<14} {leg:>9.0} {:>9.0}", format!("{steps} steps"), leg / steps as f64);
+        let leg =
+            measure_alone(&drawn_legs(Floor::Counting).into_iter().map(|leg| leg.first(steps)).collect::<Vec<_>>());
+        println!(
+            "{:<14} {leg:>9.0} {:>9.0}",
+            if steps == 1 { "1 step".to_string() } else { format!("{steps} steps") },
+            leg / steps as f64
+        );
     }
 }
 
