@@ -146,8 +146,8 @@ extern "C" {
 
 #define HANJOLUM_VERSION_MAJOR 1
 #define HANJOLUM_VERSION_MINOR 2
-#define HANJOLUM_VERSION_PATCH 0
-#define HANJOLUM_VERSION "1.2.0"
+#define HANJOLUM_VERSION_PATCH 1
+#define HANJOLUM_VERSION "1.2.1"
 
 enum {
     HANJOLUM_CELLS = 100,      /* cells of a sector: its cost bytes, and the bytes of its sheet */
