@@ -40,12 +40,10 @@ use Rattle.least_walks.specs.Walks.{Wall}
 use Rattle.least_walks.proofs.Started.{Ground}
 use Rattle.least_walks.proofs.Ground.{among-mem}
 use Rattle.least_walks.proofs.Promise.{started-ground, started-walks}
-use Rattle.flow_byte.specs.declared.Look.{Look}
-use Rattle.flow_byte.specs.declared.Look.the-variants.{Looking, Taken, Ended}
+use Rattle.flow_byte.specs.Look.{Look, Looking, Taken, Ended, lookedByte, lookAround, pointed, builtByte, flowBuild}
 use Rattle.flow_bits.specs.Byte as byte
 use Rattle.flow_bits.specs.Byte.{bitsOf}
 use Rattle.flow_byte.specs.New.{isIn, startOf, facingBits, facingValue, unlessEnd, facingChoice, windowBits, newByte, newBytes}
-use Rattle.flow_byte.specs.Look.{lookedByte, lookAround, pointed, builtByte, flowBuild}
 use Rattle.arrows.specs.Arrows.{arrow, Away, Cuts, PassesWall, ClearArrows}
 use Rattle.arrows.specs.Promise.{builtCells}
 use Rattle.arrows.proofs.Fall.{in-among, zero-stays}

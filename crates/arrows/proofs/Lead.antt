@@ -43,11 +43,9 @@ use Rattle.started_field.proofs.Started.{accepted-target, answered}
 use Rattle.least_walks.specs.Walks.{Wall}
 use Rattle.least_walks.proofs.Ground.{among-mem, mem-among}
 use Rattle.least_walks.proofs.Promise.{built}
-use Rattle.flow_byte.specs.declared.Look.{Look}
-use Rattle.flow_byte.specs.declared.Look.the-variants.{Looking, Taken, Ended}
+use Rattle.flow_byte.specs.Look.{Look, Looking, Taken, Ended, lookedByte, lookAround, pointed, flowBuild}
 use Rattle.flow_bits.specs.Byte.{bitsOf, dirOf, isImpassable}
 use Rattle.flow_byte.specs.New.{startOf, windowBits, newBytes}
-use Rattle.flow_byte.specs.Look.{lookedByte, lookAround, pointed, flowBuild}
 use Rattle.arrows.specs.Arrows.{Reached, arrow, Away, Cuts, Move, Leads, ends, moves, CellsMarked, ArrowsLead}
 use Rattle.arrows.specs.Promise.{WindowSector, SightlessSector, builtCells, BuildArrows, MadeArrows, OnceBuiltArrows, StartedArrows}
 use Rattle.arrows.proofs.Fall.{end-open, EndSector, value, word-low, Plain, end-word, wall-word, by-kind, Beside, lower-beside, entered-from}

@@ -28,9 +28,7 @@ use Rattle.fields.specs.Cell.{indexOf, cellAt, stepped}
 use Rattle.fields.proofs.Steps.{index-of-cell}
 use Rattle.integration_field.specs.Word.{low, isGoal, isPortal}
 use Rattle.integration_field.specs.Diagonal.{wallAt, passesWall}
-use Rattle.flow_byte.specs.declared.Look.{Look}
-use Rattle.flow_byte.specs.declared.Look.the-variants.{Looking, Taken, Ended}
-use Rattle.flow_byte.specs.Look.{seen, seenAt, lookAt, lookAlong, lookAround}
+use Rattle.flow_byte.specs.Look.{Look, Looking, Taken, Ended, seen, seenAt, lookAt, lookAlong, lookAround}
 use Rattle.arrows.proofs.Around.{Sees, sees}
 
 -- the first of a list of directions of which something holds

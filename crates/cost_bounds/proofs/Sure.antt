@@ -19,10 +19,8 @@ use Rattle.route.specs.declared.PortalWindow.{PortalWindow}
 use Rattle.route.specs.Target.{to-window, WindowCell}
 use Rattle.integration_field.specs.Word.{low, isGoal, isPortal}
 use Rattle.least_walks.proofs.Ground.{among-mem, mem-among}
-use Rattle.flow_byte.specs.declared.Look.{Look}
-use Rattle.flow_byte.specs.declared.Look.the-variants.{Looking, Taken, Ended}
+use Rattle.flow_byte.specs.Look.{Look, Looking, Taken, Ended, lookAround, lookedByte, pointed, flowBuild}
 use Rattle.flow_byte.specs.New.{newBytes}
-use Rattle.flow_byte.specs.Look.{lookAround, lookedByte, pointed, flowBuild}
 use Rattle.arrows.specs.Arrows.{arrow, Away}
 use Rattle.arrows.proofs.Fall.{is-in, in-among, Sector, value, Plain, NoWall, end-word}
 use Rattle.arrows.proofs.Around.{Sees, near-in, pointing-in, reached-there, reached-back}

@@ -31,9 +31,7 @@ use Rattle.fields.specs.Cell.{cellAt, indexOf, stepped}
 use Rattle.integration_field.specs.Word.{low, isGoal, isPortal}
 use Rattle.integration_field.specs.Diagonal.{wallAt, passesWall}
 use Rattle.flow_bits.specs.Byte.{bitsOf}
-use Rattle.flow_byte.specs.declared.Look.{Look}
-use Rattle.flow_byte.specs.declared.Look.the-variants.{Looking, Taken, Ended}
-use Rattle.flow_byte.specs.Look.{seen, seenAt, lookAt, lookAround, pointed, lookedByte, builtByte, flowBuild}
+use Rattle.flow_byte.specs.Look.{Look, Looking, Taken, Ended, seen, seenAt, lookAt, lookAround, pointed, lookedByte, builtByte, flowBuild}
 use Rattle.flow_build.specs.Inner.{lookKey, lookDir, LookHeld, LooksHeld, nothingFound, cellKey, seenKey, isNoted}
 use Rattle.flow_build.specs.Inner.{keyAfter, bitsAfter, lookedTo, LooksOn, isKept, NoneLooks, heldByte, heldBytes}
 

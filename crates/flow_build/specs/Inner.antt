@@ -14,9 +14,7 @@ use Rattle.utilities.specs.Lists.{below}
 use Rattle.integration_field.specs.Word.{low, isGoal, isPortal, isImpassable}
 use Rattle.integration_field.specs.Diagonal.{passesWall}
 use Rattle.flow_bits.specs.Byte as flow
-use Rattle.flow_byte.specs.declared.Look.{Look}
-use Rattle.flow_byte.specs.declared.Look.the-variants.{Looking, Taken, Ended}
-use Rattle.flow_byte.specs.Look.{lookAt}
+use Rattle.flow_byte.specs.Look.{Look, Looking, Taken, Ended, lookAt}
 
 -- ---- a look as two numbers
 

@@ -12,9 +12,8 @@ use lib.ListN.{set, replicate}
 use Rattle.utilities.specs.declared.CompassDir.the-variants.{North, East, NorthEast}
 use Rattle.fields.specs.Cell.{stepped}
 use Rattle.integration_field.specs.Diagonal.{passesWall}
-use Rattle.flow_byte.specs.declared.Look.the-variants.{Looking, Ended}
+use Rattle.flow_byte.specs.Look.{Looking, Ended, seen, lookAround, pointed, lookedByte}
 use Rattle.flow_byte.specs.New.{startOf, facingBits, facingChoice}
-use Rattle.flow_byte.specs.Look.{seen, lookAround, pointed, lookedByte}
 
 start-portal : startOf 0x80000 ≡ 0x90
 unfolding startOf

@@ -15,9 +15,14 @@ use Rattle.fields.specs.declared.Stepped.the-variants.{Cell, Outside}
 use Rattle.fields.specs.Cell.{cellAt, indexOf, stepped}
 use Rattle.integration_field.specs.Word.{low, isGoal, isPortal}
 use Rattle.integration_field.specs.Diagonal.{wallAt, passesWall}
-use Rattle.flow_byte.specs.declared.Look.{Look}
-use Rattle.flow_byte.specs.declared.Look.the-variants.{Looking, Taken, Ended}
 use Rattle.flow_bits.specs.Byte.{bitsOf, isPathable, isImpassable}
+
+-- What a look has come to: still looking, with the best direction so far and its value; taken, at a goal or a portal; or ended at a cell that
+-- no cost has reached, with the best so far.
+pub data Look : Type 0 where
+  Looking : CompassDir → ℕ → Look
+  Taken : CompassDir → Look
+  Ended : CompassDir → Look
 
 -- a look from cell i passes over the neighbour at index n: a wall, or a diagonal that passes one (02, Job 7)
 abbrev pub isPassedOver : List ℕ → ℕ → ℕ → Bool
