@@ -29,7 +29,7 @@ fn counts(portal: PortalWindow, previous: &[u32; 100], index: usize) -> bool
 }
 
 // The cells of a window that count, in order.
-pub fn counting_cells(portal: PortalWindow, previous: &[u32; 100]) -> WindowCells
+fn counting_cells(portal: PortalWindow, previous: &[u32; 100]) -> WindowCells
     ensures { λ r. ⌜ r ≡ listed (select (counts portal (now (previous .entry))) (cellsBetween (portal .boundary) (portal .start) (portal .end))) ⌝ }
 {
     let window = portal.get_all_window_cells();

@@ -4,21 +4,21 @@ ghost use mathlib.Core.Path.{_≡_};
 ghost use Rattle.flow_bits.specs.Byte.{bitsOf, dirOf, isPathable, isImpassable, hasLineOfSight, isGoal, isPortalGoal, isWall};
 
 // The bits of the directions.
-pub const BITS_NORTH: u8 = 0b0000_0001;
+const BITS_NORTH: u8 = 0b0000_0001;
 
-pub const BITS_EAST: u8 = 0b0000_0010;
+const BITS_EAST: u8 = 0b0000_0010;
 
-pub const BITS_SOUTH: u8 = 0b0000_0100;
+const BITS_SOUTH: u8 = 0b0000_0100;
 
-pub const BITS_WEST: u8 = 0b0000_1000;
+const BITS_WEST: u8 = 0b0000_1000;
 
-pub const BITS_NORTH_EAST: u8 = 0b0000_0011;
+const BITS_NORTH_EAST: u8 = 0b0000_0011;
 
-pub const BITS_SOUTH_EAST: u8 = 0b0000_0110;
+const BITS_SOUTH_EAST: u8 = 0b0000_0110;
 
-pub const BITS_SOUTH_WEST: u8 = 0b0000_1100;
+const BITS_SOUTH_WEST: u8 = 0b0000_1100;
 
-pub const BITS_NORTH_WEST: u8 = 0b0000_1001;
+const BITS_NORTH_WEST: u8 = 0b0000_1001;
 
 // No bits.
 pub const BITS_DEFAULT: u8 = 0b0000_0000;
@@ -36,7 +36,7 @@ pub const BITS_PORTAL_GOAL: u8 = 0b1000_0000;
 pub const BITS_IMPASSABLE: u8 = 0b1110_0000;
 
 // The low half.
-pub const BITS_COST_FILTER: u8 = 0b0000_1111;
+const BITS_COST_FILTER: u8 = 0b0000_1111;
 
 // A direction's bits.
 pub fn convert_compass_dir_to_bits_dir(dir: CompassDir) -> u8

@@ -24,7 +24,7 @@ pub const INT_BITS_IMPASSABLE: u32 = 0x2000000;
 pub const INT_BITS_CORNER: u32 = 0x4000000;
 
 // The bits of a cell's cost.
-pub const INT_FILTER_BITS_COST: u32 = 0xffff;
+const INT_FILTER_BITS_COST: u32 = 0xffff;
 
 pub fn is_los(cost: u32) -> bool
     ensures { λ r. ⌜ r ≡ isLos cost ⌝ }

@@ -18,7 +18,7 @@ fn put_no(out: &mut [u8; 210], number: u8) -> usize
 }
 
 // The text of an answer at the start of `out`, and how many bytes it is.
-pub fn render(number: u8, sheet: &[u8; 100], out: &mut [u8; 210]) -> usize
+fn render(number: u8, sheet: &[u8; 100], out: &mut [u8; 210]) -> usize
     ensures count { λ r. ⌜ (r ≤ 210) × (r ≡ length (rendered number (now (sheet .entry)))) ⌝ }
     ensures text { λ _. ⌜ now (out .exit) ≡ sets (now (out .entry)) 0 (rendered number (now (sheet .entry))) ⌝ }
 {
