@@ -16,7 +16,7 @@ ghost use Rattle.cost_bounds.specs.Promise.{CostBounds, SureMarks, BoundsRefuse
 ghost use Rattle.bounds.specs.Inner.{FloorsReady};
 ghost use Rattle.bounds.specs.Promise.{floorBytes};
 
-// Whether two costs are no from-to: the first above the second, or 255 in only one of the two.
+// Whether two costs cannot be the least and the greatest of a cell: the first is above the second, or only one of them is 255.
 fn is_no_range(from: u8, to: u8) -> bool
     ensures { λ r. ⌜ r ≡ (ltb to from || ((eqb from 255 && not (eqb to 255)) || (eqb to 255 && not (eqb from 255)))) ⌝ }
 {
@@ -29,7 +29,7 @@ fn is_no_range(from: u8, to: u8) -> bool
     to == 255
 }
 
-// Whether the costs of some cell are no from-to.
+// Whether the two costs of some cell cannot be its least and greatest.
 fn has_no_range(low: &[u8], high: &[u8]) -> bool
     requires { ⌜ (length (now low) ≡ 100) × (length (now high) ≡ 100) ⌝ }
     ensures { λ r. ⌜ r ≡ someOf (noRange (now (low .entry)) (now (high .entry))) (below 100) ⌝ }
@@ -83,7 +83,7 @@ fn refused(number: u8) -> Bounds
     }
 }
 
-// The run over two floors and a window: the costs on each, and the cells that are sure by them.
+// Builds for a window on both floors: the built costs on each, and the cells that are sure by them.
 fn run(low: &[u8], high: &[u8], target: Target) -> Bounds
     requires { ⌜ FloorsReady (now low) (now high) target ⌝ }
     ensures { λ r. ⌜ r ≡ acceptedBounds (now (low .entry)) (now (high .entry)) (heldTarget target) ⌝ }

@@ -22,6 +22,7 @@ fn empty(number: u8) -> Line
     }
 }
 
+// Whether two cells both lie in the sector.
 fn both_inside(source: FieldCell, target: FieldCell) -> bool
     ensures { λ r. ⌜ r ≡ (inside source && inside target) ⌝ }
 {
@@ -39,7 +40,7 @@ fn moved(a: usize, b: usize, offset: usize) -> usize
     if a <= b { a + offset } else { a - offset }
 }
 
-// A cell of a walk: the rows are the major coordinate of a steep one.
+// The cell at a walk's major and minor coordinate: of a steep walk the rows are the major one.
 fn placed_cell(steep: bool, major: usize, minor: usize) -> FieldCell
     ensures { λ r. ⌜ r ≡ placed steep major minor ⌝ }
 {
@@ -55,7 +56,7 @@ fn placed_cell(steep: bool, major: usize, minor: usize) -> FieldCell
     }
 }
 
-// The index of that cell.
+// The index of the cell at a walk's major and minor coordinate.
 fn placed_index(steep: bool, major: usize, minor: usize) -> usize
     requires { ⌜ (major < 10) × (minor < 10) ⌝ }
     ensures { λ r. ⌜ r ≡ indexOf (placed steep major minor) ⌝ }
@@ -66,7 +67,7 @@ fn placed_index(steep: bool, major: usize, minor: usize) -> usize
     minor * 10 + major
 }
 
-// Where step k of a walk of `span` steps stands in the list: counted from the last place where it is listed back.
+// Where step k of a walk of `span` steps stands in the list: at place k, or as many places before the last where the walk is listed backwards.
 fn place_of(back: bool, span: usize, k: usize) -> usize
     requires { ⌜ k ≤ span ⌝ }
     ensures { λ r. ⌜ (r ≡ placeOf back span k) × (r ≤ span) ⌝ }
@@ -77,8 +78,8 @@ fn place_of(back: bool, span: usize, k: usize) -> usize
     k
 }
 
-// Draws a walk, which gains one in its major coordinate at each step: the indexes of its cells, in lent places, since a `Line` would be
-// copied for each caller. They are listed from the last where `back` says so. Answers how many they are.
+// Draws a walk, which gains one in its major coordinate at each step: writes the indexes of its cells, backwards where `back` says so, and answers how
+// many they are. The places are lent, since a `Line` would be copied for each caller.
 // `difference` is that of the Rust plus twice the span, which is never below 0.
 fn walk(
     steep: bool,
@@ -127,7 +128,7 @@ fn answered_line(drawn: &[usize; 10], count: usize) -> Line
     line
 }
 
-// A walk by itself, of any pair of cells; no cells where the target's major coordinate is lower.
+// The walk between any two cells, by itself; no cells where the target's major coordinate is lower, and 13 where a cell lies outside the sector.
 fn walk_alone(steep: bool, major_0: usize, minor_0: usize, major_1: usize, minor_1: usize) -> Line
     ensures { λ r. ⌜ r ≡ called (placed steep major_0 minor_0) (placed steep major_1 minor_1) (walkCells steep major_0 minor_0 major_1 minor_1) ⌝ }
 {
@@ -166,7 +167,7 @@ pub fn walk_bresenham_steep(col_0: usize, row_0: usize, col_1: usize, row_1: usi
     walk_alone(true, row_0, col_0, row_1, col_1)
 }
 
-// Draws the line from `source` to `target`: the indexes of its cells, both of these included, in lent places. Answers how many they are.
+// Draws the line from `source` to `target`: writes the indexes of its cells, both of these included, to lent places, and answers how many they are.
 pub fn draw_cells_between_points(
     source: FieldCell,
     target: FieldCell,

@@ -1,5 +1,6 @@
-// The position of the corner that each cell belongs to: after building, the corners' positions spread in list order over moves that keep the
-// built costs exact, so that each cell takes the earliest corner with a walk arriving at its built cost.
+// Which corner each cell belongs to: the earliest of the list with a walk that arrives at the cell's built cost. After building, the corners have their
+// turns in list order. Each spreads its position, from itself on, over the moves that come to exactly the built cost of the cell they enter, into the
+// cells that have no position yet.
 use fields::FieldCell;
 use fields::Stepped;
 use utilities::CompassDir;
@@ -16,10 +17,10 @@ ghost use Rattle.integration_field.specs.Position.{isUnplaced, positions};
 ghost use Rattle.corner_positions.specs.Inner.{enteredFrom, Lowered, Placing, placing, placedAt, placedTo, placedAround, keptOf};
 ghost use Rattle.corner_positions.specs.Inner.{StandsFor, HasRoom, StepsTo, Written, BuiltOn, Spread, SpreadOn, GoneOn, Decided};
 
-// The value that no cell holds.
+// The entry of a cell that building left as it was: above every cell's value, so that no move is made into the cell.
 const LEFT_ALONE: u32 = 65536;
 
-// The entry of a cell that is placed: no move is made from this value, so that the cell takes no other position.
+// The entry of a cell that has its position: above every cell's value too, so that the cell takes no other.
 const PLACED: u32 = 65537;
 
 // The position that no corner has.
@@ -33,7 +34,8 @@ fn narrow(index: usize) -> u8
     index as u8
 }
 
-// The value from which a move into a cell arrives at its built cost; `LEFT_ALONE` where building left the cell as it was.
+// The value that a neighbour has if a move from it into this cell comes to the built cost: that cost less the cell's own. `LEFT_ALONE` where building
+// left the cell as it was.
 fn entered_at(cost: u8, before: u32, built: u32) -> u32
     requires { ⌜ ((built ≡ before → ⊥) → cost ≤ built) ⌝ }
     ensures { λ r. ⌜ r ≡ enteredFrom cost before built ⌝ }
@@ -44,7 +46,7 @@ fn entered_at(cost: u8, before: u32, built: u32) -> u32
     built - (cost as u32)
 }
 
-// For every cell, what it was entered from.
+// For every cell, the value of the neighbours from which a move comes to its built cost.
 fn entered_from(costs: &[u8], before: &[u32; 100], built: &[u32; 100]) -> [u32; 100]
     requires { ⌜ (length (now costs) ≡ 100) × Lowered (now costs) (now before) (now built) ⌝ }
     ensures { λ r. ⌜ r ≡ map (λ x. enteredFrom (getD (now (costs .entry)) x 0) (getD (now (before .entry)) x 0) (getD (now (built .entry)) x 0)) (below 100) ⌝ }
@@ -58,8 +60,8 @@ fn entered_from(costs: &[u8], before: &[u32; 100], built: &[u32; 100]) -> [u32; 
     entered
 }
 
-// A cell that has no position is placed, if a move from this value arrives at its built cost: its entry becomes `PLACED`, and it is queued.
-// Answers how many are queued.
+// Places a cell that has no position yet, if a move from this value comes to its built cost: its entry becomes `PLACED`, and it is queued. Answers how
+// many cells are queued.
 fn place_at(
     entered: &mut [u32; 100],
     queue: &mut [u8; 101],
@@ -73,15 +75,15 @@ fn place_at(
 {
     let old = entered[index];
     let taken = old == value;
-    // Both are written in either case, and the queue has a place more than there are cells: no branch depends on a cell.
+    // Both are written in either case, so that no branch depends on a cell. For that the queue has a place more than there are cells.
     let new = if taken { PLACED } else { old };
     entered[index] = new;
     queue[queued] = narrow(index);
     queued + taken as usize
 }
 
-// The neighbour of a cell in one direction is placed so, where there is one. The step says whether there is; the neighbour's index is told by the
-// index that the step is made from.
+// Places the neighbour of a cell in one direction, if there is one and a move from the cell comes to its built cost. The step says whether there is one;
+// its index is worked out from the cell's own. Answers how many cells are queued.
 fn place_towards(
     entered: &mut [u32; 100],
     queue: &mut [u8; 101],
@@ -102,7 +104,7 @@ fn place_towards(
     place_at(entered, queue, queued, value, index)
 }
 
-// The four neighbours of a cell are placed so, in the order N, E, S, W.
+// Places those neighbours of a cell to which a move comes at their built cost, in the order N, E, S, W. Answers how many cells are queued.
 fn place_around(
     entered: &mut [u32; 100],
     queue: &mut [u8; 101],
@@ -124,7 +126,8 @@ fn place_around(
     place_towards(entered, queue, three, value, cell, west)
 }
 
-// A position spreads from the queued cells that were not gone around from; each takes it in its turn. Answers how many are queued then.
+// Spreads a corner's position: each queued cell, from place `gone` on, takes the position, and its neighbours that are placed from it are queued behind
+// the others. Ends when all queued cells have had their turn. Answers how many cells are queued then.
 fn spread(
     built: &[u32; 100],
     entered: &mut [u32; 100],
@@ -155,7 +158,7 @@ fn spread(
     count
 }
 
-// A corner that building left alone takes its own position, if it has none, and the position spreads from there. Answers how many are queued then.
+// A corner that building left alone takes its own position, if it has none, and the position spreads from there. Answers how many cells are queued then.
 fn place_corner(
     built: &[u32; 100],
     entered: &mut [u32; 100],
@@ -179,7 +182,7 @@ fn place_corner(
     spread(built, entered, positions, queue, queued, more, position)
 }
 
-// The corners' positions spread, in list order.
+// Spreads the positions of all corners, in list order.
 fn place_corners(
     built: &[u32; 100],
     entered: &mut [u32; 100],
@@ -227,7 +230,7 @@ fn kept(before: u32, position: u8) -> u8
     position
 }
 
-// For every cell, its position, or none where it was wall, in sight or goal before.
+// For every cell, the position that it keeps.
 fn keep(before: &[u32; 100], positions: &[u8; 100]) -> [u8; 100]
     ensures { λ r. ⌜ r ≡ map (λ x. keptOf (getD (now (before .entry)) x 0) (getD (now (positions .entry)) x 0)) (below 100) ⌝ }
 {
@@ -240,7 +243,8 @@ fn keep(before: &[u32; 100], positions: &[u8; 100]) -> [u8; 100]
     left
 }
 
-// For each cell of a built field the position of the corner that it belongs to. The built cells and the corners are lent from one record.
+// For each cell of a built field the position of the corner that it belongs to, 255 where it belongs to none. The built cells and the corners are lent
+// from one record.
 pub fn corner_positions<'a>(
     costs: &[u8],
     before: &[u32; 100],

@@ -1,6 +1,6 @@
 // Costs from window to window inside one sector: definitions and theorems, and the records of their code.
 
-// From one window to each of eight, in their places.
+// A row of the square: the costs from one window to each of eight.
 #[repr(C)]
 pub struct WindowRow {
     pub costs: [u32; 8],

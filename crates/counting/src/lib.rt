@@ -1,5 +1,5 @@
-// The window cells that count in a leg: those of which some facing cell that is compared was reached in the sector before. A later step of a
-// leg starts from them.
+// The window cells that count in a leg, from which a later step starts: a window cell counts if one of the facing cells that it compares was reached in
+// the sector before.
 use route::PortalWindow;
 use route::RouteStep;
 use route::Target;

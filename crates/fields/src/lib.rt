@@ -22,7 +22,8 @@ pub enum Stepped {
 }
 
 impl FieldCell {
-    // The cell at a column and a row, or Outside where it has none.
+    // The cell at a column and a row, or Outside where one of them is above 9. It stands for the Rust's `new`, which panics there: document 01 names it as
+    // a wrapper. Nothing here calls it.
     pub fn new(column: usize, row: usize) -> Stepped
         ensures { λ r. ⌜ r ≡ cellIn column row ⌝ }
     {
@@ -35,7 +36,7 @@ impl FieldCell {
         Stepped::Cell(FieldCell { column, row })
     }
 
-    // The cell at an index.
+    // The cell at an index, which is row times 10 plus column.
     pub fn from_index(index: usize) -> FieldCell
         ensures { λ r. ⌜ r ≡ cellAt index ⌝ }
     {
@@ -96,8 +97,8 @@ impl FieldCell {
     }
 }
 
-// The index of the cell one step away from the cell at an index, where the step stays in the sector: a row is ten apart, a column one. It takes no
-// division by ten, which the cell's own column and row would, so that whatever reads at the index does not wait for one.
+// The index of the cell one step away from the cell at an index, where the step stays in the sector: rows are ten apart, columns one. It takes no
+// division by ten, as the cell's own column and row would, so that what is read at the index does not wait for one.
 pub fn index_beside(index: usize, dir: CompassDir) -> usize
     requires { ⌜ StaysInside index dir ⌝ }
     ensures { λ r. ⌜ ((n : FieldCell) → stepped (cellAt index) dir ≡ Cell n → (r ≡ indexOf n) × (r < 100)) ⌝ }

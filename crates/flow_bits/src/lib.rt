@@ -32,10 +32,10 @@ pub const BITS_GOAL: u8 = 0b0100_0000;
 
 pub const BITS_PORTAL_GOAL: u8 = 0b1000_0000;
 
-// All three flags above are a wall.
+// The flags of a wall: all three above.
 pub const BITS_IMPASSABLE: u8 = 0b1110_0000;
 
-// The low half.
+// The low half of a byte, where its direction stands.
 const BITS_COST_FILTER: u8 = 0b0000_1111;
 
 // A direction's bits.

@@ -1,5 +1,9 @@
-// The flow field of an integration field: all cells look around together, one direction a pass, and each byte gets the direction of the best
-// neighbour.
+// The flow field of an integration field: each cell's byte gets the direction of its best neighbour. The Rust looks around from one cell after the
+// other; here all cells look together, one direction a pass, in the order of a look: N, E, S, W, NE, SE, SW, NW.
+// A look goes by one number for each neighbour, its key: 0 for a goal or a portal, which is taken; 1 for a cell that no cost has reached, where the look
+// ends; 65537 for a wall, or a diagonal past one, which is passed over; for any other cell its cost plus 2. `best` holds the key of each cell's look so
+// far, and `bits` the direction found. A look changes only at a lower key, so that of equals the earliest stays, and never after it has ended. After
+// the eight passes each cell gets its byte from these two numbers.
 use fields::FieldCell;
 use fields::Stepped;
 use flow_bits::BITS_DEFAULT;
@@ -27,8 +31,7 @@ const KEY_ENDED: u32 = 1;
 // The key of a wall, and of a look that has found nothing: above every other.
 const KEY_NOTHING: u32 = 65537;
 
-// What a look goes by at a cell, as one number, the key: the lower, the better. Two more than the cost, save where the look takes the cell, ends
-// at it or passes over it.
+// A cell's key: the lower, the better. It is the cost plus 2, save where a look takes the cell, ends at it or passes over it.
 fn key_of(cost: u32) -> u32
     ensures { λ r. ⌜ r ≡ cellKey cost ⌝ }
 {
@@ -75,22 +78,22 @@ fn seen_key(cells: &[u32; 100], keys: &[u32; 100], from: FieldCell, to: FieldCel
     key
 }
 
-// Whether a look goes by what it sees: it has not ended, and what it sees is better than all before. One that has taken a goal or a portal has
-// the least key, and nothing is better.
+// Whether a look changes at the key that it sees: it has not ended, and the key is lower than its own. A look that has taken a goal or a portal has the
+// lowest key, and changes no more.
 fn is_noted(seen: u32, key: u32) -> bool
     ensures { λ r. ⌜ r ≡ isNoted seen key ⌝ }
 {
     (key != KEY_ENDED) & (seen < key)
 }
 
-// The key of a look after what it has seen.
+// The key of a look after it has seen another.
 fn key_after(seen: u32, key: u32) -> u32
     ensures { λ r. ⌜ r ≡ keyAfter seen key ⌝ }
 {
     if is_noted(seen, key) { seen } else { key }
 }
 
-// The bits of its direction: a cell that ends the look leaves it the best so far.
+// The bits of a look's direction after it has seen a key. A cell that ends the look leaves it the best direction so far.
 fn bits_after(seen: u32, key: u32, dir: u8, bits: u8) -> u8
     ensures { λ r. ⌜ r ≡ bitsAfter seen key dir bits ⌝ }
 {
@@ -101,7 +104,7 @@ fn bits_after(seen: u32, key: u32, dir: u8, bits: u8) -> u8
     }
 }
 
-// The look of one cell goes on in a direction; there is nothing to see outside the sector.
+// One cell looks in one direction; outside the sector there is nothing to see.
 fn look_from(
     cells: &[u32; 100],
     keys: &[u32; 100],
@@ -122,12 +125,12 @@ fn look_from(
     let index = from.row * 10 + from.column;
     let key = best[index];
     let found = bits[index];
-    // both are written in either case: no branch depends on a cell
+    // Both are written in either case, so that no branch depends on a cell.
     best[index] = key_after(seen, key);
     bits[index] = bits_after(seen, key, pointed, found);
 }
 
-// The looks of a row's cells go on in a direction.
+// The cells of one row look in one direction.
 fn look_from_row(
     cells: &[u32; 100],
     keys: &[u32; 100],
@@ -147,7 +150,7 @@ fn look_from_row(
     }
 }
 
-// One pass: the looks of all cells go on in a direction.
+// One pass: all cells look in one direction.
 fn look_in_direction(
     cells: &[u32; 100],
     keys: &[u32; 100],
@@ -188,7 +191,7 @@ fn is_kept(byte: u8) -> bool
     flow_bits::is_pathable(byte) | flow_bits::is_impassable(byte)
 }
 
-// Whether no cell looks. All cells are tested in either case: no branch depends on one.
+// Whether no cell looks. All cells are tested in either case, so that no branch depends on one.
 fn none_looks(sheet: &[u8]) -> bool
     requires { ⌜ length (now sheet) ≡ 100 ⌝ }
     ensures { λ r. ⌜ (r ≡ true → NoneLooks (now (sheet .entry))) ⌝ }
@@ -219,7 +222,8 @@ fn looked_byte(byte: u8, key: u32, bits: u8) -> u8
     start | pointed
 }
 
-// A cell's byte, from the byte that it had.
+// A cell's new byte, from the byte that it had and what its look has come to. The Rust's function of this name also looks around from the cell; here
+// all cells have looked before.
 fn calculate_flow_cell(byte: u8, key: u32, bits: u8) -> u8
     ensures { λ r. ⌜ r ≡ byteAfter byte key bits ⌝ }
 {
@@ -229,7 +233,7 @@ fn calculate_flow_cell(byte: u8, key: u32, bits: u8) -> u8
     looked_byte(byte, key, bits)
 }
 
-// The bytes of all cells, by what their looks have come to.
+// Gives every cell its new byte, by what its look has come to.
 fn point_cells(best: &[u32; 100], bits: &[u8; 100], sheet: &mut [u8])
     requires { ⌜ length (now sheet) ≡ 100 ⌝ }
     ensures { λ _. ⌜ now (sheet .exit) ≡ heldBytes (now (best .entry)) (now (bits .entry)) (now (sheet .entry)) ⌝ }
@@ -241,7 +245,7 @@ fn point_cells(best: &[u32; 100], bits: &[u8; 100], sheet: &mut [u8])
     }
 }
 
-// The bytes of all cells.
+// The new bytes of all cells: they look around, unless each keeps its byte anyway, and then each gets its byte.
 fn calculate_flow_cells(cells: &[u32; 100], sheet: &mut [u8])
     requires { ⌜ length (now sheet) ≡ 100 ⌝ }
     ensures { λ _. ⌜ now (sheet .exit) ≡ flowBuild (now (cells .entry)) (now (sheet .entry)) ⌝ }
@@ -255,7 +259,7 @@ fn calculate_flow_cells(cells: &[u32; 100], sheet: &mut [u8])
     point_cells(&best, &bits, sheet);
 }
 
-// The flow field of an integration field, by hand: from the sheet's bytes, whatever they are.
+// The flow field of an integration field, by hand: from the sheet's bytes, whatever they are, or number 2 for a sheet that is not 100 bytes.
 pub fn build(field: IntegrationField, sheet: &mut [u8]) -> u8
     ensures number { λ r. ⌜ r ≡ buildNumber (now (sheet .entry)) ⌝ }
     ensures sheet { λ _. ⌜ now (sheet .exit) ≡ buildSheet (field .field) (now (sheet .entry)) ⌝ }

@@ -21,7 +21,7 @@ ghost use Rattle.flow_byte.specs.New.{startOf, facingBits, facingValue, unlessE
 ghost use Rattle.flow_new.specs.Flow.{newNumber, newSheet};
 ghost use Rattle.flow_new.specs.Inner.{startBytes, withBits};
 
-// What an end cell of a window does not see: above every cost.
+// The cost of a cell that is not seen: above every other.
 const UNSEEN: u32 = 0x10000;
 
 // The flags that a cell starts with.
@@ -43,7 +43,7 @@ fn starting_flags(value: u32) -> u8
     BITS_DEFAULT
 }
 
-// A value is above neither of two others.
+// Whether a value is above neither of two others.
 fn not_above(value: u32, one: u32, other: u32) -> bool
     ensures { λ r. ⌜ r ≡ (leb value one && leb value other) ⌝ }
 {
@@ -65,7 +65,7 @@ fn facing_bits(boundary: CompassDir, lower: u32, straight: u32, higher: u32) -> 
     bits + flow_bits::convert_compass_dir_to_bits_dir(side.inverse())
 }
 
-// The cost of the cell that faces a cell.
+// The cost of the cell that faces a window cell across the boundary, in the field of the sector there.
 fn facing_value(previous: &[u32], boundary: CompassDir, index: usize) -> u32
     requires { ⌜ length (now previous) ≡ 100 ⌝ }
     ensures { λ r. ⌜ r ≡ facingValue (now (previous .entry)) boundary index ⌝ }
@@ -74,7 +74,7 @@ fn facing_value(previous: &[u32], boundary: CompassDir, index: usize) -> u32
     integration_bits::low_bits(previous[cell])
 }
 
-// The cost beside it, which the window's end cell does not see.
+// The cost of the cell that faces `beside`, which lies next to a window cell on one side. The window's end cell on that side does not see it.
 fn side_value(
     previous: &[u32],
     boundary: CompassDir,
@@ -91,7 +91,7 @@ fn side_value(
     facing_value(previous, boundary, beside)
 }
 
-// The index that lies so much lower, and 0 where none does.
+// An index less a stride, and 0 where that would be below 0.
 fn lower_by(index: usize, stride: usize) -> usize
     ensures { λ r. ⌜ r ≡ index - stride ⌝ }
 {
@@ -101,7 +101,7 @@ fn lower_by(index: usize, stride: usize) -> usize
     index - stride
 }
 
-// The costs that a window cell compares.
+// The costs that a window cell compares: of the cell that faces it, and of those beside that one.
 pub fn seen_values(window: PortalWindow, previous: &[u32], index: usize) -> SeenValues
     requires { ⌜ (length (now previous) ≡ 100) × (index < 100) ⌝ }
     ensures { λ r. ⌜ r ≡ seenValues window (now (previous .entry)) index ⌝ }
@@ -132,7 +132,7 @@ fn optimise_portal_direction(window: PortalWindow, previous: &[u32], index: usiz
     facing_bits(boundary, seen.lower, seen.straight, seen.higher)
 }
 
-// The bits of a window cell.
+// The bits of a window cell: straight across the boundary, without a previous field or in a window of one cell; else to the cheapest facing cell.
 fn portal_direction(window: PortalWindow, has_previous: bool, previous: &[u32], index: usize) -> u8
     requires { ⌜ («has_previous» ≡ true → length (now previous) ≡ 100) × (index < 100) ⌝ }
     ensures { λ r. ⌜ r ≡ windowBits window «has_previous» (now (previous .entry)) index ⌝ }

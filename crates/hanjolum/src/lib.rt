@@ -144,7 +144,7 @@ pub extern "C" fn hanjolum_window_costs(costs: &[u8], steps: &[u8]) -> WindowCos
     window_costs::window_costs(costs, steps)
 }
 
-// The best tour of the same windows of as many orders as the limit says, and the least figure, or the same numbers.
+// A tour of the windows of one sector: the best of as many orders as the limit says, and the least figure, or the numbers of window costs.
 #[no_mangle]
 pub extern "C" fn hanjolum_window_tour(costs: &[u8], steps: &[u8], limit: u16) -> PlannedTour
     ensures answer { λ r. ⌜ r ≡ tourAnswer (now (costs .entry)) (now (steps .entry)) limit ⌝ }

@@ -26,30 +26,35 @@ pub const INT_BITS_CORNER: u32 = 0x4000000;
 // The bits of a cell's cost.
 const INT_FILTER_BITS_COST: u32 = 0xffff;
 
+// Whether a cell is in sight of the goal.
 pub fn is_los(cost: u32) -> bool
     ensures { λ r. ⌜ r ≡ isLos cost ⌝ }
 {
     cost & INT_BITS_LOS == INT_BITS_LOS
 }
 
+// Whether a cell is the goal.
 pub fn is_goal(cost: u32) -> bool
     ensures { λ r. ⌜ r ≡ isGoal cost ⌝ }
 {
     cost & INT_BITS_GOAL == INT_BITS_GOAL
 }
 
+// Whether sight does not go into a cell, because a corner's line went over it.
 pub fn is_blocked(cost: u32) -> bool
     ensures { λ r. ⌜ r ≡ isBlocked cost ⌝ }
 {
     cost & INT_BITS_WAVE_BLOCKED == INT_BITS_WAVE_BLOCKED
 }
 
+// Whether a cell is a window cell.
 pub fn is_portal(cost: u32) -> bool
     ensures { λ r. ⌜ r ≡ isPortal cost ⌝ }
 {
     cost & INT_BITS_PORTAL == INT_BITS_PORTAL
 }
 
+// Whether a cell is a wall.
 pub fn is_impassable(cost: u32) -> bool
     ensures { λ r. ⌜ r ≡ isImpassable cost ⌝ }
 {

@@ -48,7 +48,8 @@ fn is_first(written: bool, old: u32, before: u32) -> bool
     written & (old == before)
 }
 
-// A sum offered to a cell. The first that is written to it lists the cell, so that each changed cell is listed once. Answers how many are listed.
+// Offers a sum to a cell, which takes it if `is_written` says so. The first sum of a wave that a cell takes lists it for the next wave, so that each
+// changed cell is listed once. Answers how many cells are listed.
 fn relax(
     cells: &mut [u32; 100],
     before: &[u32; 100],
@@ -63,7 +64,8 @@ fn relax(
 {
     let old = cells[index];
     let written = is_written(old, sum);
-    // Both are written in either case: no branch depends on a cell. There is a place, since a cell with the least value never changes in a wave.
+    // Cell and list are written in either case, so that no branch depends on a cell. The list has a place left: a cell with the least value never
+    // changes in a wave.
     let new = if written { sum } else { old };
     cells[index] = new;
     next[found] = index as u8;
@@ -71,8 +73,8 @@ fn relax(
     found + first as usize
 }
 
-// A value offered to the neighbour in one direction: the sum is compared before it is cut to 16 bits. The step says whether there is a neighbour;
-// its index is told by the index that the step is made from. Answers how many cells are listed.
+// Offers a cell's value plus the neighbour's cost to the neighbour in one direction, if there is one: the whole sum is compared, not its low 16 bits.
+// The step says whether there is a neighbour; its index is worked out from the cell's own. Answers how many cells are listed.
 fn offer_towards(
     cells: &mut [u32; 100],
     costs: &[u8; 100],
@@ -97,7 +99,7 @@ fn offer_towards(
     relax(cells, before, next, found, index, sum)
 }
 
-// A value offered to the four neighbours. Answers how many cells are listed.
+// Offers a cell's value to its four neighbours. Answers how many cells are listed.
 fn offer_around(
     cells: &mut [u32; 100],
     costs: &[u8; 100],
@@ -121,7 +123,7 @@ fn offer_around(
     offer_towards(cells, costs, before, next, three, value, cell, west)
 }
 
-// The offers of a wavefront's cells, each from the value that the wave before left. The cells that they change are listed; answers how many.
+// One wave: each cell of the wavefront offers the value that the wave before left in it. The cells that change are listed. Answers how many they are.
 fn offer_wave(
     cells: &mut [u32; 100],
     costs: &[u8; 100],
@@ -200,8 +202,8 @@ fn held_costs(costs: &[u8]) -> [u8; 100]
     held
 }
 
-// The waves of building, from the first wavefront on: what they are lent is held here, once for all of them. No number of waves from 99 on gives another
-// answer than 100. Answers how many changed a cell.
+// Runs the waves of building, from the first wavefront on. What they are lent is held here, once for all of them. A limit of 100 waves cuts nothing off:
+// every limit from 99 on gives the same answer. Answers how many waves changed a cell.
 fn run_waves(costs: &[u8], cells: &mut [u32; 100], wavefront: &mut [u8; 100], count: usize) -> usize
     requires { ⌜ (length (now costs) ≡ 100) × ((length (now cells) ≡ 100) × Indexes 100 (now wavefront) count) ⌝ }
     ensures { λ r. ⌜ Settles (now (costs .entry)) (now (cells .entry)) (take count (now (wavefront .entry))) 100 (now (cells .exit)) r ⌝ }
@@ -262,14 +264,14 @@ fn corner_wave(corners: &[usize; 100], count: usize) -> [u8; 100]
     cells
 }
 
-// Puts positions where they are lent.
+// Writes positions to their lent places: a function of its own, since an array in a record in a record is written as a whole only where it is lent.
 fn put(positions: &mut [u8; 100], found: [u8; 100])
     ensures { λ _. ⌜ now (positions .exit) ≡ found ⌝ }
 {
     *positions = found;
 }
 
-// A field whose corners are cells, built, but for its positions, which stay as they were given: for who answers no field.
+// Builds a field whose corners are cells of the sector, but for its positions, which stay as they were given: for callers that answer no field.
 pub fn build_without_positions(costs: &[u8], given: IntegrationField) -> IntegrationField
     requires { ⌜ Accepted (now costs) given ⌝ }
     ensures { λ r. ⌜ r ≡ builtWithout (now (costs .entry)) given ⌝ }
@@ -282,8 +284,8 @@ pub fn build_without_positions(costs: &[u8], given: IntegrationField) -> Integra
     field
 }
 
-// A field whose corners are cells, built, its positions among it: for who answers the field. It is built where it is answered from, so that its record
-// lies on the stack once.
+// Builds a field whose corners are cells of the sector, with its positions: for callers that answer the field. It is built inside the record that is
+// answered, so that it lies on the stack once.
 pub fn built(costs: &[u8], given: IntegrationField) -> BuildAnswer
     requires { ⌜ Accepted (now costs) given ⌝ }
     ensures { λ r. ⌜ r ≡ answerOf 0 (now (costs .entry)) given ⌝ }
@@ -310,7 +312,7 @@ pub fn built(costs: &[u8], given: IntegrationField) -> BuildAnswer
     answer
 }
 
-// A field given by hand, built on these costs.
+// Builds a field given by hand on 100 cost bytes, or answers why not: 1 or 11.
 pub fn build(costs: &[u8], field: IntegrationField) -> BuildAnswer
     ensures answer { λ r. ⌜ r ≡ buildAnswer (now (costs .entry)) field ⌝ }
     ensures least { λ r. ⌜ (r .number ≡ 0 → LeastWalks (now (costs .entry)) (field .field) (listOf field) (r .field .field)) ⌝ }

@@ -50,7 +50,7 @@ fn is_wall_at(cells: &[u32; 100], n: usize) -> bool
     integration_bits::is_impassable(value)
 }
 
-// Whether a line stops before cell n, which it enters from `previous`.
+// Whether a line stops before cell n, which it enters from `previous`: n is a wall, or the move there is diagonal and passes one.
 fn is_stopped(cells: &[u32; 100], previous: usize, n: usize) -> bool
     requires { ⌜ (previous < 100) × (n < 100) ⌝ }
     ensures { λ r. ⌜ r ≡ stopped (now (cells .entry)) previous n ⌝ }
@@ -65,7 +65,8 @@ fn is_stopped(cells: &[u32; 100], previous: usize, n: usize) -> bool
     integration_bits::passes_wall(from, to, in_row, in_column)
 }
 
-// Marks and lists a cell of a line, if it is not blocked yet. Answers how many are listed.
+// A cell that a line goes over is flagged BLOCKED and CORNER with its value, and listed as a corner, unless a line has marked it before. Answers how
+// many corners are listed.
 fn mark(
     cells: &mut [u32; 100],
     corners: &mut [usize; 100],
@@ -100,7 +101,7 @@ fn open_side(cells: &[u32; 100], from: usize, side: CompassDir) -> Stepped
     Stepped::Cell(n)
 }
 
-// Marks the cells of a corner's line up to where it stops; the i-th gets wave cost + 1 + i. Answers how many are listed.
+// Marks the cells of a corner's line up to where it stops; the i-th gets wave cost + 1 + i. Answers how many corners are listed.
 fn mark_line(
     cells: &mut [u32; 100],
     corners: &mut [usize; 100],
@@ -131,7 +132,8 @@ fn mark_line(
     listed
 }
 
-// Draws a corner's line, which ends at the edge of the sector, away from the goal. Answers how many are listed.
+// A corner hides what lies behind it, seen from the goal: the line from the corner to the edge of the sector, away from the goal, is drawn and its
+// cells are marked. Answers how many corners are listed.
 fn extend_los_corner(
     cells: &mut [u32; 100],
     corners: &mut [usize; 100],
@@ -152,7 +154,8 @@ fn extend_los_corner(
     mark_line(cells, corners, count, corner, &drawn, size, wavefront_cost)
 }
 
-// Tries one side of a wall that cell `from` met: its side cell is a corner, where neither that nor the side cell of `from` is a wall.
+// Where a wall ends, sight goes past it: if the cells beside the wall and beside `from`, which met it, lie in the sector and are no walls, the one
+// beside the wall is a corner, and its line is drawn. Answers how many corners are listed.
 fn try_side(
     cells: &mut [u32; 100],
     corners: &mut [usize; 100],
@@ -178,7 +181,7 @@ fn try_side(
     extend_los_corner(cells, corners, count, index, goal, wavefront_cost, ends)
 }
 
-// Tries both sides of a wall, across the direction in which it was met.
+// Tries both sides of a wall, across the direction in which it was met. Answers how many corners are listed.
 fn meet_wall(
     cells: &mut [u32; 100],
     corners: &mut [usize; 100],
@@ -219,15 +222,15 @@ fn meet_wall(
     )
 }
 
-// Whether a look leaves a cell as it is: its word has BLOCKED, GOAL or LOS, which one mask tells.
+// Whether sight leaves a cell as it is: its word has BLOCKED, GOAL or LOS, which one mask tells.
 fn is_left_alone(cost: u32) -> bool
     ensures { λ r. ⌜ r ≡ ((isBlocked cost || isGoal cost) || isLos cost) ⌝ }
 {
     cost & (INT_BITS_WAVE_BLOCKED | INT_BITS_GOAL | INT_BITS_LOS) != 0
 }
 
-// Looks at neighbour n of cell `from`: it is left as it is, or is a wall and met, or comes into sight and is queued. Most looks find a cell that
-// is in sight already, and no cell in sight is a wall: so that is asked first, with one test.
+// Sight comes to cell n from its neighbour `from`: n is left as it is, or is a wall and met, or comes into sight and is queued for the next wave. Most
+// often it is in sight already, and no cell in sight is a wall: so that is asked first, with one test.
 fn look_at(
     cells: &mut [u32; 100],
     corners: &mut [usize; 100],
@@ -274,8 +277,8 @@ fn look_at(
     }
 }
 
-// Looks at the neighbour of cell `from` in one direction, where there is one. The step says whether there is; the neighbour's index is told by the
-// index that the step is made from.
+// Sight goes on from cell `from` in one direction, if there is a neighbour. The step says whether there is one; its index is worked out from that of
+// `from`.
 fn look(
     cells: &mut [u32; 100],
     corners: &mut [usize; 100],
@@ -311,7 +314,7 @@ fn look(
     )
 }
 
-// Looks at the neighbours of cell `from`, in the order N, E, S, W.
+// Sight goes on from cell `from` to its neighbours, in the order N, E, S, W.
 fn look_around(
     cells: &mut [u32; 100],
     corners: &mut [usize; 100],
@@ -348,7 +351,7 @@ fn look_around(
     counted
 }
 
-// Looks around from each cell of a wave, and queues the next wave.
+// One wave of sight: it goes on from each cell of the wave, and the cells that come into sight are queued as the next wave.
 fn look_wave(
     cells: &mut [u32; 100],
     corners: &mut [usize; 100],
@@ -441,7 +444,7 @@ fn propagate_los(
     )
 }
 
-// Whether some cell is a wall. Promised is what its caller needs: where it answers no, none is.
+// Whether some cell is a wall. The contract says what the caller needs: where the answer is no, no cell is a wall.
 fn has_wall(cells: &[u32; 100]) -> bool
     requires { ⌜ length (now cells) ≡ 100 ⌝ }
     ensures { λ r. ⌜ (r ≡ false → NoWall (now (cells .entry))) ⌝ }
@@ -495,7 +498,7 @@ fn spread_sight(
     )
 }
 
-// A cell's word as its cost gives it.
+// What a cell holds at first, by its cost: 65535, and cost 255 makes it a wall.
 fn wall_or(cost: u8) -> u32
     ensures { λ r. ⌜ r ≡ wallOr cost ⌝ }
 {
@@ -505,7 +508,7 @@ fn wall_or(cost: u8) -> u32
     65535
 }
 
-// Every cell's word as its cost gives it.
+// Sets every cell to what it holds at first.
 fn mark_walls(costs: &[u8], cells: &mut [u32; 100])
     requires { ⌜ (length (now costs) ≡ 100) × (length (now cells) ≡ 100) ⌝ }
     ensures { λ _. ⌜ now (cells .exit) ≡ walls (now (costs .entry)) ⌝ }
@@ -580,7 +583,7 @@ fn start_without(costs: &[u8], goal: usize) -> IntegrationField
     field
 }
 
-// The field that a target starts.
+// The field that a target starts: from its window's cells, or from its goal with sight or without.
 pub fn start(costs: &[u8], target: Target) -> IntegrationField
     requires { ⌜ (length (now costs) ≡ 100) × (TargetHeld target) ⌝ }
     ensures { λ r. ⌜ r ≡ started (now (costs .entry)) (heldTarget target) ⌝ }

@@ -1,5 +1,6 @@
-// A leg: what is refused by its bytes is refused first; then each step is started and built, and where none is refused, once more and written, onto
-// its own sector's part of the sheet that is lent.
+// A leg: a plan for one to sixteen sectors, step by step from the goal's. What its bytes alone show to be wrong is refused first. Then all steps are
+// started and built without writing, which shows whether a window is closed; if none is, they are built once more, and each is written to its own
+// sector's part of the lent sheet.
 use integration_field::IntegrationField;
 use route::RouteStep;
 use route::Target;
@@ -27,6 +28,7 @@ ghost use Rattle.leg_plan.specs.Promise.{LegPlanned, LegPlannedBy};
 ghost use Rattle.journey.specs.Journey.{LegArrives, LegArrivesAtGoal, Arrives};
 ghost use Rattle.leg.specs.Inner.{StepReady, StepTarget};
 
+// A byte as a number of an index's width.
 fn wide(byte: u8) -> usize
     ensures { λ r. ⌜ r ≡ byte ⌝ }
 {
@@ -64,7 +66,7 @@ fn each_step(floor: &[u8], steps: &[u8]) -> u8
     0
 }
 
-// Whether a step names the sector.
+// Whether some step names the sector.
 fn is_named(steps: &[u8], sector: u8) -> bool
     ensures { λ r. ⌜ r ≡ names sector (stepsOf (now (steps .entry))) ⌝ }
 {
@@ -96,7 +98,7 @@ fn is_named_twice(steps: &[u8]) -> bool
     false
 }
 
-// Whether a step has no window.
+// Whether some step has no window.
 fn has_goal(steps: &[u8]) -> bool
     ensures { λ r. ⌜ r ≡ someGoal (stepsOf (now (steps .entry))) ⌝ }
 {
@@ -111,7 +113,7 @@ fn has_goal(steps: &[u8]) -> bool
     false
 }
 
-// Number 9's condition.
+// Number 9's condition: the first step has a window, a later one has none, or a sector is named twice.
 fn is_out_of_order(steps: &[u8]) -> bool
     requires { ⌜ 8 ≤ length (now steps) ⌝ }
     ensures { λ r. ⌜ r ≡ outOfOrder (stepsOf (now (steps .entry))) ⌝ }
@@ -125,7 +127,7 @@ fn is_out_of_order(steps: &[u8]) -> bool
     is_named_twice(steps)
 }
 
-// Whether the sector across the boundary is this one.
+// Whether the other sector lies across a sector's boundary.
 fn faces(sector: u8, boundary: u8, other: u8) -> bool
     ensures { λ r. ⌜ r ≡ isSector other (across sector (sideOf boundary)) ⌝ }
 {
@@ -136,7 +138,7 @@ fn faces(sector: u8, boundary: u8, other: u8) -> bool
     found == wide(other)
 }
 
-// Number 10's condition.
+// Number 10's condition: across the boundary of a later step lies another sector than that of the step before, or none.
 fn is_apart(steps: &[u8]) -> bool
     requires { ⌜ 8 ≤ length (now steps) ⌝ }
     ensures { λ r. ⌜ r ≡ apart (stepsOf (now (steps .entry))) ⌝ }

@@ -45,12 +45,13 @@ struct Spot {
     row: usize,
 }
 
-// Where an arrow leads.
+// Where an arrow leads: to a place on the floor, or nowhere.
 enum Onward {
     To(Spot),
     Nowhere,
 }
 
+// A byte as a number of an index's width.
 fn wide(byte: u8) -> usize
     ensures { λ r. ⌜ r ≡ byte ⌝ }
 {
@@ -70,7 +71,7 @@ fn place_of(sector: u8, cell: u8) -> Spot
     }
 }
 
-// The sector that a place lies in, and its cell there.
+// The sector that a place lies in.
 fn sector_in(place: Spot) -> u8
     requires { ⌜ OnFloor (placeAt place) ⌝ }
     ensures { λ r. ⌜ r ≡ sectorIn (placeAt place) ⌝ }
@@ -81,6 +82,7 @@ fn sector_in(place: Spot) -> u8
     sector as u8
 }
 
+// The cell that a place is, in its sector.
 fn cell_in(place: Spot) -> u8
     requires { ⌜ OnFloor (placeAt place) ⌝ }
     ensures { λ r. ⌜ r ≡ cellIn (placeAt place) ⌝ }
@@ -246,7 +248,7 @@ fn way_from(sheet: &[u8], here: Spot) -> CartWay
     stood_at(NEVER, 0, here)
 }
 
-// The moves of a cart until it stands still, or never: the same numbers. Nothing that is lent is written.
+// The moves of a cart until it stands still, or that it never does; its numbers are those of `next_move`. Nothing that is lent is written.
 pub fn way(sheet: &[u8], sector: u8, cell: u8) -> CartWay
     ensures answer { λ r. ⌜ r ≡ wayAnswer (now (sheet .entry)) sector cell ⌝ }
     ensures numbers { λ r. ⌜ CartNumbered (now (sheet .entry)) sector cell (r .number) ⌝ }

@@ -6,6 +6,7 @@ ghost use lib.ListN.{length, take, drop};
 ghost use Rattle.leg_file.specs.File.{isMarked, versionOf, fileNumber, fileSteps, fileAnswer};
 ghost use Rattle.leg_file.specs.Promise.{WrittenSame, PartOf, FileRefused};
 
+// A byte as a number of an index's width.
 fn wide(byte: u8) -> usize
     ensures { λ r. ⌜ (r ≡ byte) × (r < 256) ⌝ }
 {

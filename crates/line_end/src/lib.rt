@@ -16,14 +16,14 @@ pub struct LineEnd {
     pub cell: FieldCell,
 }
 
-// The edge away from the goal, of a column or row: 9 where it lies beyond the goal's, else 0.
+// The edge column or row away from the goal: 9 where the corner lies beyond the goal's column or row, else 0.
 fn edge(beyond: bool) -> usize
     ensures { λ r. ⌜ r ≡ edge beyond ⌝ }
 {
     if beyond { 9 } else { 0 }
 }
 
-// How many columns or rows are behind one, up to 9 or down to 0.
+// How many columns or rows lie between one and the edge away from the goal, which is 9 or 0.
 fn after(beyond: bool, x: usize) -> usize
     requires { ⌜ x < 10 ⌝ }
     ensures { λ r. ⌜ (r ≡ after beyond x) × (r < 10) ⌝ }
@@ -31,7 +31,7 @@ fn after(beyond: bool, x: usize) -> usize
     if beyond { 9 - x } else { x }
 }
 
-// The column or row that is `d` behind one.
+// The column or row that lies `d` further on from one, towards that edge.
 fn further(beyond: bool, x: usize, d: usize) -> usize
     requires { ⌜ (x < 10) × (d ≤ after beyond x) ⌝ }
     ensures { λ r. ⌜ r ≡ further beyond x d ⌝ }
@@ -39,13 +39,15 @@ fn further(beyond: bool, x: usize, d: usize) -> usize
     if beyond { x + d } else { x - d }
 }
 
+// The smaller of two numbers.
 fn smaller(a: usize, b: usize) -> usize
     ensures { λ r. ⌜ r ≡ min a b ⌝ }
 {
     if a <= b { a } else { b }
 }
 
-// The nearest whole number to k * rise / span, and of two equally near the smaller.
+// How many rows the line lies off the goal's row, k columns from the goal: the nearest whole number to k * rise / span, and of two equally near the
+// smaller.
 fn nearest_row(rise: usize, span: usize, k: usize) -> usize
     requires { ⌜ (rise < 10) × (0 < span) × (span < 10) × (k < 20) ⌝ }
     ensures { λ r. ⌜ r ≡ nearest rise span k ⌝ }
@@ -53,8 +55,8 @@ fn nearest_row(rise: usize, span: usize, k: usize) -> usize
     (2 * (k * rise) + span - 1) / (2 * span)
 }
 
-// The first column, counted from the corner's own, whose row leaves 0 to 9, or else the last: `behind` rows are behind the goal's, and
-// `columns` columns behind the corner's.
+// In which column the line ends, counted from the corner's own: the first in which it has left rows 0 to 9, or else the edge column. From the goal's row
+// `behind` rows are left to the edge, and from the corner's column `columns` columns.
 fn first_leaving(rise: usize, span: usize, behind: usize, columns: usize) -> usize
     requires { ⌜ (rise < 10) × (0 < span) × (span < 10) × (columns < 10) ⌝ }
     ensures { λ r. ⌜ (r ≡ firstLeaving rise span behind columns) × (r ≤ columns) ⌝ }
@@ -70,7 +72,8 @@ fn first_leaving(rise: usize, span: usize, behind: usize, columns: usize) -> usi
     j
 }
 
-// The end of a line off the goal's column and row. The two tests say whether the corner lies right of the goal and below it.
+// The end of a line whose corner shares neither column nor row with the goal. `rightward` and `downward` say whether the corner lies right of the goal
+// and below it.
 fn slanted_end(rightward: bool, downward: bool, corner: FieldCell, goal: FieldCell) -> FieldCell
     requires { ⌜ Inside corner × Inside goal × (corner .column ≡ goal .column → ⊥) ⌝ }
     ensures { λ r. ⌜ r ≡ slantedEnd rightward downward corner goal ⌝ }

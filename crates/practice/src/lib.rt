@@ -14,7 +14,7 @@ pub struct PracticeFloor {
     pub goal: u8,
 }
 
-// The value behind the first n: one of the first 55 adds to the one before it, a later one adds up those 24 and 55 places before.
+// The value that follows the first n: up to the 55th it adds a constant to the one before it; later it is the sum of those 24 and 55 places before.
 fn next_value(values: &[u32; 156], n: usize) -> u32
     requires { ⌜ (1 ≤ n) × (n < 156) × (length (now values) ≡ 156) ⌝ }
     ensures { λ r. ⌜ r ≡ nextValue (take n (now (values .entry))) ⌝ }
@@ -54,7 +54,7 @@ fn cost_of(value: u32) -> u8
     255
 }
 
-// The costs of the 100 cells as the values behind the first 55 give them.
+// The costs of the 100 cells, by the values that follow the first 55.
 fn draw_costs(values: &[u32; 156]) -> [u8; 100]
     requires { ⌜ length (now values) ≡ 156 ⌝ }
     ensures { λ r. ⌜ r ≡ map costOf (drop 55 (take 155 (now (values .entry)))) ⌝ }

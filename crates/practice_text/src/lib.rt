@@ -6,6 +6,7 @@ ghost use lib.ListN.{length};
 ghost use lib.Seq.{sets};
 ghost use Rattle.practice_text.specs.Text.{seedOf, floorText, noLine, practiceText};
 
+// A byte as a number of a seed's width.
 fn wide(byte: u8) -> u32
     ensures { λ r. ⌜ (r ≡ byte) × (r < 256) ⌝ }
 {

@@ -6,7 +6,7 @@ ghost use lib.ListN.{length, getD};
 ghost use Rattle.records.specs.Same.{wordAt, SameField};
 use integration_field::IntegrationField;
 
-// The bytes from a place to another, none where they do not reach so far.
+// The bytes from one place up to another; no bytes where there are not so many.
 pub fn part(bytes: &[u8], from: usize, to: usize) -> &[u8]
     ensures { λ r. ⌜ length (now r) ≤ to - from ⌝ }
 {
@@ -16,7 +16,7 @@ pub fn part(bytes: &[u8], from: usize, to: usize) -> &[u8]
     &bytes[0..0]
 }
 
-// The first bytes, to be written, none where there are not so many.
+// The first bytes, lent to be written; no bytes where there are not so many.
 pub fn front(bytes: &mut [u8], length: usize) -> &mut [u8] {
     if length <= bytes.len() {
         return &mut bytes[0..length];

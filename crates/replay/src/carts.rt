@@ -23,7 +23,7 @@ fn cart_agrees(sheet: &[u8], bytes: &[u8]) -> bool {
     check::same(&told, part(bytes, 2, 10)) && way.moves as usize == short_at(bytes, 10, 11)
 }
 
-// Whether those from sixty-four places are.
+// Whether the moves and the ways from sixty-four places are those that stand there.
 fn all_agree(sheet: &[u8], bytes: &[u8]) -> bool {
     let mut k = 0;
     while k < 64 {

@@ -15,7 +15,7 @@ pub struct PortalWindow {
     pub boundary: CompassDir,
 }
 
-// A step taken apart. With a portal the actual goal is its window, else the goal cell.
+// A step taken apart, with the fields of the Rust's. With a portal the actual goal is its window, else the goal cell.
 pub struct RouteStep {
     pub sector: usize,
     pub goal: usize,
@@ -48,13 +48,14 @@ pub fn byte_at(bytes: &[u8], place: usize) -> u8
     0
 }
 
+// A byte as a number of an index's width.
 fn wide(byte: u8) -> usize
     ensures { λ r. ⌜ r ≡ byte ⌝ }
 {
     byte as usize
 }
 
-// From a cell of a side's edge to the next: 1 along a row, 10 down a column.
+// How far apart the indexes of two neighbours on a side's edge are: 1 along a row, 10 down a column.
 pub fn stride_of(boundary: CompassDir) -> usize
     ensures { λ r. ⌜ r ≡ stride boundary ⌝ }
 {
@@ -79,7 +80,7 @@ fn edge_cell(boundary: CompassDir, place: usize) -> usize
     first + place * stride_of(boundary)
 }
 
-// Whether a cell lies from the first to the last.
+// Whether a cell's index lies from the first to the last, both included.
 fn is_between(first: usize, last: usize, cell: usize) -> bool
     ensures { λ r. ⌜ r ≡ between first last cell ⌝ }
 {
@@ -89,7 +90,7 @@ fn is_between(first: usize, last: usize, cell: usize) -> bool
     cell <= last
 }
 
-// The cell across a boundary that faces a cell: one step on, columns and rows counted round.
+// The cell of the next sector that faces a cell across a boundary: one step on, where after 9 comes 0 and before 0 comes 9.
 pub fn facing_cell(boundary: CompassDir, index: usize) -> usize
     ensures { λ r. ⌜ r ≡ facing boundary index ⌝ }
 {
@@ -100,7 +101,7 @@ pub fn facing_cell(boundary: CompassDir, index: usize) -> usize
 }
 
 impl RouteStep {
-    // A step's bytes taken apart.
+    // Takes a step's bytes apart; a byte that is not there counts as 0.
     pub fn new(step: &[u8]) -> RouteStep
         ensures { λ r. ⌜ r ≡ routeStep (now (step .entry)) ⌝ }
     {
@@ -122,7 +123,7 @@ impl RouteStep {
         }
     }
 
-    // The step's target.
+    // What a sector's field starts from for this step: its window's cells, or its goal with sight.
     pub fn as_target(self) -> Target
         ensures { λ r. ⌜ r ≡ listedTarget (routeTarget self) ⌝ }
     {

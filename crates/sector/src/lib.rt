@@ -1,4 +1,5 @@
-// The sector call: its number, and the run of its step's target: a field on the sector's costs, started and built, and its flow bytes on the sheet.
+// The sector call: a field is started and built on the sector's costs for a step's target, and its flow bytes are written to the sheet; or the call is
+// refused with its number.
 use integration_field::BuildAnswer;
 use integration_field::IntegrationField;
 use route::PortalWindow;
@@ -33,7 +34,7 @@ fn lacks_previous(step: &[u8], has_previous: bool) -> bool
     route::byte_at(step, 2) == 1
 }
 
-// The number of the table for a call with a sheet of so many bytes.
+// The table's number for a call with a sheet of so many bytes: 0 where it is not refused.
 fn sector_number(
     costs: &[u8],
     step: &[u8],
@@ -65,7 +66,8 @@ fn sector_number(
     0
 }
 
-// Writes a built field: its flow field, new and built, onto 100 lent bytes. `portal` is the step's window, whole, `window` its cells that count.
+// Writes the flow bytes of a built field to 100 lent bytes: those of a new flow field, then built. `portal` is the step's whole window, `window` the
+// cells of it that the field was started from.
 pub fn write(
     portal: PortalWindow,
     window: WindowCells,
@@ -81,7 +83,7 @@ pub fn write(
     flow_build::build(built, sheet);
 }
 
-// A sector's run over a target: its field, started and built with its positions, and its flow bytes. `portal` is the step's window, whole.
+// Plans a target: its field, started and built with its positions, is answered, and its flow bytes are written. `portal` is the step's whole window.
 fn run(
     costs: &[u8],
     target: Target,

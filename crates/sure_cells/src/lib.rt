@@ -19,7 +19,7 @@ ghost use Rattle.arrows.specs.Arrows.{builtCost};
 ghost use Rattle.cost_bounds.specs.Bounds.{someOf, permittedFrom, isBelowOthers, isSure};
 ghost use Rattle.cost_bounds.specs.Inner.{heldPermitted, FoundAlong};
 
-// Whether the look from a cell passes over a neighbour: a wall, or a diagonal that walls bar.
+// Whether the look from a cell passes over a neighbour: it is a wall, or the move there is diagonal and passes one.
 fn is_passed_over(cells: &[u32; 100], from: FieldCell, to: FieldCell) -> bool
     requires { ⌜ Inside from × Inside to ⌝ }
     ensures { λ r. ⌜ r ≡ isPassedOver (now (cells .entry)) (indexOf from) (indexOf to) ⌝ }
@@ -33,7 +33,7 @@ fn is_passed_over(cells: &[u32; 100], from: FieldCell, to: FieldCell) -> bool
     integration_bits::passes_wall(from, to, in_row, in_column)
 }
 
-// The permitted neighbours found so far, and behind them the one in a direction, if it is permitted.
+// Adds the neighbour in one direction, if it is permitted, behind the permitted neighbours found so far.
 fn permitted_towards(
     cells: &[u32; 100],
     index: usize,
@@ -59,7 +59,7 @@ fn permitted_towards(
     }
 }
 
-// The permitted neighbours in four directions, one after the other, behind those that were found before.
+// Adds the permitted neighbours in four directions, one after the other, behind those found so far.
 fn permitted_along(
     cells: &[u32; 100],
     index: usize,
@@ -172,7 +172,8 @@ fn has_least(least: &[u32; 100], greatest: &[u32; 100], neighbours: PermittedCel
     false
 }
 
-// Whether a cell is sure. The window cells are those flagged as portals.
+// Whether a cell is sure (02, "Job 9"): neither wall nor window cell itself, it has among its permitted neighbours a window cell, or one whose greatest
+// cost is below the least cost of all others. The window cells are those flagged as portals.
 fn is_sure(cells: &[u32; 100], least: &[u32; 100], greatest: &[u32; 100], index: usize) -> bool
     requires { ⌜ index < 100 ⌝ }
     ensures { λ r. ⌜ ((window : List ℕ)

@@ -1,4 +1,4 @@
-// A target's field, started and built, for who needs no positions.
+// A target's field, started and built, for callers that need no positions.
 use integration_field::IntegrationField;
 use route::Target;
 ghost use mathlib.Core.Path.{_≡_};
@@ -15,7 +15,7 @@ pub fn build_target(costs: &[u8], target: Target) -> IntegrationField
     integration_build::build_without_positions(costs, field)
 }
 
-// A sector's field, started from a window's cells and built, without positions: for who plans to windows alone. No sight is spread from a window, so
+// A sector's field, started from a window's cells and built, without positions: for callers that plan to windows alone. No sight is spread from a window, so
 // that no function beneath this one lays out the table of line ends.
 pub fn build_window(costs: &[u8], target: Target) -> IntegrationField
     requires { ⌜ (length (now costs) ≡ 100) × (WindowTarget target) ⌝ }

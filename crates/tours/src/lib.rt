@@ -1,4 +1,5 @@
-// Tours of windows over the square of their costs: the best of the orders tried, and a figure that no order's sum goes under.
+// Tours of windows over the square of their costs: the best of the orders tried, and the least figure of document 02 (Job 14), a lower bound that no
+// order's sum goes under.
 
 // The best order so far: whether there is one, its window numbers, and its sum.
 pub struct Tour {

@@ -1,4 +1,4 @@
-// Directions.
+// The eight directions: what each adds to a column and a row, its opposite, its number and its sides.
 ghost use mathlib.Core.Path.{_≡_};
 ghost use Rattle.utilities.specs.Compass.{differences, rises, opposite, numberOf, points, lowerSide, sideOf};
 
@@ -21,13 +21,14 @@ pub struct Differences {
     pub row: i64,
 }
 
+// The two differences as a record.
 fn apart(column: i64, row: i64) -> Differences
     ensures { λ r. ⌜ r ≡ record { column = column; row = row } ⌝ }
 {
     Differences { column, row }
 }
 
-// How much a difference adds, else 0.
+// How much a difference adds; 0 where it takes away.
 pub fn rises(difference: i64) -> usize
     ensures { λ r. ⌜ r ≡ rises difference ⌝ }
 {

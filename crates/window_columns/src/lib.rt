@@ -75,7 +75,7 @@ pub fn column_of(cells: &[u32; 100], steps: &[u8]) -> [u32; 8]
     column
 }
 
-// What stands at one place of each column.
+// Row i of a square that is known by its columns: what stands at place i of each.
 fn row_of(columns: [[u32; 8]; 8], i: usize) -> [u32; 8]
     requires { ⌜ i < 8 ⌝ }
     ensures { λ r. ⌜ r ≡ map (λ j. costAt columns j i) (below 8) ⌝ }

@@ -10,7 +10,8 @@ ghost use Rattle.cost_square.specs.Square.{squareEntry, costSquare, squareIn, r
 ghost use Rattle.cost_square.specs.Promise.{WindowSquare, SquareRefused, WrongCount, NotAmong};
 ghost use Rattle.cost_square.specs.Inner.{WindowsReady};
 
-// One place of each row: what it costs from each window to the one at place j, for which alone the floor is built.
+// Column j of the square: what it costs from each window to the one at place j of the list, for which alone the sector is built. 65535 where the list
+// has none there.
 fn column_at(costs: &[u8], steps: &[u8], j: usize) -> [u32; 8]
     requires { ⌜ WindowsReady (now costs) (now steps) ⌝ }
     ensures { λ r. ⌜ r ≡ map (λ i. squareEntry (now (costs .entry)) (stepsOf (now (steps .entry))) i j) (below 8) ⌝ }
@@ -23,7 +24,7 @@ fn column_at(costs: &[u8], steps: &[u8], j: usize) -> [u32; 8]
     window_columns::column_of(&built.field, steps)
 }
 
-// The square, filled column by column and turned.
+// The square of costs: filled column by column, then turned into rows.
 pub fn window_square(costs: &[u8], steps: &[u8]) -> [[u32; 8]; 8]
     requires { ⌜ WindowsReady (now costs) (now steps) ⌝ }
     ensures { λ r. ⌜ r ≡ costSquare (now (costs .entry)) (stepsOf (now (steps .entry))) ⌝ }

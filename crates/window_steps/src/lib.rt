@@ -40,7 +40,7 @@ fn each_window_step(costs: &[u8], sector: u8, steps: &[u8]) -> u8
     0
 }
 
-// The number of the table.
+// The table's number for a list of windows, 0 where it is not refused.
 pub fn window_costs_number(costs: &[u8], steps: &[u8]) -> u8
     ensures { λ r. ⌜ r ≡ windowCostsNumber (now (costs .entry)) (now (steps .entry)) ⌝ }
 {
