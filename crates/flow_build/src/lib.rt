@@ -32,19 +32,19 @@ const KEY_ENDED: u32 = 1;
 const KEY_NOTHING: u32 = 65537;
 
 // A cell's key: the lower, the better. It is the cost plus 2, save where a look takes the cell, ends at it or passes over it.
-fn key_of(cost: u32) -> u32
-    ensures { λ r. ⌜ r ≡ cellKey cost ⌝ }
+fn key_of(word: u32) -> u32
+    ensures { λ r. ⌜ r ≡ cellKey word ⌝ }
 {
-    if integration_bits::is_impassable(cost) {
+    if integration_bits::is_impassable(word) {
         return KEY_NOTHING;
     }
-    if integration_bits::is_goal(cost) {
+    if integration_bits::is_goal(word) {
         return KEY_TAKEN;
     }
-    if integration_bits::is_portal(cost) {
+    if integration_bits::is_portal(word) {
         return KEY_TAKEN;
     }
-    let low = integration_bits::low_bits(cost);
+    let low = integration_bits::low_bits(word);
     if low == 65535 {
         return KEY_ENDED;
     }

@@ -25,19 +25,19 @@ ghost use Rattle.flow_new.specs.Inner.{startBytes, withBits};
 const UNSEEN: u32 = 0x10000;
 
 // The flags that a cell starts with.
-fn starting_flags(value: u32) -> u8
-    ensures { λ r. ⌜ r ≡ startOf value ⌝ }
+fn starting_flags(word: u32) -> u8
+    ensures { λ r. ⌜ r ≡ startOf word ⌝ }
 {
-    if integration_bits::is_goal(value) {
+    if integration_bits::is_goal(word) {
         return BITS_GOAL | BITS_PATHABLE | BITS_HAS_LOS;
     }
-    if integration_bits::is_portal(value) {
+    if integration_bits::is_portal(word) {
         return BITS_PORTAL_GOAL | BITS_PATHABLE;
     }
-    if integration_bits::is_los(value) {
+    if integration_bits::is_los(word) {
         return BITS_HAS_LOS | BITS_PATHABLE;
     }
-    if integration_bits::is_impassable(value) {
+    if integration_bits::is_impassable(word) {
         return BITS_IMPASSABLE;
     }
     BITS_DEFAULT

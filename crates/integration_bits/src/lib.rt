@@ -1,4 +1,5 @@
-// The bits of an integration field's cell: its cost and its flags, their readers, and the walls that bar a move.
+// The bits of an integration field's cell: its cost and its flags, their readers, and the walls that bar a move. All 32 bits together are the cell's
+// word; the low 16 are its cost, or value.
 use fields::FieldCell;
 ghost use mathlib.Core.Path.{_≡_};
 ghost use mathlib.Core.Bool.{not, _&&_, _||_};
@@ -27,45 +28,45 @@ pub const INT_BITS_CORNER: u32 = 0x4000000;
 const INT_FILTER_BITS_COST: u32 = 0xffff;
 
 // Whether a cell is in sight of the goal.
-pub fn is_los(cost: u32) -> bool
-    ensures { λ r. ⌜ r ≡ isLos cost ⌝ }
+pub fn is_los(word: u32) -> bool
+    ensures { λ r. ⌜ r ≡ isLos word ⌝ }
 {
-    cost & INT_BITS_LOS == INT_BITS_LOS
+    word & INT_BITS_LOS == INT_BITS_LOS
 }
 
 // Whether a cell is the goal.
-pub fn is_goal(cost: u32) -> bool
-    ensures { λ r. ⌜ r ≡ isGoal cost ⌝ }
+pub fn is_goal(word: u32) -> bool
+    ensures { λ r. ⌜ r ≡ isGoal word ⌝ }
 {
-    cost & INT_BITS_GOAL == INT_BITS_GOAL
+    word & INT_BITS_GOAL == INT_BITS_GOAL
 }
 
 // Whether sight does not go into a cell, because a corner's line went over it.
-pub fn is_blocked(cost: u32) -> bool
-    ensures { λ r. ⌜ r ≡ isBlocked cost ⌝ }
+pub fn is_blocked(word: u32) -> bool
+    ensures { λ r. ⌜ r ≡ isBlocked word ⌝ }
 {
-    cost & INT_BITS_WAVE_BLOCKED == INT_BITS_WAVE_BLOCKED
+    word & INT_BITS_WAVE_BLOCKED == INT_BITS_WAVE_BLOCKED
 }
 
 // Whether a cell is a window cell.
-pub fn is_portal(cost: u32) -> bool
-    ensures { λ r. ⌜ r ≡ isPortal cost ⌝ }
+pub fn is_portal(word: u32) -> bool
+    ensures { λ r. ⌜ r ≡ isPortal word ⌝ }
 {
-    cost & INT_BITS_PORTAL == INT_BITS_PORTAL
+    word & INT_BITS_PORTAL == INT_BITS_PORTAL
 }
 
 // Whether a cell is a wall.
-pub fn is_impassable(cost: u32) -> bool
-    ensures { λ r. ⌜ r ≡ isImpassable cost ⌝ }
+pub fn is_impassable(word: u32) -> bool
+    ensures { λ r. ⌜ r ≡ isImpassable word ⌝ }
 {
-    cost & INT_BITS_IMPASSABLE == INT_BITS_IMPASSABLE
+    word & INT_BITS_IMPASSABLE == INT_BITS_IMPASSABLE
 }
 
 // A cell's cost, without its flags.
-pub fn low_bits(cost: u32) -> u32
-    ensures { λ r. ⌜ r ≡ low cost ⌝ }
+pub fn low_bits(word: u32) -> u32
+    ensures { λ r. ⌜ r ≡ low word ⌝ }
 {
-    cost & INT_FILTER_BITS_COST
+    word & INT_FILTER_BITS_COST
 }
 
 // Whether a move between two cells is diagonal and passes a wall: the cell beside it in the row that it leaves, or the one in the column.

@@ -46,8 +46,8 @@ fn is_wall_at(cells: &[u32; 100], n: usize) -> bool
     requires { ⌜ n < 100 ⌝ }
     ensures { λ r. ⌜ r ≡ wallAt (now (cells .entry)) n ⌝ }
 {
-    let value = cells[n];
-    integration_bits::is_impassable(value)
+    let word = cells[n];
+    integration_bits::is_impassable(word)
 }
 
 // Whether a line stops before cell n, which it enters from `previous`: n is a wall, or the move there is diagonal and passes one.
@@ -223,10 +223,10 @@ fn meet_wall(
 }
 
 // Whether sight leaves a cell as it is: its word has BLOCKED, GOAL or LOS, which one mask tells.
-fn is_left_alone(cost: u32) -> bool
-    ensures { λ r. ⌜ r ≡ ((isBlocked cost || isGoal cost) || isLos cost) ⌝ }
+fn is_left_alone(word: u32) -> bool
+    ensures { λ r. ⌜ r ≡ ((isBlocked word || isGoal word) || isLos word) ⌝ }
 {
-    cost & (INT_BITS_WAVE_BLOCKED | INT_BITS_GOAL | INT_BITS_LOS) != 0
+    word & (INT_BITS_WAVE_BLOCKED | INT_BITS_GOAL | INT_BITS_LOS) != 0
 }
 
 // Sight comes to cell n from its neighbour `from`: n is left as it is, or is a wall and met, or comes into sight and is queued for the next wave. Most
@@ -251,11 +251,11 @@ fn look_at(
 {
     let listed = counts.corners;
     let queued = counts.queued;
-    let cost = cells[n];
-    if is_left_alone(cost) {
+    let word = cells[n];
+    if is_left_alone(word) {
         return counts;
     }
-    if integration_bits::is_impassable(cost) {
+    if integration_bits::is_impassable(word) {
         let corners = meet_wall(
             cells,
             corners,

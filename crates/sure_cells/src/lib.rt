@@ -24,8 +24,8 @@ fn is_passed_over(cells: &[u32; 100], from: FieldCell, to: FieldCell) -> bool
     requires { ⌜ Inside from × Inside to ⌝ }
     ensures { λ r. ⌜ r ≡ isPassedOver (now (cells .entry)) (indexOf from) (indexOf to) ⌝ }
 {
-    let cost = cells[to.row * 10 + to.column];
-    if integration_bits::is_impassable(cost) {
+    let word = cells[to.row * 10 + to.column];
+    if integration_bits::is_impassable(word) {
         return true;
     }
     let in_row = cells[from.row * 10 + to.column];
@@ -180,11 +180,11 @@ fn is_sure(cells: &[u32; 100], least: &[u32; 100], greatest: &[u32; 100], index:
         → ((n : ℕ) → n < 100 → isPortal (getD (now (cells .entry)) n 0) ≡ isIn n window)
         → r ≡ isSure (now (cells .entry)) window (now (least .entry)) (now (greatest .entry)) index) ⌝ }
 {
-    let cost = cells[index];
-    if integration_bits::is_impassable(cost) {
+    let word = cells[index];
+    if integration_bits::is_impassable(word) {
         return false;
     }
-    if integration_bits::is_portal(cost) {
+    if integration_bits::is_portal(word) {
         return false;
     }
     let neighbours = permitted_from(cells, index);

@@ -10,13 +10,13 @@ use Rattle.flow_build.proofs.key_of.Statement.{statement}
 use Rattle.flow_build.proofs.key_of.Tie as tie
 
 -- what each test has left
-no-wall : (c : tie.Else1) → isImpassable (c .before .before .args .cost) ≡ false
+no-wall : (c : tie.Else1) → isImpassable (c .before .before .args .word) ≡ false
 no-wall c = sym (c .before .is-impassable .ensures) ∙ c .if1 .left
 
-no-goal : (c : tie.Else2) → isGoal (c .before .before .before .before .args .cost) ≡ false
+no-goal : (c : tie.Else2) → isGoal (c .before .before .before .before .args .word) ≡ false
 no-goal c = sym (c .before .is-goal .ensures) ∙ c .if2 .left
 
-no-portal : (c : tie.Else3) → isPortal (c .before .before .before .before .before .before .args .cost) ≡ false
+no-portal : (c : tie.Else3) → isPortal (c .before .before .before .before .before .before .args .word) ≡ false
 no-portal c = sym (c .before .is-portal .ensures) ∙ c .if3 .left
 
 is-impassable-requires : tie.Need-is-impassable-requires

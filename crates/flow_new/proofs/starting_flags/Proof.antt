@@ -18,14 +18,14 @@ no-goal-yet c = c .before .before
 abbrev no-portal-yet : tie.Else3 → tie.Else2
 no-portal-yet c = c .before .before
 
--- what each says of the value
-no-goal : (c : tie.Else1) → isGoal (start c .args .value) ≡ false
+-- what each says of the word
+no-goal : (c : tie.Else1) → isGoal (start c .args .word) ≡ false
 no-goal c = sym (c .before .is-goal .ensures) ∙ c .if1 .left
 
-no-portal : (c : tie.Else2) → isPortal (start (no-goal-yet c) .args .value) ≡ false
+no-portal : (c : tie.Else2) → isPortal (start (no-goal-yet c) .args .word) ≡ false
 no-portal c = sym (c .before .is-portal .ensures) ∙ c .if2 .left
 
-no-los : (c : tie.Else3) → isLos (start (no-goal-yet (no-portal-yet c)) .args .value) ≡ false
+no-los : (c : tie.Else3) → isLos (start (no-goal-yet (no-portal-yet c)) .args .word) ≡ false
 no-los c = sym (c .before .is-los .ensures) ∙ c .if3 .left
 
 returns : tie.Need-returns

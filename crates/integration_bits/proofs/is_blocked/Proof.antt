@@ -5,4 +5,4 @@ use Rattle.integration_bits.proofs.is_blocked.Statement.{statement}
 use Rattle.integration_bits.proofs.is_blocked.Tie as tie
 
 pub is-blocked-spec : {M : Type 1} → statement M
-is-blocked-spec = tie.close (tie.spec (λ c. mask-flag (c .args .cost) 18))
+is-blocked-spec = tie.close (tie.spec (λ c. mask-flag (c .args .word) 18))

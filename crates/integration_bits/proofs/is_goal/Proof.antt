@@ -5,4 +5,4 @@ use Rattle.integration_bits.proofs.is_goal.Statement.{statement}
 use Rattle.integration_bits.proofs.is_goal.Tie as tie
 
 pub is-goal-spec : {M : Type 1} → statement M
-is-goal-spec = tie.close (tie.spec (λ c. mask-flag (c .args .cost) 17))
+is-goal-spec = tie.close (tie.spec (λ c. mask-flag (c .args .word) 17))

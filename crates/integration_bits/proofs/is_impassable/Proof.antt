@@ -5,4 +5,4 @@ use Rattle.integration_bits.proofs.is_impassable.Statement.{statement}
 use Rattle.integration_bits.proofs.is_impassable.Tie as tie
 
 pub is-impassable-spec : {M : Type 1} → statement M
-is-impassable-spec = tie.close (tie.spec (λ c. mask-flag (c .args .cost) 25))
+is-impassable-spec = tie.close (tie.spec (λ c. mask-flag (c .args .word) 25))

@@ -5,4 +5,4 @@ use Rattle.integration_bits.proofs.is_los.Statement.{statement}
 use Rattle.integration_bits.proofs.is_los.Tie as tie
 
 pub is-los-spec : {M : Type 1} → statement M
-is-los-spec = tie.close (tie.spec (λ c. mask-flag (c .args .cost) 16))
+is-los-spec = tie.close (tie.spec (λ c. mask-flag (c .args .word) 16))

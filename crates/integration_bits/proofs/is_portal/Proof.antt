@@ -5,4 +5,4 @@ use Rattle.integration_bits.proofs.is_portal.Statement.{statement}
 use Rattle.integration_bits.proofs.is_portal.Tie as tie
 
 pub is-portal-spec : {M : Type 1} → statement M
-is-portal-spec = tie.close (tie.spec (λ c. mask-flag (c .args .cost) 19))
+is-portal-spec = tie.close (tie.spec (λ c. mask-flag (c .args .word) 19))

@@ -47,11 +47,11 @@ module _ (m : tie.After-permitted-from) where
       let portal : isPortal (getD cells (start .args .index) 0) ≡ false = sym (unflagged .before .is-portal .ensures) ∙ unflagged .if2 .left in
       sure-flagged cells window least greatest (start .args .index) (start .pre) portals neighbours (m .permitted-from .ensures .0) ∙ rw (wall, portal)
 
-mul-cost : tie.Need-mul-cost
-mul-cost c = search needs
+mul-word : tie.Need-mul-word
+mul-word c = search needs
 
-element-copy-out-cost : tie.Need-element-copy-out-cost
-element-copy-out-cost c = search needs
+element-copy-out-word : tie.Need-element-copy-out-word
+element-copy-out-word c = search needs
 
 is-impassable-requires : tie.Need-is-impassable-requires
 is-impassable-requires c κs = search needs
@@ -94,8 +94,8 @@ pub is-sure-spec : {M : Type 1} → statement M
 is-sure-spec =
     tie.close
     (tie.spec
-    mul-cost
-    element-copy-out-cost
+    mul-word
+    element-copy-out-word
     is-impassable-requires
     returns
     is-portal-requires
