@@ -79,10 +79,10 @@ module _ (costs : List ℕ) where
     unfolding next
     next-same = ap (λ (x : List ℕ). record { cells = x; changed = changedFrom 0 cells x }) (offers-same costs cells cells is js there back)
 
-    pub settles-same : {fuel waves : ℕ} {left : List ℕ} → Settles costs cells is fuel left waves → Settles costs cells js fuel left waves
-    settles-same {fuel} s = record {
+    pub settles-same : {falling waves : ℕ} {left : List ℕ} → Settles costs cells is falling left waves → Settles costs cells js falling left waves
+    settles-same {falling} s = record {
       within = s .within;
       settled = λ h.
-          let k = rests-by fuel (record { cells = cells; changed = js }) (record { cells = cells; changed = is }) (sym next-same) h in
-          s .settled k ∙ settle-by fuel (record { cells = cells; changed = is }) (record { cells = cells; changed = js }) refl next-same k h;
+          let k = rests-by falling (record { cells = cells; changed = js }) (record { cells = cells; changed = is }) (sym next-same) h in
+          s .settled k ∙ settle-by falling (record { cells = cells; changed = is }) (record { cells = cells; changed = js }) refl next-same k h;
     }

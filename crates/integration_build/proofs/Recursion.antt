@@ -47,10 +47,10 @@ unfolding isEmpty
 has-member l x (List·Memᴰ·head e) = refl
 has-member l x (List·Memᴰ·tail m) = refl
 
-pub settles-empty : (costs cells wave : List ℕ) (fuel count : ℕ) → count ≡ 0 → Settles costs cells (take count wave) fuel cells 0
+pub settles-empty : (costs cells wave : List ℕ) (falling count : ℕ) → count ≡ 0 → Settles costs cells (take count wave) falling cells 0
 unfolding next offeredBy
-settles-empty costs cells wave fuel count e =
-    rw e (record { within = omega arith; settled = λ h. let q = none-changed 0 cells in sym (settle-any costs fuel 0 _ h q ∙ settle-none costs _ q) })
+settles-empty costs cells wave falling count e =
+    rw e (record { within = omega arith; settled = λ h. let q = none-changed 0 cells in sym (settle-any costs falling 0 _ h q ∙ settle-none costs _ q) })
 
 module _ (costs cells wave : List ℕ) where
   pub settles-none : Settles costs cells wave 0 cells 0
@@ -59,20 +59,20 @@ module _ (costs cells wave : List ℕ) where
   -- a wave made: the cells that it left, and in the first places those that it changed
   module _ (new places : List ℕ) (some : ℕ) (full : length cells ≡ 100) (made : new ≡ offeredBy costs cells wave cells)
       (found : ChangedCells cells new places some) where
-    pub settles-still : (fuel : ℕ) → some ≡ 0 → Settles costs cells wave fuel new 0
+    pub settles-still : (falling : ℕ) → some ≡ 0 → Settles costs cells wave falling new 0
     unfolding next
-    settles-still fuel e =
+    settles-still falling e =
         let same : new ≡ cells = ext-getD 0 new cells (found .full ∙ sym full)
         (λ x h. elim (ℕ-discrete (getD new x 0) (getD cells x 0)) [ yes q ↦ q | no d ↦ absurd (omega (arith, found .listed x d .1)) ]) in
         let q : next costs (record { cells = cells; changed = wave }) .changed ≡ [] = ap (changedFrom 0 cells) (sym made ∙ same) ∙ none-changed 0 cells in
         record {
           within = omega arith;
-          settled = λ h. ap (λ (x : List ℕ). record { cells = x; waves = 0 }) same ∙ sym (settle-any costs fuel 0 _ h q ∙ settle-none costs _ q);
+          settled = λ h. ap (λ (x : List ℕ). record { cells = x; waves = 0 }) same ∙ sym (settle-any costs falling 0 _ h q ∙ settle-none costs _ q);
         }
 
-    pub settles-more : (fuel : ℕ) (left : List ℕ) (waves : ℕ) → (fuel ≡ 0 → ⊥) → (some ≡ 0 → ⊥)
-        → Settles costs new (take some places) (fuel - 1) left waves
-        → Settles costs cells wave fuel left (waves + 1)
+    pub settles-more : (falling : ℕ) (left : List ℕ) (waves : ℕ) → (falling ≡ 0 → ⊥) → (some ≡ 0 → ⊥)
+        → Settles costs new (take some places) (falling - 1) left waves
+        → Settles costs cells wave falling left (waves + 1)
     unfolding next
     settles-more zero left waves f e s = absurd (f refl)
     settles-more (suc n) left waves f e s =
@@ -89,12 +89,12 @@ module _ (costs cells wave : List ℕ) where
               ∙ sym (settle-more costs n _ h (has-member (changedFrom 0 cells after) (getD places 0 0) one));
         }
 
-module _ {costs cells wave : List ℕ} {fuel : ℕ} {left : List ℕ} where
-  pub settles-on : {counted : ℕ} → Settles costs cells wave fuel left 0 → SettlesFrom costs cells wave counted fuel left counted
+module _ {costs cells wave : List ℕ} {falling : ℕ} {left : List ℕ} where
+  pub settles-on : {counted : ℕ} → Settles costs cells wave falling left 0 → SettlesFrom costs cells wave counted falling left counted
   settles-on {counted} s = record { more = 0; counted-on = omega arith; settles = s }
 
-  pub settles-all : {waves : ℕ} → SettlesFrom costs cells wave 0 fuel left waves → Settles costs cells wave fuel left waves
-  settles-all {waves} s = let e : s .more ≡ waves = omega arith in subst (λ (n : ℕ). Settles costs cells wave fuel left n) e (s .settles)
+  pub settles-all : {waves : ℕ} → SettlesFrom costs cells wave 0 falling left waves → Settles costs cells wave falling left waves
+  settles-all {waves} s = let e : s .more ≡ waves = omega arith in subst (λ (n : ℕ). Settles costs cells wave falling left n) e (s .settles)
 
 -- a field, built, with these positions
 abbrev pub builtWith : List ℕ → IntegrationField → List ℕ → IntegrationField

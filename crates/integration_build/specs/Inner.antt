@@ -32,8 +32,8 @@ pub record OfferReady (before cells next : List ℕ) (found value : ℕ) : Type 
   pub changed : ChangedCells before cells next found
 
 -- what a wave is given: its cells, room for the next wave's, and a number of waves left that with those counted is at most 100
-pub record WaveReady (cells wavefront : List ℕ) (count : ℕ) (next : List ℕ) (waves fuel : ℕ) : Type 0 where
+pub record WaveReady (cells wavefront : List ℕ) (count : ℕ) (next : List ℕ) (waves falling : ℕ) : Type 0 where
   pub full : length cells ≡ 100
   pub wave-in : Indexes 100 wavefront count
   pub room : length next ≡ 100
-  pub at-most : waves + fuel ≤ 100
+  pub at-most : waves + falling ≤ 100

@@ -6,14 +6,14 @@ use Prim.Native.Nat.{ℕ, _+_, _≤_}
 use Rattle.integration_field.specs.Rest.{Rests}
 use Rattle.integration_field.specs.Build.{settle}
 
--- `fuel` waves or fewer; and where that many are enough, the cells and the count that the definition settles on
-pub record Settles (costs cells wave : List ℕ) (fuel : ℕ) (left : List ℕ) (waves : ℕ) : Type 0 where
-  pub within : waves ≤ fuel
-  pub settled : (h : Rests costs fuel (record { cells = cells; changed = wave }))
-      → record { cells = left; waves = waves } ≡ settle costs fuel (record { cells = cells; changed = wave }) h
+-- `falling` waves or fewer; and where that many are enough, the cells and the count that the definition settles on
+pub record Settles (costs cells wave : List ℕ) (falling : ℕ) (left : List ℕ) (waves : ℕ) : Type 0 where
+  pub within : waves ≤ falling
+  pub settled : (h : Rests costs falling (record { cells = cells; changed = wave }))
+      → record { cells = left; waves = waves } ≡ settle costs falling (record { cells = cells; changed = wave }) h
 
 -- the same, where `waves` goes on from those that were counted before
-pub record SettlesFrom (costs cells wave : List ℕ) (counted fuel : ℕ) (left : List ℕ) (waves : ℕ) : Type 0 where
+pub record SettlesFrom (costs cells wave : List ℕ) (counted falling : ℕ) (left : List ℕ) (waves : ℕ) : Type 0 where
   pub more : ℕ
   pub counted-on : waves ≡ counted + more
-  pub settles : Settles costs cells wave fuel left more
+  pub settles : Settles costs cells wave falling left more

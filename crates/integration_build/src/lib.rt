@@ -147,7 +147,7 @@ fn offer_wave(
     found
 }
 
-// The waves from a wavefront on, one a call, at most `fuel` of them; `waves` were counted before. The wavefront, the places for the cells that it changes
+// The waves from a wavefront on, one a call, at most `falling` of them; `waves` were counted before. The wavefront, the places for the cells that it changes
 // and those for the words from before it are lent from above, and the two wavefronts change places in the call for the next wave, which is the last
 // thing that a wave does. So a wave takes no memory of its own. Answers how many waves changed a cell, with those counted before.
 fn propagate_integrated_wavefront(
@@ -158,12 +158,12 @@ fn propagate_integrated_wavefront(
     count: usize,
     next: &mut [u8; 100],
     waves: usize,
-    fuel: usize,
+    falling: usize,
 ) -> usize
-    requires { ⌜ WaveReady (now cells) (now wavefront) count (now next) waves fuel ⌝ }
-    ensures { λ r. ⌜ SettlesFrom (now (costs .entry)) (now (cells .entry)) (take count (now (wavefront .entry))) waves fuel (now (cells .exit)) r ⌝ }
+    requires { ⌜ WaveReady (now cells) (now wavefront) count (now next) waves falling ⌝ }
+    ensures { λ r. ⌜ SettlesFrom (now (costs .entry)) (now (cells .entry)) (take count (now (wavefront .entry))) waves falling (now (cells .exit)) r ⌝ }
 {
-    if fuel == 0 {
+    if falling == 0 {
         return waves;
     }
     // No cell offers, so none changes: a field without corners.
@@ -183,7 +183,7 @@ fn propagate_integrated_wavefront(
         some,
         wavefront,
         waves + 1,
-        fuel - 1,
+        falling - 1,
     )
 }
 

@@ -1,4 +1,4 @@
--- `integration_build::propagate_integrated_wavefront` meets its contract. It calls itself with one less of `fuel`, which is its measure.
+-- `integration_build::propagate_integrated_wavefront` meets its contract. It calls itself with one less of `falling`, which is its measure.
 -- Assumes nothing.
 use mathlib.Core.Path.{refl}
 use Prim.Native.Nat.{ℕ, _+_, _-_, _<_, _≤_}
@@ -29,7 +29,7 @@ abbrev calls : ℕ → lts.Claims
 calls t = (offers.Asked, offers.Learnt, below t, go.Post)
 
 module _ (t : ℕ) where
-  -- where the wave's offers are made; where it was seen that there is fuel; the call
+  -- where the wave's offers are made; where it was seen that the falling number is not 0; the call
   abbrev Made : Type 0
   Made = lts.After-offer-wave (calls t) (at t) go.Post
 
@@ -39,14 +39,14 @@ module _ (t : ℕ) where
   abbrev offering : Made → lts.Else2 (calls t) (at t) go.Post
   offering m = lent m .before .before
 
-  abbrev fuelled : Made → lts.Else1 (calls t) (at t) go.Post
-  fuelled m = offering m .before
+  abbrev not-fallen : Made → lts.Else1 (calls t) (at t) go.Post
+  not-fallen m = offering m .before
 
   abbrev start : Made → lts.Start (calls t) (at t) go.Post
-  start m = fuelled m .before
+  start m = not-fallen m .before
 
-  some-fuel : (m : Made) → 0 < start m .args .fuel
-  some-fuel m = pos-of-ne-zero (fuelled m .if1 .left)
+  some-falling : (m : Made) → 0 < start m .args .falling
+  some-falling m = pos-of-ne-zero (not-fallen m .if1 .left)
 
   returns : lts.Need-returns (calls t) (at t) go.Post
   returns c = settles-on (rw (c .if1 .taken) (settles-none _ _ _))
@@ -69,8 +69,8 @@ module _ (t : ℕ) where
   add-waves : lts.Need-add-propagate-integrated-wavefront (calls t) (at t) go.Post
   add-waves c = let m = c .before .before .before .before .before in omega (arith, start m .pre .1 .at-most)
 
-  sub-fuel : lts.Need-sub-propagate-integrated-wavefront (calls t) (at t) go.Post
-  sub-fuel c = some-fuel (c .before .before .before .before .before)
+  sub-falling : lts.Need-sub-propagate-integrated-wavefront (calls t) (at t) go.Post
+  sub-falling c = some-falling (c .before .before .before .before .before)
 
   go-requires : lts.Need-propagate-integrated-wavefront-requires (calls t) (at t) go.Post
   go-requires c κs =
@@ -78,8 +78,8 @@ module _ (t : ℕ) where
       let p = start m .pre in
       let a = start m .args in
       let found = m .offer-wave .ensures .1 in
-      let less : a .fuel - 1 < t = omega (arith, p .0, some-fuel m) in
-      let sum : a .waves + 1 + (a .fuel - 1) ≤ 100 = omega (arith, p .1 .at-most, some-fuel m) in
+      let less : a .falling - 1 < t = omega (arith, p .0, some-falling m) in
+      let sum : a .waves + 1 + (a .falling - 1) ≤ 100 = omega (arith, p .1 .at-most, some-falling m) in
       (less, record { full = found .full; wave-in = found .indexes; room = p .1 .wave-in .full; at-most = sum })
 
   returns-4 : lts.Need-returns-4 (calls t) (at t) go.Post
@@ -92,10 +92,10 @@ module _ (t : ℕ) where
         more = rest .more + 1;
         counted-on = omega (arith, rest .counted-on);
         settles =
-            settles-more _ _ _ _ _ _ (start m .pre .1 .full) (made .0) (made .1) _ _ _ (fuelled m .if1 .left) (more .if3 .left) (rest .settles);
+            settles-more _ _ _ _ _ _ (start m .pre .1 .full) (made .0) (made .1) _ _ _ (not-fallen m .if1 .left) (more .if3 .left) (rest .settles);
       }
 
 pub +propagate-integrated-wavefront-spec : {M : Type 1} → statement M
 +propagate-integrated-wavefront-spec =
     close μ λ t. lts.spec (calls t) (at t) go.Post
-    (returns t) (returns-2 t) (offer-wave-requires t) (returns-3 t) (add-waves t) (sub-fuel t) (go-requires t) (returns-4 t)
+    (returns t) (returns-2 t) (offer-wave-requires t) (returns-3 t) (add-waves t) (sub-falling t) (go-requires t) (returns-4 t)
