@@ -84,9 +84,9 @@ impl FieldCell {
         if !dir.points() {
             return Stepped::Outside;
         }
-        let apart = dir.differences();
-        let column = self.column as i64 + apart.column;
-        let row = self.row as i64 + apart.row;
+        let added = dir.differences();
+        let column = self.column as i64 + added.column;
+        let row = self.row as i64 + added.row;
         if 0 <= column && column <= 9 && 0 <= row && row <= 9 {
             return Stepped::Cell(FieldCell {
                 column: column as usize,
@@ -103,8 +103,8 @@ pub fn index_beside(index: usize, dir: CompassDir) -> usize
     requires { ⌜ StaysInside index dir ⌝ }
     ensures { λ r. ⌜ ((n : FieldCell) → stepped (cellAt index) dir ≡ Cell n → (r ≡ indexOf n) × (r < 100)) ⌝ }
 {
-    let apart = dir.differences();
-    (index as i64 + apart.row * 10 + apart.column) as usize
+    let added = dir.differences();
+    (index as i64 + added.row * 10 + added.column) as usize
 }
 
 // A cell's index that is kept in a byte, as a number of an index's width.

@@ -115,9 +115,9 @@ fn led_from(byte: u8, place: Spot) -> Onward
     if !dir.points() {
         return Onward::Nowhere;
     }
-    let apart = dir.differences();
-    let column = place.column as i64 + apart.column;
-    let row = place.row as i64 + apart.row;
+    let added = dir.differences();
+    let column = place.column as i64 + added.column;
+    let row = place.row as i64 + added.row;
     if 0 <= column && column <= 79 && 0 <= row && row <= 79 {
         return Onward::To(Spot {
             column: column as usize,

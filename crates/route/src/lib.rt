@@ -59,8 +59,8 @@ fn wide(byte: u8) -> usize
 pub fn stride_of(boundary: CompassDir) -> usize
     ensures { λ r. ⌜ r ≡ stride boundary ⌝ }
 {
-    let apart = boundary.differences();
-    if apart.column == 0 { 1 } else { 10 }
+    let added = boundary.differences();
+    if added.column == 0 { 1 } else { 10 }
 }
 
 // How many cells a side's edge has; a direction that is no side has no edge.
@@ -75,8 +75,8 @@ fn edge_cell(boundary: CompassDir, place: usize) -> usize
     requires { ⌜ place < length (edge boundary) ⌝ }
     ensures { λ r. ⌜ r ≡ getD (edge boundary) place 0 ⌝ }
 {
-    let apart = boundary.differences();
-    let first = rises(apart.column) * 9 + rises(apart.row) * 90;
+    let added = boundary.differences();
+    let first = rises(added.column) * 9 + rises(added.row) * 90;
     first + place * stride_of(boundary)
 }
 
@@ -94,9 +94,9 @@ fn is_between(first: usize, last: usize, cell: usize) -> bool
 pub fn facing_cell(boundary: CompassDir, index: usize) -> usize
     ensures { λ r. ⌜ r ≡ facing boundary index ⌝ }
 {
-    let apart = boundary.differences();
-    let column = (index % 10 + 10) as i64 + apart.column;
-    let row = (index / 10 + 10) as i64 + apart.row;
+    let added = boundary.differences();
+    let column = (index % 10 + 10) as i64 + added.column;
+    let row = (index / 10 + 10) as i64 + added.row;
     row as usize % 10 * 10 + column as usize % 10
 }
 

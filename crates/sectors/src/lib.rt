@@ -19,9 +19,9 @@ pub fn get_in_compass_direction(sector: usize, dir: CompassDir) -> Across
     if !dir.points() {
         return Across::OffFloor;
     }
-    let apart = dir.differences();
-    let column = (sector % 8) as i64 + apart.column;
-    let row = (sector / 8) as i64 + apart.row;
+    let added = dir.differences();
+    let column = (sector % 8) as i64 + added.column;
+    let row = (sector / 8) as i64 + added.row;
     if 0 <= column && column <= 7 && 0 <= row && row <= 7 {
         return Across::Sector(row as usize * 8 + column as usize);
     }

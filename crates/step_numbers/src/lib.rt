@@ -17,11 +17,11 @@ fn on_edge(boundary: CompassDir, index: usize) -> bool
     if boundary.number() > 3 {
         return false;
     }
-    let apart = boundary.differences();
-    if apart.column == 0 {
-        return index / 10 == rises(apart.row) * 9;
+    let added = boundary.differences();
+    if added.column == 0 {
+        return index / 10 == rises(added.row) * 9;
     }
-    index % 10 == rises(apart.column) * 9
+    index % 10 == rises(added.column) * 9
 }
 
 // 6, 7 or 8 for a step with this window that is refused, else 0.

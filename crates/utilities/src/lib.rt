@@ -101,8 +101,8 @@ impl CompassDir {
     pub fn lower_side(self) -> CompassDir
         ensures { λ r. ⌜ r ≡ lowerSide self ⌝ }
     {
-        let apart = self.differences();
-        if apart.column == 0 {
+        let added = self.differences();
+        if added.column == 0 {
             return CompassDir::West;
         }
         CompassDir::North
