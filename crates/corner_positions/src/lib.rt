@@ -89,18 +89,18 @@ fn place_towards(
     queue: &mut [u8; 101],
     queued: usize,
     value: u32,
-    cell: usize,
+    from: usize,
     dir: CompassDir,
 ) -> usize
     requires { ⌜ (value ≤ 65536) × HasRoom (now entered) (now queue) queued ⌝ }
     ensures { λ r. ⌜ StepsTo (now (entered .entry)) (now (queue .entry)) queued (now (entered .exit)) (now (queue .exit)) r
-        (λ values p. placedTo values value p (stepped (cellAt cell) dir)) ⌝ }
+        (λ values p. placedTo values value p (stepped (cellAt from) dir)) ⌝ }
 {
-    let from = FieldCell::from_index(cell);
-    let Stepped::Cell(neighbour) = from.get_in_compass_direction(dir) else {
+    let here = FieldCell::from_index(from);
+    let Stepped::Cell(neighbour) = here.get_in_compass_direction(dir) else {
         return queued;
     };
-    let index = fields::index_beside(cell, dir);
+    let index = fields::index_beside(from, dir);
     place_at(entered, queue, queued, value, index)
 }
 
@@ -110,20 +110,20 @@ fn place_around(
     queue: &mut [u8; 101],
     queued: usize,
     value: u32,
-    cell: usize,
+    from: usize,
 ) -> usize
     requires { ⌜ (value ≤ 65536) × HasRoom (now entered) (now queue) queued ⌝ }
     ensures { λ r. ⌜ StepsTo (now (entered .entry)) (now (queue .entry)) queued (now (entered .exit)) (now (queue .exit)) r
-        (λ values p. placedAround values value p (cellAt cell) orthogonal) ⌝ }
+        (λ values p. placedAround values value p (cellAt from) orthogonal) ⌝ }
 {
     let north = CompassDir::North;
     let east = CompassDir::East;
     let south = CompassDir::South;
     let west = CompassDir::West;
-    let one = place_towards(entered, queue, queued, value, cell, north);
-    let two = place_towards(entered, queue, one, value, cell, east);
-    let three = place_towards(entered, queue, two, value, cell, south);
-    place_towards(entered, queue, three, value, cell, west)
+    let one = place_towards(entered, queue, queued, value, from, north);
+    let two = place_towards(entered, queue, one, value, from, east);
+    let three = place_towards(entered, queue, two, value, from, south);
+    place_towards(entered, queue, three, value, from, west)
 }
 
 // Spreads a corner's position: each queued cell, from place `gone` on, takes the position, and its neighbours that are placed from it are queued behind
@@ -149,10 +149,10 @@ fn spread(
     let mut count = queued;
     let mut i = gone;
     while i < count {
-        let cell = fields::index_of(queue[i]);
-        let value = integration_bits::low_bits(built[cell]);
-        positions[cell] = position;
-        count = place_around(entered, queue, count, value, cell);
+        let from = fields::index_of(queue[i]);
+        let value = integration_bits::low_bits(built[from]);
+        positions[from] = position;
+        count = place_around(entered, queue, count, value, from);
         i += 1;
     }
     count

@@ -82,18 +82,18 @@ fn offer_towards(
     next: &mut [u8; 100],
     found: usize,
     value: u32,
-    cell: usize,
+    from: usize,
     dir: CompassDir,
 ) -> usize
     requires { ⌜ OfferReady (now before) (now cells) (now next) found value ⌝ }
-    ensures offers { λ _. ⌜ now (cells .exit) ≡ offered (now (costs .entry)) value (stepped (cellAt cell) dir) (now (cells .entry)) ⌝ }
+    ensures offers { λ _. ⌜ now (cells .exit) ≡ offered (now (costs .entry)) value (stepped (cellAt from) dir) (now (cells .entry)) ⌝ }
     ensures changes { λ r. ⌜ ChangedCells (now (before .entry)) (now (cells .exit)) (now (next .exit)) r ⌝ }
 {
-    let from = FieldCell::from_index(cell);
-    let Stepped::Cell(neighbour) = from.get_in_compass_direction(dir) else {
+    let here = FieldCell::from_index(from);
+    let Stepped::Cell(neighbour) = here.get_in_compass_direction(dir) else {
         return found;
     };
-    let index = fields::index_beside(cell, dir);
+    let index = fields::index_beside(from, dir);
     let cost = wide(costs[index]);
     let sum = value + cost;
     relax(cells, before, next, found, index, sum)
@@ -107,20 +107,20 @@ fn offer_around(
     next: &mut [u8; 100],
     found: usize,
     value: u32,
-    cell: usize,
+    from: usize,
 ) -> usize
     requires { ⌜ OfferReady (now before) (now cells) (now next) found value ⌝ }
-    ensures offers { λ _. ⌜ now (cells .exit) ≡ offeredAround (now (costs .entry)) value (cellAt cell) orthogonal (now (cells .entry)) ⌝ }
+    ensures offers { λ _. ⌜ now (cells .exit) ≡ offeredAround (now (costs .entry)) value (cellAt from) orthogonal (now (cells .entry)) ⌝ }
     ensures changes { λ r. ⌜ ChangedCells (now (before .entry)) (now (cells .exit)) (now (next .exit)) r ⌝ }
 {
     let north = CompassDir::North;
     let east = CompassDir::East;
     let south = CompassDir::South;
     let west = CompassDir::West;
-    let one = offer_towards(cells, costs, before, next, found, value, cell, north);
-    let two = offer_towards(cells, costs, before, next, one, value, cell, east);
-    let three = offer_towards(cells, costs, before, next, two, value, cell, south);
-    offer_towards(cells, costs, before, next, three, value, cell, west)
+    let one = offer_towards(cells, costs, before, next, found, value, from, north);
+    let two = offer_towards(cells, costs, before, next, one, value, from, east);
+    let three = offer_towards(cells, costs, before, next, two, value, from, south);
+    offer_towards(cells, costs, before, next, three, value, from, west)
 }
 
 // One wave: each cell of the wavefront offers the value that the wave before left in it. The cells that change are listed. Answers how many they are.
@@ -139,9 +139,9 @@ fn offer_wave(
     let mut found = 0;
     let mut i = 0;
     while i < count {
-        let cell = fields::index_of(wave[i]);
-        let value = integration_bits::low_bits(before[cell]);
-        found = offer_around(cells, costs, before, next, found, value, cell);
+        let from = fields::index_of(wave[i]);
+        let value = integration_bits::low_bits(before[from]);
+        found = offer_around(cells, costs, before, next, found, value, from);
         i += 1;
     }
     found

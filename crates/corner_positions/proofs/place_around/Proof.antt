@@ -13,7 +13,7 @@ use Rattle.corner_positions.proofs.place_around.Tie as tie
 
 -- one direction, with the call's arguments
 abbrev go : tie.Start → CompassDir → List ℕ → ℕ → Placing → Placing
-go s d values p = placedTo values (s .args .value) p (stepped (cellAt (s .args .cell)) d)
+go s d values p = placedTo values (s .args .value) p (stepped (cellAt (s .args .from)) d)
 
 -- the places behind the calls
 abbrev start : tie.After-place-towards → tie.Start

@@ -26,7 +26,7 @@ start c = step c .before .before
 abbrev neighbour : tie.After-known-told → FieldCell
 neighbour c = c .before .neighbour .given .0 .0
 
-arrives : (c : tie.After-known-told) → stepped (cellAt (start c .args .cell)) (start c .args .dir) ≡ Cell (neighbour c)
+arrives : (c : tie.After-known-told) → stepped (cellAt (start c .args .from)) (start c .args .dir) ≡ Cell (neighbour c)
 arrives c =
     let taken = step c in
     step-told _ _ (taken .before .from-index .ensures) (taken .get-in-compass-direction .ensures .0) (c .before .neighbour .given .1)
@@ -46,7 +46,7 @@ returns-2 c values p s small m =
 
 pub place-towards-spec : {M : Type 1} → statement M
 place-towards-spec = tie.close (tie.spec
-    (λ c κs. search needs) (λ c κs. near-made (c .from-index .ensures) (c .before .fits .cell)) (λ c. search needs) (λ c. search needs)
+    (λ c κs. search needs) (λ c κs. near-made (c .from-index .ensures) (c .before .fits .from)) (λ c. search needs) (λ c. search needs)
     returns
     (λ c κs. (neighbour c, arrives c))
     place-at-requires returns-2)

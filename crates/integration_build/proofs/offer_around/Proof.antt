@@ -49,7 +49,7 @@ returns c =
     let e = east s in
     let n = north e in
     let a = start n .args in
-    let go : CompassDir → List ℕ → List ℕ = λ d x. offered (now (a .costs)) (a .value) (stepped (cellAt (a .cell)) d) x in (
+    let go : CompassDir → List ℕ → List ℕ = λ d x. offered (now (a .costs)) (a .value) (stepped (cellAt (a .from)) d) x in (
       c .offer-towards4 .ensures .0
           ∙ ap (go West) (s .offer-towards3 .ensures .0 ∙ ap (go South) (e .offer-towards2 .ensures .0 ∙ ap (go East) (n .offer-towards .ensures .0))),
       c .offer-towards4 .ensures .1,
