@@ -21,8 +21,8 @@ pub struct Differences {
     pub row: i64,
 }
 
-// The two differences as a record.
-fn apart(column: i64, row: i64) -> Differences
+// The pair of differences of a direction.
+fn pair(column: i64, row: i64) -> Differences
     ensures { λ r. ⌜ r ≡ record { column = column; row = row } ⌝ }
 {
     Differences { column, row }
@@ -44,15 +44,15 @@ impl CompassDir {
         ensures { λ r. ⌜ r ≡ differences self ⌝ }
     {
         match self {
-            CompassDir::North => apart(0, -1),
-            CompassDir::East => apart(1, 0),
-            CompassDir::South => apart(0, 1),
-            CompassDir::West => apart(-1, 0),
-            CompassDir::NorthEast => apart(1, -1),
-            CompassDir::SouthEast => apart(1, 1),
-            CompassDir::SouthWest => apart(-1, 1),
-            CompassDir::NorthWest => apart(-1, -1),
-            CompassDir::Zero => apart(0, 0),
+            CompassDir::North => pair(0, -1),
+            CompassDir::East => pair(1, 0),
+            CompassDir::South => pair(0, 1),
+            CompassDir::West => pair(-1, 0),
+            CompassDir::NorthEast => pair(1, -1),
+            CompassDir::SouthEast => pair(1, 1),
+            CompassDir::SouthWest => pair(-1, 1),
+            CompassDir::NorthWest => pair(-1, -1),
+            CompassDir::Zero => pair(0, 0),
         }
     }
 
