@@ -16,7 +16,8 @@ abbrev pub movesOf : {bytes : List ℕ} {x : ℕ} → Arrival bytes x → ℕ
 movesOf (arrives-after n first) = n
 movesOf (arrives-never none) = 255
 
--- the same from a cell: which of the two it is, is decided (`Decided`), and the number does not depend on how (`moves-any`, `proofs/Told.antt`)
+-- the number of moves from a cell: whether its arrows arrive is decided (`Decided`), and the number does not depend on how (`moves-any`,
+-- `proofs/Told.antt`)
 unfoldable pub movesFrom : List ℕ → ℕ → ℕ
 movesFrom bytes x = movesOf (arrival bytes x)
 

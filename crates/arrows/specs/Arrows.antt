@@ -17,11 +17,11 @@ use Rattle.flow_bits.specs.Byte.{isImpassable}
 abbrev pub builtCost : List ℕ → ℕ → ℕ
 builtCost built x = low (getD built x 0)
 
--- A reached cell is one whose built low 16 bits are below 65535.
+-- A reached cell (01) is one whose built low 16 bits are below 65535.
 abbrev pub Reached : List ℕ → ℕ → Type 0
 Reached built x = builtCost built x < 65535
 
--- An arrow is the low half of a flow byte.
+-- An arrow (01) is the low half of a flow byte.
 abbrev pub arrow : List ℕ → ℕ → ℕ
 arrow bytes x = getD bytes x 0 % 16
 
@@ -38,7 +38,7 @@ southward a = a / 4 % 2
 abbrev pub westward : ℕ → ℕ
 westward a = a / 8 % 2
 
--- A move goes to the neighbour it points at: a row up for N, a column right for E, a row down for S, a column left for W. An arrow points to
+-- A move (01) goes to the neighbour it points at: a row up for N, a column right for E, a row down for S, a column left for W. An arrow points to
 -- some side, and never to two that are opposite.
 pub record Away (a x y : ℕ) : Type 0 where
   pub rows : y / 10 + northward a ≡ x / 10 + southward a
@@ -48,7 +48,7 @@ pub record Away (a x y : ℕ) : Type 0 where
   pub not-east-west : eastward a + westward a ≤ 1
 
 module _ (costs : List ℕ) (target : Target) where
-  -- A move from a to b cuts between two walls when it is diagonal and both cells beside it, one in the row of the cell it leaves and one
+  -- A move from a to b cuts between two walls (01) when it is diagonal and both cells beside it, one in the row of the cell it leaves and one
   -- in its column, are walls.
   pub record Cuts (a b : ℕ) : Type 0 where
     pub other-row : a / 10 ≡ b / 10 → ⊥

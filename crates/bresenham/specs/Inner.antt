@@ -9,12 +9,12 @@ use Rattle.utilities.specs.Padded.{padded}
 use Rattle.fields.specs.declared.FieldCell.{FieldCell}
 use Rattle.fields.specs.Cell.{indexOf}
 
--- a walk's cells as they are, or from the last
+-- a walk's cells in order, or backwards
 abbrev pub listed : {A : Type 0} → Bool → List A → List A
 listed true l = reverse l
 listed false l = l
 
--- where step k of m then stands
+-- where step k of a walk of m steps stands in that list
 abbrev pub placeOf : Bool → ℕ → ℕ → ℕ
 placeOf true m k = m - k
 placeOf false m k = k
@@ -23,7 +23,7 @@ placeOf false m k = k
 abbrev pub blank : List ℕ
 blank = replicate 10 0
 
--- and after: the indexes of these cells, of which there are so many; the places beyond hold 0
+-- lent places after a line is drawn: the indexes of these cells, of which there are so many; the places beyond hold 0
 pub record DrawnIn (l : List FieldCell) (drawn : List ℕ) (count : ℕ) : Type 0 where
   pub indexes : drawn ≡ padded 10 0 (map indexOf l)
   pub many : count ≡ length l

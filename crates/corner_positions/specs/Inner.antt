@@ -22,7 +22,8 @@ use Rattle.integration_field.specs.Promise.{WalkFrom}
 
 -- ---- moves that keep the built costs exact
 
--- the value from which a move into a cell of this cost arrives at its built cost; 65536, which no cell holds, where building left it as it was
+-- the value that a neighbour has if a move from it into a cell of this cost comes to the cell's built cost; 65536, which no cell holds, where building
+-- left the cell as it was
 unfoldable pub enteredFrom : ℕ → ℕ → ℕ → ℕ
 enteredFrom cost before built = cond (eqb built before) 65536 (built - cost)
 
@@ -67,12 +68,12 @@ placedAt entered value p x s =
     let b = isTaken (getD (s .places) x 0) (getD entered x 0) value in
     placing (cond b (set (s .places) x p) (s .places)) (set (s .queue) (s .queued) x) (cond b (suc (s .queued)) (s .queued))
 
--- the same where a step arrives
+-- the cell where a step arrives takes a position, if there is such a cell
 abbrev pub placedTo : List ℕ → ℕ → ℕ → Stepped → Placing → Placing
 placedTo entered value p (Cell c) s = placedAt entered value p (indexOf c) s
 placedTo entered value p Outside s = s
 
--- the same from a cell in each of these directions
+-- the neighbours of a cell take a position, in each of these directions in turn
 unfoldable pub placedAround : List ℕ → ℕ → ℕ → FieldCell → List CompassDir → Placing → Placing
 placedAround entered value p c [] s = s
 placedAround entered value p c (d ∷ ds) s = placedAround entered value p c ds (placedTo entered value p (stepped c d) s)
@@ -153,7 +154,7 @@ module _ (costs before corners built entered : List ℕ) where
     pub spread : Spread i (s .queued) s
     pub sources : Sources i (s .places)
 
-  -- the same, and s is what the code's arrays hold
+  -- the positions before i have spread, and s is what the code's arrays hold
   pub record GoneOn (i : ℕ) (entries : List ℕ) (s : Placing) : Type 0 where
     pub stands : StandsFor entered entries (s .queue) (s .queued) s
     pub gone : Gone i s

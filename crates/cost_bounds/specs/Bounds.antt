@@ -86,7 +86,7 @@ isSure cells window least greatest i =
     && (someOf (λ n. isIn n window) neighbours
     || someOf (λ n. ltb (getD greatest n 0) 65535 && isBelowOthers least greatest neighbours n) neighbours)
 
--- every cell so; which neighbours are permitted is read off the low floor's field, and every floor between has the same
+-- which cells are sure; which neighbours are permitted is read off the low floor's field, and every floor between has the same
 abbrev pub sureOn : List ℕ → List ℕ → Target → List Bool
 sureOn low high target = map (isSure (builtCells low target) (windowOf target) (costsOn low target) (costsOn high target)) (below 100)
 

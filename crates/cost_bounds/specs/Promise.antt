@@ -52,8 +52,8 @@ pub record PermittedNeighbour (cells : List ℕ) (x n : ℕ) : Type 0 where
   pub arrives : stepped (cellAt x) way ≡ Cell (cellAt n)
   pub not-passed : PassesOver cells x way → ⊥
 
--- The same by rows and columns, and by nothing of a look (02, "Job 9", and "Job 7" for the diagonals that are barred): a cell of the sector that an
--- arrow can point at, that is no wall, and to which no wall is passed diagonally.
+-- A permitted neighbour by rows and columns, and by nothing of a look (02, "Job 9", and "Job 7" for the diagonals that are barred): a cell of the sector
+-- that an arrow can point at, that is no wall, and to which no wall is passed diagonally.
 pub record PermittedPlace (costs : List ℕ) (target : Target) (x n : ℕ) : Type 0 where
   pub way : ℕ
   pub way-in : way < 16

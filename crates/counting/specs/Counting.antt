@@ -37,8 +37,8 @@ isClosed (to-window []) = true
 isClosed (to-window (i ∷ l)) = false
 isClosed (to-corner n) = false
 
--- The same cells of a step that is not refused, by its bytes, rows and columns, and by nothing that makes the list or the values compared; that
--- they are the same is `counting-told`, `proofs/Told.antt`.
+-- The cells that count, of a step that is not refused, by its bytes, rows and columns, and by nothing that makes the list or the values compared; that
+-- they are those listed is `counting-told`, `proofs/Told.antt`.
 
 -- cell z of the sector across a boundary lies straight across from cell y of the edge: over the North boundary row 9 and the same column, over
 -- the East one column 0 and the same row, over the South one row 0, over the West one column 9

@@ -17,6 +17,6 @@ pub record Beside (a b : FieldCell) : Type 0 where
   pub other-in : Inside b
   pub one-apart : ((a .column ≡ b .column) × ByOne (a .row) (b .row)) ⊎ ((a .row ≡ b .row) × ByOne (a .column) (b .column))
 
--- the same of two indexes
+-- the cells at two indexes are beside each other
 abbrev pub BesideAt : ℕ → ℕ → Type 0
 BesideAt i j = Beside (cellAt i) (cellAt j)

@@ -8,7 +8,7 @@ use lib.ListN.{length}
 use Rattle.route.specs.Table.{row, firstNumber}
 use Rattle.flow_byte.specs.Look.{flowBuild}
 
--- 2
+-- its number: 2 for a sheet that is not 100 bytes, else 0
 unfoldable pub buildNumber : List ℕ → ℕ
 buildNumber sheet = firstNumber (row 2 (not (eqb (length sheet) 100)) ∷ [])
 

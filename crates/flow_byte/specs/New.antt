@@ -71,6 +71,6 @@ newByte portal window x has previous i = bitOr (startOf x) (cond (isIn i window)
 unfoldable pub newBytes : PortalWindow → List ℕ → List ℕ → Bool → List ℕ → List ℕ
 newBytes portal window cells has previous = map (λ i. newByte portal window (getD cells i 0) has previous i) (below 100)
 
--- the same for a step
+-- the 100 bytes of a new flow field for a step: `FlowField::new` of 01
 abbrev pub flowNew : List ℕ → List ℕ → Bool → List ℕ → List ℕ
 flowNew step cells has previous = newBytes (portalOf step) (windowOf (targetOf step)) cells has previous

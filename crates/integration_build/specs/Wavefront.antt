@@ -6,13 +6,13 @@ use Prim.Native.Nat.{ℕ, _+_, _≤_}
 use Rattle.integration_field.specs.Rest.{Rests}
 use Rattle.integration_field.specs.Build.{settle}
 
--- `falling` waves or fewer; and where that many are enough, the cells and the count that the definition settles on
+-- at most `falling` waves; and where that many are enough, the cells and the count that the definition settles on
 pub record Settles (costs cells wave : List ℕ) (falling : ℕ) (left : List ℕ) (waves : ℕ) : Type 0 where
   pub within : waves ≤ falling
   pub settled : (h : Rests costs falling (record { cells = cells; changed = wave }))
       → record { cells = left; waves = waves } ≡ settle costs falling (record { cells = cells; changed = wave }) h
 
--- the same, where `waves` goes on from those that were counted before
+-- what the definition settles on, where the count goes on from the waves that were counted before
 pub record SettlesFrom (costs cells wave : List ℕ) (counted falling : ℕ) (left : List ℕ) (waves : ℕ) : Type 0 where
   pub more : ℕ
   pub counted-on : waves ≡ counted + more

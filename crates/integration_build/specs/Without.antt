@@ -1,4 +1,4 @@
--- Built, without positions: for who answers no field (02, "Job 10": costs, waves and arrows are untouched by positions).
+-- Built, without positions: for callers that answer no field (02, "Job 10": costs, waves and arrows are untouched by positions).
 -- Assumes nothing.
 use mathlib.Core.List.{List}
 use Prim.Native.Nat.{ℕ}

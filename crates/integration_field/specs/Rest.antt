@@ -28,7 +28,7 @@ unfoldable pub total : List ℕ → ℕ
 total [] = 0
 total (w ∷ ws) = low w + total ws
 
--- the same cells, or a lower total
+-- either no cell has changed, or the total is lower
 abbrev Lowered : List ℕ → List ℕ → Type 0
 Lowered a b = (b ≡ a) ⊎ (total b < total a)
 

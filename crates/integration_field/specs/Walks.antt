@@ -25,6 +25,6 @@ module _ (costs cells corners : List ℕ) where
     pub not-in-sight : isLos (getD cells x 0) ≡ false
     pub below : s < low (getD cells x 0)
 
-  -- a permitted walk of a field given by hand: of so many moves, into a cell, and the sum that it comes to
+  -- a permitted walk (01, "Integration: build") of a field given by hand: of so many moves, into a cell, and the sum that it comes to
   abbrev pub Permitted : ℕ → ℕ → ℕ → Type 0
   Permitted = Walk grid MayEnter

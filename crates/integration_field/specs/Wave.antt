@@ -28,7 +28,7 @@ abbrev pub offered : List ℕ → ℕ → Stepped → List ℕ → List ℕ
 offered costs v (Cell c) cells = relaxed (v + getD costs (indexOf c) 0) (indexOf c) cells
 offered costs v Outside cells = cells
 
--- the same from a cell in each of these directions
+-- the cells after v is offered from a cell in each of these directions in turn
 unfoldable pub offeredAround : List ℕ → ℕ → FieldCell → List CompassDir → List ℕ → List ℕ
 offeredAround costs v c [] cells = cells
 offeredAround costs v c (d ∷ ds) cells = offeredAround costs v c ds (offered costs v (stepped c d) cells)

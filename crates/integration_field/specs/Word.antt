@@ -9,7 +9,7 @@ use lib.Dec.{eqb}
 abbrev pub flag : ℕ → ℕ → Bool
 flag k x = eqb (x / 2 ^ k % 2) 1
 
--- a cell's value: its low 16 bits
+-- a cell's value (01, "Integration: build"): its low 16 bits
 abbrev pub low : ℕ → ℕ
 low x = x % 2 ^ 16
 

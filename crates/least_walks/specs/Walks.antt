@@ -11,13 +11,13 @@ use Rattle.waves.specs.Walks.{Walk}
 use Rattle.integration_field.specs.Word.{low, isLos}
 use Rattle.integration_field.specs.Walks.{grid}
 
--- a wall is a cell of cost 255 that is neither goal nor window cell
+-- A wall (01, "Integration: build") is a cell of cost 255 that is neither goal nor window cell.
 pub record Wall (costs : List ℕ) (target : Target) (x : ℕ) : Type 0 where
   pub impassable : getD costs x 0 ≡ 255
   pub not-goal : GoalCell target x → ⊥
   pub not-window : WindowCell target x → ⊥
 
--- in sight is a cell that `init` leaves with LOS
+-- In sight (01, "Integration: build") is a cell that `init` leaves with LOS.
 abbrev pub InSight : List ℕ → ℕ → Type 0
 InSight cells x = isLos (getD cells x 0) ≡ true
 
@@ -30,7 +30,7 @@ module _ (costs cells corners : List ℕ) (Impassable Goal : ℕ → Type 0) whe
     pub not-in-sight : InSight cells x → ⊥
     pub no-goal : Goal x → ⊥
 
-  -- A walk begins in a listed corner, at the value that `init` gave it. Each move goes to an orthogonal neighbour inside the sector that is
+  -- A permitted walk (01) begins in a listed corner, at the value that `init` gave it. Each move goes to an orthogonal neighbour inside the sector that is
   -- neither wall, in sight nor goal, and adds that cell's cost. It may have no move, and may enter a cell again.
   abbrev pub StartedWalk : ℕ → ℕ → ℕ → Type 0
   StartedWalk = Walk (grid costs cells corners) (λ x s. Enterable x)

@@ -23,7 +23,7 @@ fieldRows floor steps place =
     ∷ row 21 (leb (length (stepsOf steps)) place)
     ∷ (eachRows floor (stepsOf steps) ++ (row 9 (outOfOrder (stepsOf steps)) ∷ row 10 (apart (stepsOf steps)) ∷ []))
 
--- and 15 after 10: a window of the leg, of any of its steps, with no counting cell
+-- the call's number: that of the first of these lines, and 15 after 10, where a window of any step of the leg has no counting cell
 unfoldable pub fieldNumberBy : Bool → List ℕ → List ℕ → ℕ → ℕ
 fieldNumberBy sight floor steps place = firstNumber (fieldRows floor steps place ++ (row 15 (someClosed sight floor (stepsOf steps)) ∷ []))
 

@@ -59,7 +59,7 @@ abbrev pub apartFrom : List ℕ → List (List ℕ) → Bool
 apartFrom before [] = false
 apartFrom before (s ∷ ss) = not (isSector (sectorOf before) (across (sectorOf s) (boundaryOf s))) || apartFrom s ss
 
--- 10: so for a later step of the list
+-- 10: of some later step, the sector across its boundary is not that of the step before, or is off the floor
 abbrev pub apart : List (List ℕ) → Bool
 apart [] = false
 apart (s ∷ ss) = apartFrom s ss
@@ -70,7 +70,7 @@ apart (s ∷ ss) = apartFrom s ss
 abbrev pub stepField : Bool → List ℕ → Bool → List ℕ → List ℕ → List ℕ
 stepField sight floor has previous step = sectorField (part floor (sectorOf step)) (legTarget sight has previous step) .field
 
--- the bytes of its sector
+-- the flow bytes of a step's sector
 abbrev pub stepBytes : Bool → List ℕ → Bool → List ℕ → List ℕ → List ℕ
 stepBytes sight floor has previous step = sectorBytes (part floor (sectorOf step)) (legTarget sight has previous step) (portalOf step) has previous
 
@@ -80,7 +80,7 @@ closedFrom sight floor [] has previous = false
 closedFrom sight floor (s ∷ ss) has previous =
     isClosed (legTarget sight has previous s) || closedFrom sight floor ss true (stepField sight floor has previous s)
 
--- the first step has no previous field
+-- 15 of a whole leg: its first step has no previous field
 unfoldable pub someClosed : Bool → List ℕ → List (List ℕ) → Bool
 someClosed sight floor steps = closedFrom sight floor steps false []
 
@@ -94,7 +94,7 @@ judgedRows floor steps sheet =
     ∷ row 3 (noStepList steps)
     ∷ (eachRows floor (stepsOf steps) ++ (row 9 (outOfOrder (stepsOf steps)) ∷ row 10 (apart (stepsOf steps)) ∷ []))
 
--- and 15 after 10
+-- the leg's number: that of the first of these lines, and 15 after 10
 unfoldable pub legNumberBy : Bool → List ℕ → List ℕ → List ℕ → ℕ
 legNumberBy sight floor steps sheet = firstNumber (judgedRows floor steps sheet ++ (row 15 (someClosed sight floor (stepsOf steps)) ∷ []))
 

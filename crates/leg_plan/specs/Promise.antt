@@ -17,6 +17,8 @@ use Rattle.sector.specs.Promise.{Planned}
 use Rattle.counting.specs.Counting.{legTarget, CountingCell}
 use Rattle.leg_plan.specs.Leg.{part, names}
 
+-- ---- step k of a leg
+
 -- the sector that it names
 abbrev pub sectorAt : List (List ℕ) → ℕ → ℕ
 sectorAt steps k = sectorOf (stepOf steps k)

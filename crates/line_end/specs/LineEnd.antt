@@ -9,11 +9,11 @@ use Rattle.nearest_line.specs.Line.{apart, nearest}
 use Rattle.line_end.specs.declared.LineEnd.{LineEnd}
 
 -- ---- away from the goal
--- the edge away from the goal, of a column or row: 9 where it lies beyond the goal's, else 0
+-- the edge column or row away from the goal: 9 where the corner lies beyond the goal's, else 0
 abbrev pub edge : Bool → ℕ
 edge beyond = cond beyond 9 0
 
--- how many columns or rows are behind one, up to 9 or down to 0, and the one that is d behind it
+-- how many columns or rows lie between one and that edge, and the one that lies d further on from it
 abbrev pub after : Bool → ℕ → ℕ
 after beyond x = cond beyond (9 - x) x
 
@@ -23,18 +23,19 @@ further beyond x d = cond beyond (x + d) (x - d)
 -- ---- the ray
 -- The ray from goal through corner passes `rise` rows in `span` columns, so that in the k-th column from the goal's it lies k * rise / span rows
 -- from the goal's row. The nearest whole row is `nearest` of the line walk, which gives an exact half to the row nearer the goal's.
--- It leaves 0 to 9 where it is further off than the rows that are behind the goal's.
+-- It leaves 0 to 9 where it is further off than the rows that are left from the goal's to the edge.
 abbrev pub leaves : ℕ → ℕ → ℕ → ℕ → Bool
 leaves rise span behind k = ltb behind (nearest rise span k)
 
 -- The first column that ends the line, of those tried from the j-th on; the last ends it in any case.
--- `after` counts those behind it, and the last argument is its test. (`Slanted` of `Away` says it without them.)
+-- `after` counts those that are left, and the last argument is its test. (`Slanted` of `Away` says it without them.)
 unfoldable pub firstEnding : (ℕ → Bool) → ℕ → ℕ → Bool → ℕ
 firstEnding ends zero j test = j
 firstEnding ends (suc after) j true = j
 firstEnding ends (suc after) j false = firstEnding ends after (suc j) (ends (suc j))
 
--- the same of the columns from the corner's own, the 0th and `span` from the goal's, whose rows leave 0 to 9; `columns` are behind it
+-- the first column whose row leaves 0 to 9, or else the edge column, counted from the corner's own; that one is `span` from the goal's, and `columns` are
+-- left from it to the edge
 abbrev pub firstLeaving : ℕ → ℕ → ℕ → ℕ → ℕ
 firstLeaving rise span behind columns =
     let ends : ℕ → Bool = λ j. leaves rise span behind (span + j) in

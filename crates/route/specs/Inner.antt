@@ -22,7 +22,7 @@ listedTarget (to-goal n) = record { «has_window» = false; sight = true; goal =
 listedTarget (to-window cells) = record { «has_window» = true; sight = true; goal = 0; window = listed cells }
 listedTarget (to-corner n) = record { «has_window» = false; sight = false; goal = n; window = listed [] }
 
--- the same without sight: of a window nothing changes
+-- a target in the program without sight: of a window nothing changes; and with sight or without
 abbrev pub unsighted : program.Target → program.Target
 unsighted t = record { «has_window» = t .«has_window»; sight = t .«has_window»; goal = t .goal; window = t .window }
 
@@ -30,7 +30,7 @@ abbrev pub sightedBy : Bool → program.Target → program.Target
 sightedBy true t = t
 sightedBy false t = unsighted t
 
--- and what it stands for
+-- what window cells and a target in the program stand for
 abbrev pub heldCells : WindowCells → List ℕ
 heldCells w = take (w .count) (w .cells)
 
@@ -43,7 +43,7 @@ isWallTarget costs (to-goal n) = isWallCost costs n
 isWallTarget costs (to-window cells) = someWallCost costs cells
 isWallTarget costs (to-corner n) = isWallCost costs n
 
--- it stands for a target inside the sector
+-- window cells, and a target, in the program that stand for those of a target inside the sector
 pub record WindowHeld (w : WindowCells) : Type 0 where
   pub full : length (w .cells) ≡ 10
   pub count-in : w .count ≤ 10

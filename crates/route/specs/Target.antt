@@ -51,7 +51,7 @@ isSightless (to-goal n) = false
 isSightless (to-window cells) = true
 isSightless (to-corner n) = true
 
--- the same target without sight: a goal is listed as the one corner, a window stays
+-- a target without sight: a goal is listed as the one corner, a window stays
 abbrev pub withoutSight : Target → Target
 withoutSight (to-goal n) = to-corner n
 withoutSight (to-window cells) = to-window cells
@@ -78,8 +78,8 @@ TargetIn (to-corner n) = n < 100
 unfoldable pub targetOf : List ℕ → Target
 targetOf step = cond (isWindow step) (to-window (windowCells step)) (to-goal (goalOf step))
 
--- The same cells of a step that is not refused, by its bytes, rows and columns, and by nothing that makes the list (01, "A leg"); that they are
--- the same is `goal-told` and `window-told`, `proofs/Targets.antt`.
+-- The goal and the window cells of a step that is not refused, by its bytes, rows and columns, and by nothing that makes the list (01, "A leg"); that
+-- they are those of its target is `goal-told` and `window-told`, `proofs/Targets.antt`.
 pub record StepGoal (step : List ℕ) (x : ℕ) : Type 0 where
   pub mark : markOf step ≡ 0
   pub is : x ≡ goalOf step

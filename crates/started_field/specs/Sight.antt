@@ -19,7 +19,7 @@ use Rattle.integration_field.specs.Diagonal.{wallAt, passesWall}
 abbrev pub wallOr : ℕ → ℕ
 wallOr cost = cond (eqb cost 255) 0x200FFFF 65535
 
--- every cell so
+-- what every cell starts at, by its cost
 unfoldable pub walls : List ℕ → List ℕ
 walls costs = map wallOr costs
 

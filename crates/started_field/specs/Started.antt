@@ -32,7 +32,7 @@ startedAt costs window = withCorners (withPortals window (walls costs)) window
 unfoldable pub startedWithout : List ℕ → ℕ → IntegrationField
 startedWithout costs goal = withCorners (withGoal goal (walls costs)) (goal ∷ [])
 
--- the started field of costs and a target
+-- the started field (01, "Integration: build") of costs and a target
 unfoldable pub started : List ℕ → Target → IntegrationField
 started costs (to-goal goal) = startedFrom costs goal
 started costs (to-window window) = startedAt costs window

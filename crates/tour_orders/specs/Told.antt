@@ -1,4 +1,5 @@
--- The same orders, told apart from how they are made (02, Job 14): each window number once, 0 first; strictly in dictionary order, none left out.
+-- The orders of a tour's windows (02, Job 14), told apart from how they are made: each window number once, 0 first; strictly in dictionary order, none
+-- left out.
 -- Assumes nothing.
 use mathlib.Core.Path.{_≡_}
 use mathlib.Core.Bool.{cond}

@@ -21,7 +21,7 @@ abbrev pub sumFrom : List (List ℕ) → ℕ → List ℕ → ℕ
 sumFrom square a [] = 0
 sumFrom square a (b ∷ l) = moveCost square a b + sumFrom square b l
 
--- its sum: no way back
+-- an order's sum: no way back
 abbrev pub tourSum : List (List ℕ) → List ℕ → ℕ
 tourSum square [] = 0
 tourSum square (a ∷ l) = sumFrom square a l
@@ -31,7 +31,7 @@ abbrev pub countsFrom : List (List ℕ) → ℕ → List ℕ → Bool
 countsFrom square a [] = true
 countsFrom square a (b ∷ l) = not (eqb (moveCost square a b) 65535) && countsFrom square b l
 
--- none of its moves does
+-- an order counts (02, Job 14): none of its moves costs 65535
 abbrev pub tourCounts : List (List ℕ) → List ℕ → Bool
 tourCounts square [] = true
 tourCounts square (a ∷ l) = countsFrom square a l
@@ -68,7 +68,8 @@ abbrev pub summed : (ℕ → ℕ) → List ℕ → ℕ
 summed f [] = 0
 summed f (b ∷ l) = f b + summed f l
 
--- over the windows but the first, the sum of the cheapest entry into each from another
+-- The least figure (02, Job 14), a lower bound that no order's sum goes under: over the windows but the first, the sum of the cheapest entry into each
+-- from another.
 unfoldable pub leastFigure : List (List ℕ) → ℕ → ℕ
 leastFigure square n = summed (λ b. cheapestEntry square b n) (otherWindows n)
 

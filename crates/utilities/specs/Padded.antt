@@ -9,10 +9,10 @@ use lib.ListN.{length, getD, replicate}
 abbrev pub padded : {A : Type 0} → ℕ → A → List A → List A
 padded n zero l = l ++ replicate (n - length l) zero
 
--- The same of any array, said by its places (01, under the table): those from a count on hold the zero ..
+-- An array holds the zero in its places from a count on (01, under the table) ..
 abbrev pub ZeroBeyond : {A : Type 0} → A → ℕ → List A → Type 0
 ZeroBeyond zero count l = (i : ℕ) → count ≤ i → getD l i zero ≡ zero
 
--- .. and, of a refused answer (01, under the table: with every other part of the answer zero), all of them.
+-- .. and, in a refused answer (01, under the table: with every other part of the answer zero), in all of them.
 abbrev pub AllZero : {A : Type 0} → A → List A → Type 0
 AllZero zero l = (i : ℕ) → getD l i zero ≡ zero
