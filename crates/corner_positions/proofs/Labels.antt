@@ -9,11 +9,10 @@ use mathlib.Core.Path.{_≡_, refl, sym, ap, _∙_}
 use mathlib.Core.Bool.{Bool, true, false, true≢false, cond, _||_}
 use mathlib.Core.Logic.{_⊎_, inl, inr}
 use mathlib.Core.List.{List, [], _∷_, map, List·Memᴰ, List·Memᴰ·cases-cons, List·Memᴰ·not-nil}
-use Prim.Native.Nat.{ℕ, zero, suc, _+_, _<_, _≤_}
+use Prim.Native.Nat.{ℕ, suc, _+_, _<_, _≤_}
 use native.Mathlib.Omega.{arith}
 use native.Mathlib.Decide.{ℕ-discrete, decLt}
 use borrow.Author.Tests.{eq-eqb}
-use lib.Dec.{eqb}
 use lib.ListN.{length, getD, take, getD-replicate}
 use lib.Seq.{ext-getD, getD-take, length-take-le}
 use Rattle.utilities.specs.Lists.{below}
@@ -26,10 +25,10 @@ use Rattle.integration_field.specs.Listed.{Indexes, noPositions}
 use Rattle.integration_field.specs.Build.{build}
 use Rattle.integration_field.specs.Walks.{MayEnter, Permitted}
 use Rattle.integration_field.specs.Position.{isUnplaced, firstPosition, positionAt, positions}
-use Rattle.integration_field.specs.Promise.{Walked, WalkFrom, Placed, Position}
+use Rattle.integration_field.specs.Promise.{Walked, Placed, Position}
 use Rattle.integration_field.specs.Promise.Position.{earliest, none, unplaced}
 use Rattle.integration_field.proofs.Position.{listed-at, walk-on, positions-told, position-one}
-use Rattle.corner_positions.specs.Inner.{enteredFrom, keptOf, Lowered, BuiltOn, Mine, Sources, Decided}
+use Rattle.corner_positions.specs.Inner.{enteredFrom, keptOf, Lowered, BuiltOn, Decided}
 use Rattle.corner_positions.proofs.Spreading.{least, lowered, entered-at, exact-back}
 
 module _ (costs before corners built entered : List ℕ) (f : BuiltOn costs before corners built entered) where

@@ -2,24 +2,21 @@
 --     queued-few, has-room, room-at, room-to
 -- Assumes nothing.
 use mathlib.Core.Path.{_≡_, refl, sym, ap, _∙_}
-use mathlib.Core.Bool.{Bool, true, false, not, cond, _&&_}
 use mathlib.Core.List.{List, [], _∷_}
-use Prim.Native.Nat.{ℕ, zero, suc, _+_, _<_, _≤_}
+use Prim.Native.Nat.{ℕ, suc, _<_, _≤_}
 use native.Mathlib.Omega.{arith}
 use native.Mathlib.Decide.{ℕ-discrete}
-use borrow.Author.Tests.{eq-eqb, ne-eqb, eqb-true}
-use lib.Dec.{eqb}
-use lib.ListN.{length, getD, set, length-set}
-use lib.Seq.{getD-set-same, getD-set-other}
+use borrow.Author.Tests.{eq-eqb, ne-eqb}
+use lib.ListN.{getD, set, length-set}
+use lib.Seq.{getD-set-other}
 use Rattle.utilities.specs.declared.CompassDir.{CompassDir}
-use Rattle.utilities.specs.Count.{bit, count}
+use Rattle.utilities.specs.Count.{bit}
 use Rattle.utilities.proofs.Count.{count-set, count-length, count-room, at-set}
 use Rattle.fields.specs.declared.FieldCell.{FieldCell}
 use Rattle.fields.specs.declared.Stepped.{Stepped}
 use Rattle.fields.specs.declared.Stepped.the-variants.{Cell, Outside}
-use Rattle.fields.specs.Cell.{Inside, indexOf, stepped}
+use Rattle.fields.specs.Cell.{indexOf, stepped}
 use Rattle.fields.proofs.Steps.{stepped-cell, index-below}
-use Rattle.integration_field.specs.Listed.{Indexes}
 use Rattle.corner_positions.specs.Inner.{isPlaced, Placing, placing, QueueRoom, Grown, placedAt, placedTo, placedAround}
 
 -- ---- one cell

@@ -4,14 +4,12 @@
 --     gone-more     one cell of the queue gone around from
 -- Assumes nothing.
 use mathlib.Core.Path.{_≡_, refl, sym, ap, _∙_}
-use mathlib.Core.Bool.{Bool, true, false, cond}
 use mathlib.Core.Logic.{_⊎_, inl, inr, ⊎-elim}
-use mathlib.Core.List.{List, [], _∷_, map, List·Memᴰ, List·Memᴰ·cases-cons, List·Memᴰ·not-nil, List·Memᴰ·head}
-use Prim.Native.Nat.{ℕ, zero, suc, _+_, _-_, _<_, _≤_}
+use mathlib.Core.List.{List, [], _∷_, List·Memᴰ, List·Memᴰ·cases-cons, List·Memᴰ·not-nil, List·Memᴰ·head}
+use Prim.Native.Nat.{ℕ, suc, _+_, _-_, _<_, _≤_}
 use native.Mathlib.Omega.{arith}
 use native.Mathlib.Decide.{ℕ-discrete}
 use borrow.Author.Tests.{eq-eqb, ne-eqb}
-use lib.Dec.{eqb}
 use lib.ListN.{length, getD, set}
 use lib.Seq.{getD-set-same, getD-set-other}
 use Rattle.utilities.specs.declared.CompassDir.{CompassDir}
@@ -28,12 +26,11 @@ use Rattle.fields.proofs.Steps.{stepped-cell, index-below}
 use Rattle.fields.proofs.Beside.{beside-below}
 use Rattle.waves.specs.Walks.{start, move}
 use Rattle.integration_field.specs.Word.{low}
-use Rattle.integration_field.specs.Build.{build}
 use Rattle.integration_field.specs.Walks.{MayEnter, Permitted}
-use Rattle.integration_field.specs.Promise.{Walked, LeastWalks, WalkFrom}
+use Rattle.integration_field.specs.Promise.{Walked, LeastWalks}
 use Rattle.integration_field.proofs.Least.{least-walks, last-entered}
 use Rattle.integration_field.proofs.Neighbours.{Neighbour, later, neighbour-beside, beside-neighbour}
-use Rattle.corner_positions.specs.Inner.{enteredFrom, Placing, placing, QueueRoom, Grown, placedAt, placedTo, placedAround, BuiltOn, Mine, Spread}
+use Rattle.corner_positions.specs.Inner.{enteredFrom, Placing, placing, QueueRoom, Grown, placedTo, placedAround, BuiltOn, Mine, Spread}
 use Rattle.corner_positions.proofs.Room.{Tried, taken, held, apart, tried, grown-none, grown-then, grown-at, behind-queue, has-room, room-to}
 
 module _ (costs before corners built entered : List ℕ) (f : BuiltOn costs before corners built entered) where

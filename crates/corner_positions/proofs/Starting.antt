@@ -5,20 +5,17 @@
 --     decided          after the last
 -- Assumes nothing.
 use mathlib.Core.Path.{_≡_, refl, sym, ap, _∙_}
-use mathlib.Core.Bool.{not}
-use mathlib.Core.List.{List, [], _∷_, List·Memᴰ·head}
-use Prim.Native.Nat.{ℕ, zero, suc, _+_, _-_, _<_, _≤_}
+use mathlib.Core.List.{List, List·Memᴰ·head}
+use Prim.Native.Nat.{ℕ, _+_, _-_, _<_, _≤_}
 use native.Mathlib.Omega.{arith}
 use native.Mathlib.Decide.{ℕ-discrete}
-use borrow.Author.Tests.{eq-eqb, ne-eqb}
-use lib.Dec.{eqb}
-use lib.ListN.{length, getD, set, getD-replicate}
-use lib.Seq.{getD-set-same}
+use borrow.Author.Tests.{ne-eqb}
+use lib.ListN.{length, getD, getD-replicate}
 use Rattle.utilities.specs.Count.{count}
 use Rattle.fields.specs.Neighbours.{BesideAt}
 use Rattle.waves.specs.Walks.{start}
 use Rattle.integration_field.specs.Word.{low}
-use Rattle.integration_field.specs.Listed.{Indexes, noPositions}
+use Rattle.integration_field.specs.Listed.{noPositions}
 use Rattle.corner_positions.specs.Inner.{
   isPlaced,
   enteredFrom,
@@ -34,7 +31,7 @@ use Rattle.corner_positions.specs.Inner.{
   Gone,
   Decided,
 }
-use Rattle.corner_positions.proofs.Room.{Tried, taken, held, apart, tried, grown-at}
+use Rattle.corner_positions.proofs.Room.{Tried, tried, grown-at}
 use Rattle.corner_positions.proofs.Spreading.{least, lowered, entered-at, spread-at, tried-least}
 
 module _ (costs before corners built entered : List ℕ) (f : BuiltOn costs before corners built entered) where

@@ -13,7 +13,7 @@ ghost use Rattle.utilities.specs.Lists.{below};
 ghost use Rattle.fields.specs.Cell.{cellAt, stepped};
 ghost use Rattle.integration_field.specs.Listed.{Indexes, noPositions};
 ghost use Rattle.integration_field.specs.Build.{build};
-ghost use Rattle.integration_field.specs.Position.{isUnplaced, positions};
+ghost use Rattle.integration_field.specs.Position.{positions};
 ghost use Rattle.corner_positions.specs.Inner.{enteredFrom, Lowered, Placing, placing, placedAt, placedTo, placedAround, keptOf};
 ghost use Rattle.corner_positions.specs.Inner.{StandsFor, HasRoom, StepsTo, Written, BuiltOn, Spread, SpreadOn, GoneOn, Decided};
 

@@ -5,10 +5,10 @@
 --     twenty-told          20, of the call
 -- Assumes nothing.
 use mathlib.Core.Path.{_≡_, refl, sym, ap, _∙_}
-use mathlib.Core.Bool.{Bool, true, false, true≢false, cond, not, _&&_, _||_}
+use mathlib.Core.Bool.{Bool, true, false, cond, not, _||_}
 use mathlib.Core.Logic.{_⊎_, inl, inr, _↔_}
 use mathlib.Core.List.{List, [], _∷_}
-use Prim.Native.Nat.{ℕ, zero, suc, _/_, _%_, _≤_, _<_}
+use Prim.Native.Nat.{ℕ, zero, suc, _/_, _%_, _<_}
 use native.Mathlib.Omega.{arith}
 use lib.Dec.{ltb, eqb}
 use lib.ListN.{length, getD}
@@ -20,7 +20,7 @@ use Rattle.route.proofs.NoneIs.{step-is}
 use Rattle.route.proofs.Walls.{each-step-on, accepted-on}
 use Rattle.step_list.specs.Steps.{stepsOf, stepOf}
 use Rattle.step_list.proofs.Steps.{steps-count, step-of, step-long}
-use Rattle.cost_square.specs.Square.{noWindowOf, windowStepNumber, windowStepRows, windowCostsNumber}
+use Rattle.cost_square.specs.Square.{windowStepNumber, windowStepRows, windowCostsNumber}
 use Rattle.cost_square.specs.Promise.{WrongCount, AmongWindows, NotAmong}
 use Rattle.cost_square.proofs.Numbers.{step-number}
 

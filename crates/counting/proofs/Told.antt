@@ -5,21 +5,20 @@
 --     counting-told                       the list has the cells that count
 --     one-straight                        of a window of one cell, straight alone decides
 -- Assumes nothing.
-use mathlib.Core.Path.{_≡_, refl, sym, ap, subst, _∙_}
-use mathlib.Core.Bool.{Bool, true, false, true≢false, cond, _||_}
+use mathlib.Core.Path.{_≡_, refl, sym, subst, _∙_}
+use mathlib.Core.Bool.{Bool, true, false, true≢false, _||_}
 use mathlib.Core.Logic.{_⊎_, inl, inr, _↔_}
 use mathlib.Core.List.{List, List·Memᴰ}
 use Prim.Native.Nat.{ℕ, zero, suc, _+_, _-_, _/_, _%_, _<_, _≤_}
 use native.Mathlib.Omega.{arith}
 use lib.Dec.{eqb, ltb}
-use lib.ListN.{getD}
 use borrow.Author.Tests.{eqb-true, eqb-false, eq-eqb, ne-eqb, ltb-true, ltb-false, lt-ltb}
 use Rattle.utilities.specs.declared.CompassDir.{CompassDir}
 use Rattle.utilities.specs.declared.CompassDir.the-variants.{North, East, South, West}
 use Rattle.utilities.specs.Compass.{sideOf}
 use Rattle.route.specs.Window.{select, onEdge, stride, facing}
 use Rattle.route.specs.Step.{markOf, firstOf, lastOf, boundaryByte, boundaryOf, isWindow, windowCells, portalOf, stepNumber}
-use Rattle.route.specs.Target.{to-window, WindowCell, targetOf, StepWindow}
+use Rattle.route.specs.Target.{to-window, WindowCell, StepWindow}
 use Rattle.route.proofs.Accepted.{Window, accepted-window}
 use Rattle.route.proofs.Cells.{stride-within, by-edge}
 use Rattle.route.proofs.Facing.{facing-in, facing-north, facing-east, facing-south, facing-west}

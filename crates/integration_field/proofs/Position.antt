@@ -11,7 +11,7 @@ use mathlib.Core.List.{List, [], _∷_, List·Memᴰ, List·Memᴰ·head, List·
 use Prim.Native.Nat.{ℕ, zero, suc, _+_, _≤_, _<_}
 use native.Mathlib.Omega.{arith}
 use native.Mathlib.Decide.{decLt}
-use borrow.Author.Tests.{ltb-true, ltb-false, eqb-true, eqb-false, eq-eqb, lt-ltb, le-ltb}
+use borrow.Author.Tests.{ltb-true, ltb-false, eqb-true, eq-eqb}
 use lib.Dec.{ltb, eqb}
 use lib.ListN.{length, getD}
 use Rattle.utilities.specs.Lists.{below}
@@ -19,8 +19,8 @@ use Rattle.utilities.proofs.Lists.{table-at}
 use Rattle.waves.specs.Walks.{start, move}
 use Rattle.integration_field.specs.Word.{low, isGoal, isLos, isImpassable}
 use Rattle.integration_field.specs.Build.{build}
-use Rattle.integration_field.specs.Position.{isUnplaced, builtFrom, arrivesFrom, firstPosition, positionAt, positions}
-use Rattle.integration_field.specs.Walks.{MayEnter, Permitted}
+use Rattle.integration_field.specs.Position.{builtFrom, arrivesFrom, firstPosition, positionAt, positions}
+use Rattle.integration_field.specs.Walks.{Permitted}
 use Rattle.integration_field.specs.Promise.{Walked, LeastWalks, WalkFrom, Placed, Position, EarliestCorners}
 use Rattle.integration_field.specs.Promise.Position.{earliest, none, unplaced}
 use Rattle.integration_field.proofs.Least.{least-walks}

@@ -23,7 +23,7 @@ ghost use Rattle.fields.specs.Cell.{cellAt, stepped};
 ghost use Rattle.integration_field.specs.Listed.{Indexes};
 ghost use Rattle.integration_field.specs.Promise.{ZeroField};
 ghost use Rattle.route.specs.Target.{targetOf};
-ghost use Rattle.integration_field.specs.Word.{isLos, isGoal, isBlocked, isImpassable};
+ghost use Rattle.integration_field.specs.Word.{isLos, isGoal, isBlocked};
 ghost use Rattle.integration_field.specs.Diagonal.{wallAt};
 ghost use Rattle.line_end_table.specs.Ends.{EndsFor};
 ghost use Rattle.route.specs.Inner.{heldCells, heldTarget, WindowHeld, TargetHeld};

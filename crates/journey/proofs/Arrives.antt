@@ -13,8 +13,7 @@ use mathlib.Core.List.{List}
 use Prim.Native.Nat.{ℕ, zero, suc, _+_, _*_, _%_, _≤_, _<_}
 use native.Mathlib.Omega.{arith}
 use lib.Bits.{bitOr}
-use lib.ListN.{length, getD, drop}
-use lib.Seq.{getD-take, getD-drop}
+use lib.ListN.{length, getD}
 use Rattle.route.specs.Step.{boundaryOf, stepNumber}
 use Rattle.route.specs.Target.{Target, WindowCell, EndCell, isSightless, targetOf}
 use Rattle.route.proofs.Accepted.{accepted-list}
@@ -40,7 +39,7 @@ use Rattle.leg_plan.proofs.Planned as plan
 use Rattle.leg_plan.proofs.Sheet.{built-is}
 use Rattle.journey.specs.Place.{Place, placeOf, cellIn, FloorMove, Points}
 use Rattle.journey.specs.Journey as journey
-use Rattle.journey.specs.Journey.{ReachedIn, MoveInside, Stops, Journey, NoZeroFrom, NoZero, LegArrives, LegArrivesAtGoal}
+use Rattle.journey.specs.Journey.{ReachedIn, MoveInside, Stops, Journey, NoZeroFrom, LegArrives, LegArrivesAtGoal}
 use Rattle.journey.proofs.Places.{sector-in, cell-in, arrow-is, inside}
 use Rattle.journey.proofs.Crossing.{Landing, crossing}
 

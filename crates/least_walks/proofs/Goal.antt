@@ -4,20 +4,20 @@
 --     goal-costs        the costs are the least walks from the goal
 --     goal-positions    and every reached cell but the goal has position 0
 -- Assumes nothing.
-use mathlib.Core.Path.{_≡_, refl, sym, ap, subst, _∙_}
+use mathlib.Core.Path.{_≡_, refl, sym, ap, _∙_}
 use mathlib.Core.Bool.{true, false, true≢false, false≢true}
 use mathlib.Core.Logic.{_⊎_, inl, inr, ⊎-elim}
 use mathlib.Core.List.{List, [], _∷_, List·Memᴰ, List·Memᴰ·head, List·Memᴰ·cases-cons, List·Memᴰ·not-nil}
 use Prim.Native.Nat.{ℕ, zero, suc, _+_, _*_, _<_, _≤_}
 use native.Mathlib.Omega.{arith}
 use native.Mathlib.Decide.{ℕ-discrete}
-use lib.ListN.{getD, length}
+use lib.ListN.{getD}
 use Rattle.fields.specs.Neighbours.{BesideAt}
 use Rattle.fields.proofs.Beside.{beside-below}
 use Rattle.waves.specs.Walks.{start, move}
 use Rattle.integration_field.specs.Word.{low, isLos, isGoal, isImpassable}
 use Rattle.integration_field.specs.Walks.{MayEnter, Permitted}
-use Rattle.integration_field.specs.Promise.{LeastWalks, Walked, Placed, WalkFrom, Position, earliest, none, unplaced, EarliestCorners}
+use Rattle.integration_field.specs.Promise.{LeastWalks, Walked, Placed, Position, earliest, none, unplaced, EarliestCorners}
 use Rattle.started_field.specs.StartedCell.{CornerStarted}
 use Rattle.least_walks.specs.Goal.{Open, GoalWalk, begins, enters, GoalCosts, GoalPositions}
 

@@ -15,11 +15,11 @@ use mathlib.Core.Logic.{_⊎_, inl, inr, ⊎-elim}
 use Prim.Native.Nat.{ℕ, _+_, _-_, _*_, _/_, _%_, _≤_}
 use native.Mathlib.Omega.{arith}
 use lib.Dec.{eqb, leb}
-use lib.ListN.{length, getD, take, drop, length-drop, drop-of-length-le}
+use lib.ListN.{length, take, drop, length-drop, drop-of-length-le}
 use lib.Seq.{sets, sets-eq, take-length, take-all}
 use borrow.Author.Tests.{eqb-true, eq-eqb, ne-eqb, le-ltb, le-leb, leb-true}
 use Rattle.route.specs.Step.{noStepList}
-use Rattle.route.proofs.Accepted.{StepList, accepted-list}
+use Rattle.route.proofs.Accepted.{accepted-list}
 use Rattle.leg_file.specs.File.{fileOf, writeNumber, writtenFile, isMarked, versionOf, countOf, isCount, isLegFile, fileNumber, fileSteps}
 use Rattle.leg_file.specs.Promise.{ReadBack, WrittenSame, PartOf}
 

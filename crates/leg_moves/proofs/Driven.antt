@@ -25,7 +25,7 @@ use Rattle.leg_moves.specs.declared.CartMove.{CartMove}
 use Rattle.leg_moves.specs.declared.CartWay.{CartWay}
 use Rattle.leg_moves.specs.Moving.{stillOutcome, byteAt, Still}
 use Rattle.leg_moves.specs.Answers.{moveFrom, moveAnswer, stood, wayFrom}
-use Rattle.leg_moves.specs.Promise.{CartAccepted, Drives, rests, drives, LegSheet, DrivenIn, DrivenToGoal, LegDriven, AtGoal, WayToGoal}
+use Rattle.leg_moves.specs.Promise.{CartAccepted, Drives, rests, drives, LegSheet, DrivenIn, DrivenToGoal, LegDriven, WayToGoal}
 use Rattle.leg_moves.proofs.Numbers.{good}
 use Rattle.leg_moves.proofs.Told.{sector-below, back, ends-on, moved-is, still-is, stood-is}
 use Rattle.leg_moves.proofs.Goal.{goal-in, goal-sector-in, goal-byte}

@@ -1,7 +1,7 @@
 -- Moves and ways worked out, on sheets of zeros but for a cell or two of sector 0.
 -- Assumes nothing.
 use mathlib.Core.Path.{_≡_, refl}
-use mathlib.Core.List.{List, [], _∷_}
+use mathlib.Core.List.{[], _∷_}
 use Prim.Native.Nat.{ℕ}
 use lib.ListN.{set, replicate}
 use Rattle.leg_moves.specs.declared.CartMove.{CartMove}

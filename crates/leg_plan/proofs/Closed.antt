@@ -17,7 +17,7 @@ use lib.Seq.{drop-cons}
 use borrow.Author.Tests.{eqb-true, eqb-false}
 use Rattle.route.specs.Table.{row, firstNumber}
 use Rattle.route.specs.Step.{sectorOf, stepRowsOn}
-use Rattle.route.specs.Target.{Target, to-goal, to-window, to-corner, bySight, WindowCell, targetOf}
+use Rattle.route.specs.Target.{Target, to-goal, to-window, bySight, WindowCell, targetOf}
 use Rattle.route.proofs.Targets.{target-goal}
 use Rattle.route.proofs.NoneIs.{noneIs, none-is, none-both, step-is}
 use Rattle.step_list.specs.Steps.{stepsOf, stepOf}

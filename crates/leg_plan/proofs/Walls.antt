@@ -14,7 +14,7 @@ use lib.Seq.{getD-take, getD-drop}
 use lib.Dec.{eqb}
 use borrow.Author.Tests.{eqb-true, eq-eqb, ne-eqb}
 use Rattle.route.specs.Table.{Row, row, firstNumber}
-use Rattle.route.specs.Step.{sectorOf, goalOf, markOf, stepNumber, noStepList}
+use Rattle.route.specs.Step.{sectorOf, markOf, stepNumber, noStepList}
 use Rattle.route.specs.Target as target
 use Rattle.route.specs.Target.{StepGoal, StepOnWall}
 use Rattle.route.proofs.Accepted.{accepted-goal}

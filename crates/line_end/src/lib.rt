@@ -2,7 +2,6 @@
 use fields::FieldCell;
 ghost use mathlib.Core.Path.{_≡_};
 ghost use Prim.Native.Nat.{_<_, _≤_, min};
-ghost use lib.Dec.{ltb};
 ghost use Rattle.fields.specs.Cell.{Inside};
 ghost use Rattle.nearest_line.specs.Line.{nearest};
 ghost use Rattle.line_end.specs.LineEnd.{edge, after, further, firstLeaving, slantedEnd, lineEnd, lineEndAnswer};

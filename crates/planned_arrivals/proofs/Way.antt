@@ -9,14 +9,14 @@ use mathlib.Core.List.{List}
 use Prim.Native.Nat.{ℕ, zero, suc, _+_, _≤_, _<_}
 use native.Mathlib.Nat.{zero-add, suc-add}
 use native.Mathlib.Omega.{arith}
-use lib.ListN.{length, getD}
+use lib.ListN.{getD}
 use Rattle.arrows.specs.Arrows.{Reached}
 use Rattle.leg_plan.specs.Leg.{part}
 use Rattle.leg_plan.specs.Promise.{sectorAt, builtAt}
 use Rattle.journey.specs.Place.{Place, OnFloor, placeOf, cellIn, FloorMove, FloorWalk, stays, goes, Points}
-use Rattle.journey.specs.Journey.{ReachedIn, Journey, ends, moves, crosses, NoZero, LegArrives}
+use Rattle.journey.specs.Journey.{Journey, ends, moves, crosses}
 use Rattle.journey.proofs.Places.{landed, whole-place, arrow-is, inside}
-use Rattle.arrivals.specs.Following.{isArrival, Follows, Comes, there, further, ComesFirst}
+use Rattle.arrivals.specs.Following.{isArrival, Follows, Comes, there, further}
 use Rattle.arrivals.specs.Promise.{ArrivalsTold}
 use Rattle.planned_arrivals.specs.Promise.{StandsThere, WholeWay, LegTold}
 

@@ -10,12 +10,11 @@
 --     told-without       and of the call
 --     window-same        which plans a step with a window as it is with sight
 -- Assumes nothing.
-use mathlib.Core.Path.{_≡_, refl, sym, ap, ap₂, _∙_}
-use mathlib.Core.Bool.{Bool, true, false, not, _&&_}
+use mathlib.Core.Path.{_≡_, refl, sym, ap, _∙_}
+use mathlib.Core.Bool.{Bool, true, false}
 use mathlib.Core.Logic.{_↔_}
 use mathlib.Core.List.{List}
 use Prim.Native.Nat.{ℕ, zero, suc, _<_, _≤_}
-use lib.Dec.{eqb}
 use lib.ListN.{length, getD}
 use borrow.Author.Tests.{eq-eqb, ne-eqb}
 use Rattle.utilities.proofs.Lists.{table-length}
@@ -46,7 +45,7 @@ use Rattle.sector.specs.Sector.{sectorNumber, sectorField, sectorBytes, 
 use Rattle.sector.specs.Inner.{flowBytes}
 use Rattle.sector.specs.Previous.{WithoutPrevious, TargetOnWall}
 use Rattle.sector.specs.Promise.{Planned, PlannedWithout}
-use Rattle.sector.proofs.Numbers.{Accepted, accepted, seventeen-told, sixteen-due}
+use Rattle.sector.proofs.Numbers.{accepted, seventeen-told, sixteen-due}
 
 -- what `new` and `build` leave, one after the other
 pub written : (portal : PortalWindow) (window cells : List ℕ) (has : Bool) (previous new bytes : List ℕ)

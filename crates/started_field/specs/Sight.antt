@@ -7,7 +7,6 @@ use Prim.Native.Nat.{ℕ, zero, suc, _+_}
 use lib.Dec.{eqb}
 use lib.ListN.{getD, set}
 use Rattle.utilities.specs.declared.CompassDir.{CompassDir}
-use Rattle.utilities.specs.declared.CompassDir.the-variants.{North, West}
 use Rattle.utilities.specs.Compass.{orthogonal, opposite, lowerSide}
 use Rattle.fields.specs.declared.Stepped.{Stepped}
 use Rattle.fields.specs.declared.Stepped.the-variants.{Cell, Outside}

@@ -1,15 +1,13 @@
 -- `corner_positions::corner_positions` meets its contract: without corners no cell has a position; else three facts decide the positions, and
 -- what is kept of them is the definition's.
 -- Assumes nothing.
-use mathlib.Core.Path.{_≡_, refl, _∙_}
-use mathlib.Core.List.{map}
+use mathlib.Core.Path.{refl, _∙_}
 use Prim.Native.Nat.{ℕ}
 use denote.Ref.{now}
 use borrow.Author.Needs.{needs}
-use lib.ListN.{getD, take}
-use Rattle.utilities.specs.Lists.{below}
+use lib.ListN.{getD}
 use Rattle.utilities.proofs.Lists.{table-length}
-use Rattle.corner_positions.specs.Inner.{enteredFrom, BuiltOn}
+use Rattle.corner_positions.specs.Inner.{enteredFrom}
 use Rattle.corner_positions.proofs.Labels.{no-corners, given, paid-for, keeps-all}
 use Rattle.corner_positions.proofs.corner_positions.Statement.{statement}
 use Rattle.corner_positions.proofs.corner_positions.Tie as tie

@@ -1,7 +1,6 @@
 -- `fields::index_beside` meets its contract: the sums of a step's column and row make that of the index. The step arrives inside, so the index is small.
 -- Assumes nothing.
 use mathlib.Core.Path.{_≡_, sym, subst, ap, _∙_}
-use Prim.Native.Nat.{_<_}
 use native.Mathlib.Omega.{arith}
 use borrow.Author.Needs.{needs}
 use lib.IntN.{ℤ, pos, natAbs, _+ℤ_, _*ℤ_}

@@ -1,6 +1,6 @@
 -- `flow_new::optimise_portal_direction` meets its contract: the bits of the three costs that a window cell sees.
 -- Assumes nothing.
-use mathlib.Core.Path.{_≡_, ap, _∙_}
+use mathlib.Core.Path.{ap, _∙_}
 use Rattle.flow_byte.specs.declared.SeenValues.{SeenValues}
 use Rattle.flow_byte.specs.New.{facingBits, facingChoice}
 use borrow.Author.Needs.{needs}

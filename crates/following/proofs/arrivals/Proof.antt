@@ -1,6 +1,5 @@
 -- `following::arrivals` meets its contract: refused by its length, or the numbers of all cells.
 -- Assumes nothing.
-use mathlib.Core.Path.{_≡_}
 use denote.Ref.{now}
 use native.Mathlib.Omega.{arith}
 use Rattle.following.proofs.Laws.{accepts, refuses}

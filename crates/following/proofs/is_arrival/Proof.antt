@@ -1,6 +1,6 @@
 -- `following::is_arrival` meets its contract: one reader after the other.
 -- Assumes nothing.
-use mathlib.Core.Path.{_≡_, sym, _∙_}
+use mathlib.Core.Path.{sym, _∙_}
 use borrow.Author.Needs.{needs}
 use Rattle.following.proofs.is_arrival.Statement.{statement}
 use Rattle.following.proofs.is_arrival.Tie as tie

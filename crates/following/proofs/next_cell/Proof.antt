@@ -1,6 +1,6 @@
 -- `following::next_cell` meets its contract: what its three calls answer.
 -- Assumes nothing.
-use mathlib.Core.Path.{_≡_, ap₂, _∙_}
+use mathlib.Core.Path.{ap₂, _∙_}
 use borrow.Author.Needs.{needs}
 use Rattle.fields.specs.Cell.{stepped}
 use Rattle.fields.proofs.Steps.{near-made}

@@ -1,6 +1,5 @@
 -- `integration_build::propagate_integrated_wavefront` meets its contract. It calls itself with one less of `falling`, which is its measure.
 -- Assumes nothing.
-use mathlib.Core.Path.{refl}
 use Prim.Native.Nat.{ℕ, _+_, _-_, _<_, _≤_}
 use native.Mathlib.Nat.{pos-of-ne-zero}
 use native.Mathlib.Omega.{arith}

@@ -7,7 +7,7 @@ use denote.Ref.{now}
 use lib.ListN.{length, take}
 use borrow.Author.Needs.{needs}
 use Rattle.integration_field.specs.declared.IntegrationField.{IntegrationField}
-use Rattle.integration_field.specs.Listed.{padded, listOf}
+use Rattle.integration_field.specs.Listed.{listOf}
 use Rattle.integration_field.specs.Build.{Built, build}
 use Rattle.integration_field.specs.Position.{positions as positionsOf}
 use Rattle.integration_build.proofs.Recursion.{builtWith, same-list, places-in, wave-in, waves-leave, built-is}

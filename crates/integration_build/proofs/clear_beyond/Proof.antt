@@ -1,6 +1,6 @@
 -- `integration_build::clear_beyond` meets its contract. The loop's invariant: the first i places are those of the list with 0 beyond it.
 -- Assumes nothing.
-use mathlib.Core.Path.{_≡_, sym, _∙_}
+use mathlib.Core.Path.{_≡_, _∙_}
 use Prim.Native.Nat.{_-_, _≤_}
 use native.Mathlib.Omega.{arith}
 use lib.ListN.{length, take, length-set}

@@ -1,7 +1,7 @@
 -- `integration_init::look_at` meets its contract: case by case of what the neighbour is. A neighbour in sight is no wall, so it is left as it is.
 -- Assumes nothing.
 use mathlib.Core.Path.{_≡_, sym, _∙_}
-use mathlib.Core.Bool.{true, false}
+use mathlib.Core.Bool.{false}
 use Prim.Native.Nat.{ℕ, _<_}
 use native.Mathlib.Omega.{arith}
 use borrow.Author.Needs.{needs}

@@ -2,7 +2,6 @@
 -- Assumes nothing.
 use mathlib.Core.Path.{refl}
 use native.Mathlib.Omega.{arith}
-use borrow.Author.Needs.{needs}
 use Rattle.integration_init.proofs.spread_sight.Statement.{statement}
 use Rattle.integration_init.proofs.spread_sight.Tie as tie
 

@@ -1,6 +1,5 @@
 -- `leg::each_step` meets its contract. The loop's invariant: the steps from place k on decide.
 -- Assumes nothing.
-use borrow.Author.Needs.{needs}
 use mathlib.Core.Path.{_≡_, sym, ap, _∙_}
 use Prim.Native.Nat.{_-_, _/_, _≤_}
 use native.Mathlib.Omega.{arith}

@@ -1,6 +1,6 @@
 -- `leg_field::field_number` meets its contract: a line of the table at each return, and below them the leg's.
 -- Assumes nothing.
-use mathlib.Core.Path.{_≡_, sym, _∙_}
+use mathlib.Core.Path.{sym, _∙_}
 use Prim.Native.Nat.{_<_}
 use native.Mathlib.Omega.{arith}
 use denote.Ref.{now}

@@ -1,8 +1,6 @@
 -- `leg_field::number_by_sight` meets its contract: the number that is judged before a step is planned, or 15, or 0.
 -- Assumes nothing.
 use mathlib.Core.Path.{_≡_, sym, _∙_}
-use mathlib.Core.List.{List}
-use Prim.Native.Nat.{ℕ}
 use denote.Ref.{now}
 use Rattle.route.specs.Table.{firstNumber}
 use Rattle.leg_plan.proofs.Numbers.{ready}

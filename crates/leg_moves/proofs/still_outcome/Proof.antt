@@ -1,6 +1,6 @@
 -- `leg_moves::still_outcome` meets its contract: one reader after the other.
 -- Assumes nothing.
-use mathlib.Core.Path.{_≡_, sym, _∙_}
+use mathlib.Core.Path.{sym, _∙_}
 use borrow.Author.Needs.{needs}
 use Rattle.leg_moves.proofs.still_outcome.Statement.{statement}
 use Rattle.leg_moves.proofs.still_outcome.Tie as tie

@@ -1,12 +1,11 @@
 -- `leg_reader::number` meets its contract: a file with something wrong is not good, and what passes every test is.
 -- Assumes nothing.
-use denote.Ref.{now}
 use mathlib.Core.Path.{sym, _∙_}
 use mathlib.Core.Bool.{true≢false}
 use native.Mathlib.Omega.{arith}
 use borrow.Author.Needs.{needs}
 use borrow.Author.Tests.{not-true, not-false}
-use Rattle.leg_file.proofs.Laws.{Good, wrong, right}
+use Rattle.leg_file.proofs.Laws.{wrong, right}
 use Rattle.leg_reader.proofs.number.Statement.{statement}
 use Rattle.leg_reader.proofs.number.Tie as tie
 

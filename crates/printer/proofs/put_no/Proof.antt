@@ -1,7 +1,6 @@
 -- `printer::put_no` meets its contract: `no`, a space, the number's digits and a line feed, stored one behind the other.
 -- Assumes nothing.
 use denote.Ref.{now}
-use mathlib.Core.Path.{_∙_}
 use mathlib.Core.List.{[], _∷_}
 use native.Mathlib.Omega.{arith}
 use lib.ListN.{length-append, set}

@@ -1,7 +1,6 @@
 -- `step_numbers::step_number_on` meets its contract: 16 decides where 3 to 8 do not.
 -- Assumes nothing.
 use mathlib.Core.Path.{_≡_, sym, ap, _∙_}
-use native.Mathlib.Omega.{arith}
 use borrow.Author.Needs.{needs}
 use denote.Ref.{now}
 use Rattle.route.specs.Step.{stepNumber, targetsWall}

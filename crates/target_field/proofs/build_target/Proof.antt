@@ -3,7 +3,6 @@
 use mathlib.Core.Path.{ap, _∙_}
 use denote.Ref.{now}
 use Rattle.integration_build.specs.Without.{builtWithout}
-use Rattle.integration_field.specs.Answer.{Accepted}
 use Rattle.route.specs.Inner.{heldTarget}
 use Rattle.route.proofs.Targets.{held-in}
 use Rattle.least_walks.proofs.Promise.{accepts-started}

@@ -12,7 +12,6 @@ use Rattle.route.proofs.Targets.{held-in}
 use Rattle.started_field.specs.Started.{started, startedAt}
 use Rattle.integration_build.specs.Without.{builtWithout}
 use Rattle.least_walks.proofs.Promise.{accepts-started}
-use borrow.Author.Needs.{needs}
 use Rattle.target_field.proofs.build_window.Statement.{statement}
 use Rattle.target_field.proofs.build_window.Tie as tie
 
