@@ -27,22 +27,22 @@ loop-holds c =
     let a = c .before .args in
     (search needs, fill-none (rule (now (a .best)) (now (a .bits)) (now (a .sheet))) (now (a .sheet)))
 
-slice-read-calculate-flow-cell : tie.Need-slice-read-calculate-flow-cell Inv-loop μ-loop
-slice-read-calculate-flow-cell c = omega (arith, c .before .before .before .before .pre, c .before .before .loop .inv .1 .long)
+slice-read-byte-after : tie.Need-slice-read-byte-after Inv-loop μ-loop
+slice-read-byte-after c = omega (arith, c .before .before .before .before .pre, c .before .before .loop .inv .1 .long)
 
-mul-calculate-flow-cell : tie.Need-mul-calculate-flow-cell Inv-loop μ-loop
-mul-calculate-flow-cell c = omega arith
+mul-byte-after : tie.Need-mul-byte-after Inv-loop μ-loop
+mul-byte-after c = omega arith
 
-element-copy-out-calculate-flow-cell :
-    tie.Need-element-copy-out-calculate-flow-cell Inv-loop μ-loop
-element-copy-out-calculate-flow-cell c = omega arith
+element-copy-out-byte-after :
+    tie.Need-element-copy-out-byte-after Inv-loop μ-loop
+element-copy-out-byte-after c = omega arith
 
-element-copy-out-calculate-flow-cell-2 :
-    tie.Need-element-copy-out-calculate-flow-cell-2 Inv-loop μ-loop
-element-copy-out-calculate-flow-cell-2 c = omega arith
+element-copy-out-byte-after-2 :
+    tie.Need-element-copy-out-byte-after-2 Inv-loop μ-loop
+element-copy-out-byte-after-2 c = omega arith
 
-calculate-flow-cell-requires : tie.Need-calculate-flow-cell-requires Inv-loop μ-loop
-calculate-flow-cell-requires c κs = search needs
+byte-after-requires : tie.Need-byte-after-requires Inv-loop μ-loop
+byte-after-requires c κs = search needs
 
 slice-write-sheet : tie.Need-slice-write-sheet Inv-loop μ-loop
 slice-write-sheet c =
@@ -63,7 +63,7 @@ loop-again c =
     let old = now (a .sheet) in
     let g = rule (now (a .best)) (now (a .bits)) old in
     let same = still-old g old (l .i) (l .sheet) (l .inv .1) in
-    let byte = c .calculate-flow-cell .ensures ∙ ap (λ (b : ℕ). byteAfter b (getD (now (a .best)) (l .i) 0) (getD (now (a .bits)) (l .i) 0)) same in
+    let byte = c .byte-after .ensures ∙ ap (λ (b : ℕ). byteAfter b (getD (now (a .best)) (l .i) 0) (getD (now (a .bits)) (l .i) 0)) same in
     (omega arith, fill-more g old (l .i) (l .sheet) _ (omega (arith, s .pre)) byte (l .inv .1))
 
 same-length : tie.Need-same-length Inv-loop μ-loop
@@ -84,11 +84,11 @@ point-cells-spec =
     Inv-loop
     μ-loop
     loop-holds
-    slice-read-calculate-flow-cell
-    mul-calculate-flow-cell
-    element-copy-out-calculate-flow-cell
-    element-copy-out-calculate-flow-cell-2
-    calculate-flow-cell-requires
+    slice-read-byte-after
+    mul-byte-after
+    element-copy-out-byte-after
+    element-copy-out-byte-after-2
+    byte-after-requires
     slice-write-sheet
     add-i
     loop-less

@@ -1,9 +1,9 @@
--- `flow_build::calculate_flow_cell` meets its contract: a cell that keeps its byte, or one that has looked.
+-- `flow_build::byte_after` meets its contract: a cell that keeps its byte, or one that has looked.
 -- Assumes nothing.
 use mathlib.Core.Path.{sym, _∙_}
 use borrow.Author.Needs.{needs}
-use Rattle.flow_build.proofs.calculate_flow_cell.Statement.{statement}
-use Rattle.flow_build.proofs.calculate_flow_cell.Tie as tie
+use Rattle.flow_build.proofs.byte_after.Statement.{statement}
+use Rattle.flow_build.proofs.byte_after.Tie as tie
 
 is-kept-requires : tie.Need-is-kept-requires
 is-kept-requires c κs = search needs
@@ -17,6 +17,6 @@ looked-byte-requires c κs = search needs
 returns-2 : tie.Need-returns-2
 returns-2 c = rw (sym (c .before .before .is-kept .ensures) ∙ c .before .if1 .left) (c .looked-byte .ensures)
 
-pub calculate-flow-cell-spec : {M : Type 1} → statement M
-calculate-flow-cell-spec =
+pub byte-after-spec : {M : Type 1} → statement M
+byte-after-spec =
     tie.close (tie.spec is-kept-requires returns looked-byte-requires returns-2)
