@@ -16,10 +16,10 @@ use Rattle.utilities.specs.Padded.{padded}
 use Rattle.fields.specs.declared.FieldCell.{FieldCell}
 use Rattle.fields.specs.Cell.{cell, Inside, indexOf, cellAt}
 use Rattle.fields.proofs.Steps.{cell-of-index}
-use Rattle.nearest_line.specs.Table.{table}
-use Rattle.nearest_line.specs.Line.{placed, minorAt, walkAt, walkCells, answered}
-use Rattle.nearest_line.proofs.Lists.{length-table, getD-table}
-use Rattle.nearest_line.proofs.Offset.{minor-between}
+use Rattle.line_nearest.specs.Table.{table}
+use Rattle.line_nearest.specs.Line.{placed, minorAt, walkAt, walkCells, answered}
+use Rattle.line_nearest.proofs.Lists.{length-table, getD-table}
+use Rattle.line_nearest.proofs.Offset.{minor-between}
 use Rattle.bresenham.specs.Inner.{listed, DrawnIn}
 use Rattle.bresenham.proofs.Places.{written, all-written}
 

@@ -9,9 +9,9 @@ use native.Mathlib.Omega.{arith}
 use lib.ListN.{length, set, replicate, replicate-append-replicate, length-replicate, length-reverse}
 use lib.Seq.{set-at}
 use Rattle.utilities.specs.Padded.{padded}
-use Rattle.nearest_line.specs.Table.{table}
+use Rattle.line_nearest.specs.Table.{table}
 use Rattle.bresenham.specs.Inner.{listed, placeOf, blank}
-use Rattle.nearest_line.proofs.Lists.{length-table, table-suc, table-set}
+use Rattle.line_nearest.proofs.Lists.{length-table, table-suc, table-set}
 
 abbrev zeros : ℕ → List ℕ
 zeros n = replicate n 0

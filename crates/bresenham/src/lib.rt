@@ -1,15 +1,15 @@
 // The cells of a line by Bresenham's algorithm.
 use fields::FieldCell;
-use nearest_line::Line;
+use line_nearest::Line;
 ghost use mathlib.Core.Path.{_≡_};
 ghost use mathlib.Core.Bool.{_&&_};
 ghost use mathlib.Core.List.{map};
 ghost use Prim.Native.Nat.{_≤_, _<_};
 ghost use lib.ListN.{length, take};
 ghost use Rattle.fields.specs.Cell.{cell, inside, Inside, indexOf, cellAt};
-ghost use Rattle.nearest_line.specs.Line.{apart, toward, placed, walkCells, line, answered, refused, called, lineCall, shallowCall, steepCall};
+ghost use Rattle.line_nearest.specs.Line.{apart, toward, placed, walkCells, line, answered, refused, called, lineCall, shallowCall, steepCall};
 ghost use Rattle.bresenham.specs.Inner.{placeOf, listed, blank, DrawnIn};
-ghost use Rattle.nearest_line.specs.Nearest.{columnOf, rowOf, HoldsNearestLine, HoldsNearestWalk, CellsBeyond, LineRefused};
+ghost use Rattle.line_nearest.specs.Nearest.{columnOf, rowOf, HoldsNearestLine, HoldsNearestWalk, CellsBeyond, LineRefused};
 
 // An answer without cells.
 fn empty(number: u8) -> Line
@@ -94,7 +94,7 @@ fn walk(
     ensures { λ r. ⌜ DrawnIn (listed back (walkCells steep major_0 minor_0 major_1 minor_1)) (now (drawn .exit)) r ⌝ }
 {
     let span = major_1 - major_0;
-    let rise = nearest_line::distance(minor_0, minor_1);
+    let rise = line_nearest::distance(minor_0, minor_1);
     let mut difference = 2 * rise + span;
     let mut offset = 0usize;
     let mut k = 0usize;
@@ -180,7 +180,7 @@ pub fn draw_cells_between_points(
     let row_0 = source.row;
     let col_1 = target.column;
     let row_1 = target.row;
-    if nearest_line::distance(row_0, row_1) < nearest_line::distance(col_0, col_1) {
+    if line_nearest::distance(row_0, row_1) < line_nearest::distance(col_0, col_1) {
         if col_0 <= col_1 {
             return walk(false, false, col_0, row_0, col_1, row_1, drawn);
         }

@@ -10,8 +10,8 @@ use Rattle.utilities.specs.declared.CompassDir.the-variants.{Zero}
 use Rattle.utilities.specs.Compass.{all, numberOf}
 use Rattle.fields.specs.declared.FieldCell.{FieldCell}
 use Rattle.fields.specs.Cell.{cell, indexOr, stepped}
-use Rattle.nearest_line.specs.Table.{table}
-use Rattle.nearest_line.specs.Line.{toward, nearest, shallow, steep, line}
+use Rattle.line_nearest.specs.Table.{table}
+use Rattle.line_nearest.specs.Line.{toward, nearest, shallow, steep, line}
 use Rattle.line_end.specs.LineEnd.{firstEnding, slantedEnd, endBy, lineEnd}
 use Rattle.route.specs.Window.{onEdge, edge, cellsBetween}
 use Rattle.route.specs.Step.{stepNumberOn}

@@ -14,8 +14,8 @@ use lib.Seq.{slice, slice-cons, slice-empty}
 use Rattle.fields.specs.declared.FieldCell.{FieldCell}
 use Rattle.fields.specs.Cell.{Inside, cell, indexOf}
 use Rattle.fields.proofs.Steps.{index-below}
-use Rattle.nearest_line.specs.Line.{line}
-use Rattle.nearest_line.proofs.Theorem.{line-room, line-inside}
+use Rattle.line_nearest.specs.Line.{line}
+use Rattle.line_nearest.proofs.Theorem.{line-room, line-inside}
 use Rattle.bresenham.specs.Inner.{DrawnIn}
 use Rattle.bresenham.proofs.Drawn.{drawn-full}
 use Rattle.integration_field.specs.Listed.{Indexes}

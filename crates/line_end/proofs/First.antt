@@ -12,9 +12,9 @@ use lib.Dec.{leb, ltb, eqb}
 use borrow.Author.Tests.{ltb-true, ltb-false, leb-true, leb-false, eqb-true, eqb-false}
 use Rattle.fields.specs.declared.FieldCell.{FieldCell}
 use Rattle.fields.specs.Cell.{Inside}
-use Rattle.nearest_line.specs.Line.{apart, nearest}
-use Rattle.nearest_line.specs.Nearest.{Between, NearestTo}
-use Rattle.nearest_line.proofs.Offset.{nearest-is, nearest-only}
+use Rattle.line_nearest.specs.Line.{apart, nearest}
+use Rattle.line_nearest.specs.Nearest.{Between, NearestTo}
+use Rattle.line_nearest.proofs.Offset.{nearest-is, nearest-only}
 use Rattle.line_end.specs.LineEnd.{edge, after, further, leaves, firstEnding, firstLeaving, slantedEnd}
 
 module _ (corner goal : FieldCell) where

@@ -14,9 +14,9 @@ use borrow.Author.Tests.{ltb-true, ltb-false, eqb-true, eqb-false}
 use Rattle.fields.specs.declared.FieldCell.{FieldCell}
 use Rattle.fields.specs.Cell.{Inside}
 use Rattle.fields.proofs.Steps.{true-inside}
-use Rattle.nearest_line.specs.Line.{apart}
-use Rattle.nearest_line.specs.Nearest.{Spanned}
-use Rattle.nearest_line.proofs.Offset.{nearest-ge}
+use Rattle.line_nearest.specs.Line.{apart}
+use Rattle.line_nearest.specs.Nearest.{Spanned}
+use Rattle.line_nearest.proofs.Offset.{nearest-ge}
 use Rattle.line_end.specs.Away.{EdgeAway, Straight}
 use Rattle.line_end.specs.LineEnd.{edge, after, further, slantedEnd, endBy, lineEnd, answer, lineEndAnswer}
 use Rattle.line_end.proofs.First.{slanted-first}

@@ -9,7 +9,7 @@ use native.Mathlib.Omega.{arith}
 use lib.Dec.{ltb}
 use borrow.Author.Tests.{ltb-true, ltb-false, lt-ltb, le-ltb, ne-eqb}
 use Rattle.fields.specs.declared.FieldCell.{FieldCell}
-use Rattle.nearest_line.specs.Line.{apart, nearest}
+use Rattle.line_nearest.specs.Line.{apart, nearest}
 use Rattle.line_end.specs.declared.LineEnd.{LineEnd}
 use Rattle.line_end.specs.LineEnd.{after, further, firstLeaving, slantedEnd, endBy, lineEnd, answer, lineEndAnswer}
 use Rattle.line_end.specs.Away.{Slants}

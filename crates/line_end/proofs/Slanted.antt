@@ -10,7 +10,7 @@ use native.Mathlib.Omega.{arith}
 use lib.Dec.{leb, ltb}
 use borrow.Author.Tests.{ltb-true, ltb-false, leb-true, leb-false, ne-eqb}
 use Rattle.fields.specs.declared.FieldCell.{FieldCell}
-use Rattle.nearest_line.specs.Nearest.{Between}
+use Rattle.line_nearest.specs.Nearest.{Between}
 use Rattle.line_end.specs.Away.{Onward, EdgeAway, Off, Leaves, Slanted, Slants}
 use Rattle.line_end.specs.LineEnd.{edge, after, further, endBy, lineEnd}
 use Rattle.line_end.proofs.First.{SlantedBy, rightward, downward, rowsBehind, slanted-first, slanted-once}

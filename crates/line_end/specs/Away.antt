@@ -4,8 +4,8 @@ use mathlib.Core.Path.{_≡_}
 use Prim.Native.Nat.{ℕ, _+_, _<_, _≤_}
 use Rattle.fields.specs.declared.FieldCell.{FieldCell}
 use Rattle.fields.specs.Cell.{Inside}
-use Rattle.nearest_line.specs.Line.{apart}
-use Rattle.nearest_line.specs.Nearest.{Between, NearestTo}
+use Rattle.line_nearest.specs.Line.{apart}
+use Rattle.line_nearest.specs.Nearest.{Between, NearestTo}
 use Rattle.line_end.specs.declared.LineEnd.{LineEnd}
 
 -- ---- of a column or a row: the goal's, the corner's, and one that lies away from the goal, on the corner's side

@@ -5,7 +5,7 @@ use Prim.Native.Nat.{ℕ, zero, suc, _+_, _-_, min}
 use lib.Dec.{ltb, eqb}
 use Rattle.fields.specs.declared.FieldCell.{FieldCell}
 use Rattle.fields.specs.Cell.{cell, inside}
-use Rattle.nearest_line.specs.Line.{apart, nearest}
+use Rattle.line_nearest.specs.Line.{apart, nearest}
 use Rattle.line_end.specs.declared.LineEnd.{LineEnd}
 
 -- ---- away from the goal

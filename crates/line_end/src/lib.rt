@@ -3,7 +3,7 @@ use fields::FieldCell;
 ghost use mathlib.Core.Path.{_≡_};
 ghost use Prim.Native.Nat.{_<_, _≤_, min};
 ghost use Rattle.fields.specs.Cell.{Inside};
-ghost use Rattle.nearest_line.specs.Line.{nearest};
+ghost use Rattle.line_nearest.specs.Line.{nearest};
 ghost use Rattle.line_end.specs.LineEnd.{edge, after, further, firstLeaving, slantedEnd, lineEnd, lineEndAnswer};
 ghost use Rattle.line_end.specs.Away.{HoldsSlanted, HoldsStraight, EndRefused};
 ghost use Rattle.line_end.specs.Mirror.{HoldsMirrored};
@@ -77,8 +77,8 @@ fn slanted_end(rightward: bool, downward: bool, corner: FieldCell, goal: FieldCe
     requires { ⌜ Inside corner × Inside goal × (corner .column ≡ goal .column → ⊥) ⌝ }
     ensures { λ r. ⌜ r ≡ slantedEnd rightward downward corner goal ⌝ }
 {
-    let rise = nearest_line::distance(goal.row, corner.row);
-    let span = nearest_line::distance(goal.column, corner.column);
+    let rise = line_nearest::distance(goal.row, corner.row);
+    let span = line_nearest::distance(goal.column, corner.column);
     let behind = after(downward, goal.row);
     let j = first_leaving(rise, span, behind, after(rightward, corner.column));
     let rows = smaller(behind, nearest_row(rise, span, span + j));

@@ -6,8 +6,8 @@ use mathlib.Core.List.{List, [], _∷_, map}
 use Prim.Native.Nat.{ℕ}
 use lib.ListN.{set, replicate, getD}
 use Rattle.fields.specs.Cell.{stepped}
-use Rattle.nearest_line.specs.Table.{table}
-use Rattle.nearest_line.specs.Line.{toward, nearest, shallow, steep, line}
+use Rattle.line_nearest.specs.Table.{table}
+use Rattle.line_nearest.specs.Line.{toward, nearest, shallow, steep, line}
 use Rattle.line_end.specs.LineEnd.{firstEnding, slantedEnd, endBy, lineEnd}
 use Rattle.route.specs.Step.{portalOf}
 use Rattle.route.specs.Target.{bySight, targetOf}

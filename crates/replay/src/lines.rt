@@ -1,7 +1,7 @@
 // The records of the line calls.
 use fields::FieldCell;
 use line_end::LineEnd;
-use nearest_line::Line;
+use line_nearest::Line;
 use records::byte_at;
 use records::part;
 use records::size_at;

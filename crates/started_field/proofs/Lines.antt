@@ -8,8 +8,8 @@ use lib.ListN.{length, getD, length-map, List·getD-map}
 use Rattle.fields.specs.declared.FieldCell.{FieldCell}
 use Rattle.fields.specs.Cell.{cell, Inside, cellAt, indexOf}
 use Rattle.fields.proofs.Steps.{cell-inside, cell-of-index, index-of-cell, index-below}
-use Rattle.nearest_line.specs.Line.{line}
-use Rattle.nearest_line.proofs.Theorem.{line-first, line-some, line-room, line-spanned, line-inside}
+use Rattle.line_nearest.specs.Line.{line}
+use Rattle.line_nearest.proofs.Theorem.{line-first, line-some, line-room, line-spanned, line-inside}
 use Rattle.line_end.specs.LineEnd.{lineEnd}
 use Rattle.line_end.proofs.Laws.{end-inside, misses-goal}
 use Rattle.started_field.specs.CornerLine.{cornerLine}

@@ -3,7 +3,7 @@
 use mathlib.Core.List.{List, map}
 use Prim.Native.Nat.{ℕ}
 use Rattle.fields.specs.Cell.{cellAt, indexOf}
-use Rattle.nearest_line.specs.Line.{line}
+use Rattle.line_nearest.specs.Line.{line}
 use Rattle.line_end.specs.LineEnd.{lineEnd}
 
 -- the indexes of its cells, in order

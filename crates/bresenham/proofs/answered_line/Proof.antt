@@ -11,9 +11,9 @@ use lib.ListN.{length, getD, set, take, length-take, length-map}
 use lib.Seq.{take-suc}
 use Rattle.fields.specs.declared.FieldCell.{FieldCell}
 use Rattle.fields.specs.Cell.{cell, cellAt}
-use Rattle.nearest_line.specs.declared.Line.{Line}
-use Rattle.nearest_line.specs.Line.{padded, answered}
-use Rattle.nearest_line.proofs.Lists.{behind-set}
+use Rattle.line_nearest.specs.declared.Line.{Line}
+use Rattle.line_nearest.specs.Line.{padded, answered}
+use Rattle.line_nearest.proofs.Lists.{behind-set}
 use Rattle.bresenham.proofs.answered_line.Statement.{statement}
 use Rattle.bresenham.proofs.answered_line.Tie as tie
 

@@ -6,8 +6,8 @@ use Prim.Native.Nat.{ℕ, _<_, _≤_}
 use native.Mathlib.Nat.{le-of-lt}
 use borrow.Author.Needs.{needs}
 use Rattle.fields.specs.declared.FieldCell.{FieldCell}
-use Rattle.nearest_line.specs.Line.{apart, shallow, steep}
-use Rattle.nearest_line.proofs.Calls.{shallow-forth, shallow-back, steep-forth, steep-back}
+use Rattle.line_nearest.specs.Line.{apart, shallow, steep}
+use Rattle.line_nearest.proofs.Calls.{shallow-forth, shallow-back, steep-forth, steep-back}
 use Rattle.bresenham.specs.Inner.{DrawnIn}
 use Rattle.bresenham.proofs.draw_cells_between_points.Statement.{statement}
 use Rattle.bresenham.proofs.draw_cells_between_points.Tie as tie

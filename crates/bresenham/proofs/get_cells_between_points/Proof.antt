@@ -10,9 +10,9 @@ use borrow.Author.Tests.{not-true, not-false}
 use lib.ListN.{length}
 use Rattle.fields.specs.declared.FieldCell.{FieldCell}
 use Rattle.fields.specs.Cell.{inside, Inside}
-use Rattle.nearest_line.specs.Line.{line, lineCall}
-use Rattle.nearest_line.proofs.Calls.{both-in, promised, outside, accepted}
-use Rattle.nearest_line.proofs.Theorem.{line-room, line-inside}
+use Rattle.line_nearest.specs.Line.{line, lineCall}
+use Rattle.line_nearest.proofs.Calls.{both-in, promised, outside, accepted}
+use Rattle.line_nearest.proofs.Theorem.{line-room, line-inside}
 use Rattle.bresenham.proofs.Drawn.{drawn-full, drawn-answer}
 use Rattle.bresenham.proofs.get_cells_between_points.Statement.{statement}
 use Rattle.bresenham.proofs.get_cells_between_points.Tie as tie

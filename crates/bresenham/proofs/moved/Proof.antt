@@ -1,6 +1,6 @@
 -- `bresenham::moved`: a coordinate moved by an offset, up or down.
 -- Assumes nothing.
-use Rattle.nearest_line.specs.Line.{toward}
+use Rattle.line_nearest.specs.Line.{toward}
 use borrow.Author.Needs.{needs}
 use Rattle.bresenham.proofs.moved.Statement.{statement}
 use Rattle.bresenham.proofs.moved.Tie as tie

@@ -9,9 +9,9 @@ use borrow.Author.Needs.{needs}
 use lib.ListN.{set}
 use Rattle.fields.specs.declared.FieldCell.{FieldCell}
 use Rattle.fields.specs.Cell.{indexOf}
-use Rattle.nearest_line.specs.Line.{toward, offsetAt, placed, walkAt}
-use Rattle.nearest_line.proofs.Offset.{State, start, at-step, within, up, level}
-use Rattle.nearest_line.proofs.Walks.{cells-many}
+use Rattle.line_nearest.specs.Line.{toward, offsetAt, placed, walkAt}
+use Rattle.line_nearest.proofs.Offset.{State, start, at-step, within, up, level}
+use Rattle.line_nearest.proofs.Walks.{cells-many}
 use Rattle.bresenham.proofs.Places.{written, none-written, one-more}
 use Rattle.bresenham.proofs.Drawn.{walk-drawn}
 use Rattle.bresenham.proofs.walk.Statement.{statement}

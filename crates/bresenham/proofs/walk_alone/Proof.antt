@@ -11,8 +11,8 @@ use borrow.Author.Tests.{not-true, not-false}
 use lib.ListN.{length}
 use Rattle.fields.specs.declared.FieldCell.{FieldCell}
 use Rattle.fields.specs.Cell.{inside}
-use Rattle.nearest_line.specs.Line.{placed, walkCells, answered}
-use Rattle.nearest_line.proofs.Calls.{both-in, outside, accepted, placed-in, none-back}
+use Rattle.line_nearest.specs.Line.{placed, walkCells, answered}
+use Rattle.line_nearest.proofs.Calls.{both-in, outside, accepted, placed-in, none-back}
 use Rattle.bresenham.proofs.Drawn.{drawn-full, drawn-answer, walk-few, walk-inside}
 use Rattle.bresenham.proofs.walk_alone.Statement.{statement}
 use Rattle.bresenham.proofs.walk_alone.Tie as tie

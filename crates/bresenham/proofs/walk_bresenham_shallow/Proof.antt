@@ -2,8 +2,8 @@
 -- Assumes nothing.
 use borrow.Author.Needs.{needs}
 use Rattle.fields.specs.Cell.{cell}
-use Rattle.nearest_line.specs.Line.{shallow}
-use Rattle.nearest_line.proofs.Calls.{places, shallow-held}
+use Rattle.line_nearest.specs.Line.{shallow}
+use Rattle.line_nearest.proofs.Calls.{places, shallow-held}
 use Rattle.bresenham.proofs.walk_bresenham_shallow.Statement.{statement}
 use Rattle.bresenham.proofs.walk_bresenham_shallow.Tie as tie
 

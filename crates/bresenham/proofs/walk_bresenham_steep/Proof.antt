@@ -2,8 +2,8 @@
 -- Assumes nothing.
 use borrow.Author.Needs.{needs}
 use Rattle.fields.specs.Cell.{cell}
-use Rattle.nearest_line.specs.Line.{steep}
-use Rattle.nearest_line.proofs.Calls.{places, steep-held}
+use Rattle.line_nearest.specs.Line.{steep}
+use Rattle.line_nearest.proofs.Calls.{places, steep-held}
 use Rattle.bresenham.proofs.walk_bresenham_steep.Statement.{statement}
 use Rattle.bresenham.proofs.walk_bresenham_steep.Tie as tie
 

@@ -10,7 +10,7 @@ use Rattle.fields.specs.Cell.{Inside, cellAt, indexOf}
 use Rattle.fields.proofs.Steps.{cell-inside, cell-of-index}
 use Rattle.line_end.specs.LineEnd.{lineEnd}
 use Rattle.line_end.proofs.Laws.{end-inside}
-use Rattle.nearest_line.specs.Line.{line}
+use Rattle.line_nearest.specs.Line.{line}
 use Rattle.bresenham.proofs.Drawn.{drawn-list}
 use Rattle.integration_field.specs.Listed.{Indexes}
 use Rattle.started_field.specs.Sight.{extended}

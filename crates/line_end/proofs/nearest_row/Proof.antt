@@ -5,7 +5,7 @@ use Prim.Native.Nat.{ℕ, _*_, _<_, _≤_}
 use native.Mathlib.Nat.{mul-le-mul-right}
 use native.Mathlib.Omega.{arith}
 use borrow.Author.Needs.{needs}
-use Rattle.nearest_line.specs.Line.{nearest}
+use Rattle.line_nearest.specs.Line.{nearest}
 use Rattle.line_end.proofs.nearest_row.Statement.{statement}
 use Rattle.line_end.proofs.nearest_row.Tie as tie
 

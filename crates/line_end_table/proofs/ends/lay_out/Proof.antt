@@ -1,7 +1,7 @@
 -- `line_end_table::ends::lay_out` meets its contract. That the table passes the test is computed here, once for all of its 10,000 entries.
 -- Assumes nothing.
 use mathlib.Core.Path.{refl}
-use Rattle.nearest_line.specs.Line.{nearest}
+use Rattle.line_nearest.specs.Line.{nearest}
 use Rattle.line_end.specs.LineEnd.{firstEnding, slantedEnd, endBy, lineEnd}
 use Rattle.line_end_table.proofs.Table.{every-end}
 use Rattle.line_end_table.proofs.ends.lay_out.Statement.{statement}

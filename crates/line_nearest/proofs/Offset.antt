@@ -8,8 +8,8 @@ use native.Mathlib.Nat.{mul-comm, mul-left-comm, mul-assoc, mul-add, add-mul, on
 use native.Mathlib.Omega.{arith}
 use lib.Dec.{leb}
 use borrow.Author.Tests.{leb-true, leb-false}
-use Rattle.nearest_line.specs.Line.{apart, toward, nearest, offsetAt, minorAt}
-use Rattle.nearest_line.specs.Nearest.{Between, NearestTo}
+use Rattle.line_nearest.specs.Line.{apart, toward, nearest, offsetAt, minorAt}
+use Rattle.line_nearest.specs.Nearest.{Between, NearestTo}
 
 -- q is x / (2 * m), from the two bounds
 quotient : (m q x : ℕ) → 0 < m → 2 * (m * q) ≤ x → x < 2 * (m * q) + 2 * m → q ≡ x / (2 * m)

@@ -14,8 +14,8 @@ use Rattle.fields.specs.declared.FieldCell.{FieldCell}
 use Rattle.fields.specs.declared.Stepped.the-variants.{Cell}
 use Rattle.fields.specs.Cell.{Inside, stepped}
 use Rattle.fields.proofs.Steps.{stepped-cell, told, steps-by}
-use Rattle.nearest_line.specs.Line.{apart}
-use Rattle.nearest_line.specs.Nearest.{Neighbours}
+use Rattle.line_nearest.specs.Line.{apart}
+use Rattle.line_nearest.specs.Nearest.{Neighbours}
 
 -- two coordinates of which one is 1 apart and the other at most 1
 record Close (a b x y : ℕ) : Type 0 where

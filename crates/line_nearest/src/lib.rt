@@ -1,7 +1,7 @@
 // The line between two cells and its two walks: what they are, and the theorem that they are the nearest-cell line.
 use fields::FieldCell;
 ghost use mathlib.Core.Path.{_≡_};
-ghost use Rattle.nearest_line.specs.Line.{apart};
+ghost use Rattle.line_nearest.specs.Line.{apart};
 
 // The cells of a line, and how many they are; the places beyond hold 0. A refused call's number says why.
 #[repr(C)]

@@ -9,11 +9,11 @@ use native.Mathlib.Omega.{arith}
 use lib.ListN.{length, getD, length-reverse}
 use Rattle.fields.specs.declared.FieldCell.{FieldCell}
 use Rattle.fields.specs.Cell.{cell}
-use Rattle.nearest_line.specs.Table.{table}
-use Rattle.nearest_line.specs.Line.{apart, nearest, minorAt, walkAt, shallow, steep}
-use Rattle.nearest_line.specs.Nearest.{Between, Neighbours, NearestTo, NearestCell, Walked, columnOf, rowOf}
-use Rattle.nearest_line.proofs.Lists.{length-table, getD-table, getD-reverse}
-use Rattle.nearest_line.proofs.Offset.{nearest-is, minor-between, minor-offset, minor-start, minor-end, minor-next}
+use Rattle.line_nearest.specs.Table.{table}
+use Rattle.line_nearest.specs.Line.{apart, nearest, minorAt, walkAt, shallow, steep}
+use Rattle.line_nearest.specs.Nearest.{Between, Neighbours, NearestTo, NearestCell, Walked, columnOf, rowOf}
+use Rattle.line_nearest.proofs.Lists.{length-table, getD-table, getD-reverse}
+use Rattle.line_nearest.proofs.Offset.{nearest-is, minor-between, minor-offset, minor-start, minor-end, minor-next}
 
 -- up to the last step the offset is the nearest number, also in a line of one cell
 offset-nearest : (d m k : ℕ) → k ≤ m → NearestTo d m k (nearest d m k)

@@ -10,7 +10,7 @@ use lib.Dec.{ltb}
 use lib.ListN.{length, getD, set, replicate, length-append, length-reverse, List·getD-append}
 use lib.Seq.{getD-append-add, set-at}
 use borrow.Author.Tests.{ltb-true, ltb-false}
-use Rattle.nearest_line.specs.Table.{table}
+use Rattle.line_nearest.specs.Table.{table}
 
 module _ {A : Type 0} where
   pub length-table : (n : ℕ) (f : ℕ → A) → length (table n f) ≡ n

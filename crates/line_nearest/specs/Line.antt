@@ -8,8 +8,8 @@ use lib.ListN.{length, replicate}
 use Rattle.utilities.specs.Padded.{padded as paddedTo}
 use Rattle.fields.specs.declared.FieldCell.{FieldCell}
 use Rattle.fields.specs.Cell.{cell, inside}
-use Rattle.nearest_line.specs.declared.Line.{Line}
-use Rattle.nearest_line.specs.Table.{table}
+use Rattle.line_nearest.specs.declared.Line.{Line}
+use Rattle.line_nearest.specs.Table.{table}
 
 -- how far apart two coordinates are: one of the two differences is 0
 abbrev pub apart : ℕ → ℕ → ℕ

@@ -18,9 +18,9 @@ use lib.ListN.{length, getD}
 use borrow.Author.Tests.{leb-true, leb-false, ltb-true, ltb-false}
 use Rattle.fields.specs.declared.FieldCell.{FieldCell}
 use Rattle.fields.specs.Cell.{cell, Inside}
-use Rattle.nearest_line.specs.Line.{apart, shallow, steep, line}
-use Rattle.nearest_line.specs.Nearest.{Between, NearestWalk, Walked, columnOf, rowOf, NearestLine, Spanned}
-use Rattle.nearest_line.proofs.Walks.{walked-back, shallow-walked, steep-walked}
+use Rattle.line_nearest.specs.Line.{apart, shallow, steep, line}
+use Rattle.line_nearest.specs.Nearest.{Between, NearestWalk, Walked, columnOf, rowOf, NearestLine, Spanned}
+use Rattle.line_nearest.proofs.Walks.{walked-back, shallow-walked, steep-walked}
 
 -- one of two, by a test and what it told
 by-test : {A : Type 0} (P : A → Type 0) (b : Bool) (x y : A) → (b ≡ true → P x) → (b ≡ false → P y) → P (cond b x y)

@@ -3,8 +3,8 @@
 use mathlib.Core.Path.{_≡_, refl}
 use mathlib.Core.List.{[], _∷_}
 use Rattle.fields.specs.Cell.{cell}
-use Rattle.nearest_line.specs.Table.{table}
-use Rattle.nearest_line.specs.Line.{toward, nearest, shallow, answered, shallowCall}
+use Rattle.line_nearest.specs.Table.{table}
+use Rattle.line_nearest.specs.Line.{toward, nearest, shallow, answered, shallowCall}
 
 pub wide-walk : shallow (cell 0 0) (cell 1 5) ≡ cell 0 0 ∷ cell 1 1 ∷ []
 unfolding toward nearest table shallow

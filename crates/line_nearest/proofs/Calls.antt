@@ -12,12 +12,12 @@ use borrow.Author.Tests.{ltb-true, lt-ltb, le-ltb, le-leb, lt-leb}
 use Rattle.utilities.proofs.Padded.{all-zero, padded-beyond}
 use Rattle.fields.specs.declared.FieldCell.{FieldCell}
 use Rattle.fields.specs.Cell.{cell, Inside, inside}
-use Rattle.nearest_line.specs.declared.Line.{Line}
-use Rattle.nearest_line.specs.Table.{table}
-use Rattle.nearest_line.specs.Line.{apart, placed, walkCells, shallow, steep, line, answered, refused, called, lineCall}
-use Rattle.nearest_line.specs.Nearest.{NearestLine, HoldsNearestLine, Walked, HoldsNearestWalk, columnOf, rowOf, CellsBeyond, LineRefused}
-use Rattle.nearest_line.proofs.Walks.{shallow-walked, steep-walked}
-use Rattle.nearest_line.proofs.Theorem.{nearest-line}
+use Rattle.line_nearest.specs.declared.Line.{Line}
+use Rattle.line_nearest.specs.Table.{table}
+use Rattle.line_nearest.specs.Line.{apart, placed, walkCells, shallow, steep, line, answered, refused, called, lineCall}
+use Rattle.line_nearest.specs.Nearest.{NearestLine, HoldsNearestLine, Walked, HoldsNearestWalk, columnOf, rowOf, CellsBeyond, LineRefused}
+use Rattle.line_nearest.proofs.Walks.{shallow-walked, steep-walked}
+use Rattle.line_nearest.proofs.Theorem.{nearest-line}
 
 and-true : (a b : Bool) → (a && b) ≡ true → (a ≡ true) × (b ≡ true)
 and-true true b e = (refl, e)

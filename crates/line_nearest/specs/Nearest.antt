@@ -7,8 +7,8 @@ use lib.ListN.{length, getD, take}
 use Rattle.utilities.specs.Padded.{ZeroBeyond, AllZero}
 use Rattle.fields.specs.declared.FieldCell.{FieldCell}
 use Rattle.fields.specs.Cell.{cell, Inside}
-use Rattle.nearest_line.specs.declared.Line.{Line}
-use Rattle.nearest_line.specs.Line.{apart}
+use Rattle.line_nearest.specs.declared.Line.{Line}
+use Rattle.line_nearest.specs.Line.{apart}
 
 -- x lies between a and b, or is one of them
 pub record Between (a b x : ℕ) : Type 0 where
