@@ -19,11 +19,11 @@ use Rattle.route.specs.Target.{Target, to-goal, to-window, to-corner, windowOf,
 use Rattle.integration_field.specs.Word.{isGoal, isPortal}
 use Rattle.integration_field.specs.Listed.{listOf}
 use Rattle.integration_field.proofs.Flags.{small-flag}
-use Rattle.started_field.specs.StartedCell.{Among}
-use Rattle.started_field.specs.Started.{started, StartedCells}
-use Rattle.started_field.proofs.Started.{started-field}
-use Rattle.least_walks.proofs.Promise.{started-walks}
-use Rattle.least_walks.proofs.Ground.{mem-among}
+use Rattle.integration_started.specs.StartedCell.{Among}
+use Rattle.integration_started.specs.Started.{started, StartedCells}
+use Rattle.integration_started.proofs.Started.{started-field}
+use Rattle.integration_walks.proofs.Promise.{started-walks}
+use Rattle.integration_walks.proofs.Ground.{mem-among}
 use Rattle.flow_byte.specs.New.{isIn, startOf, windowBits, newByte, newBytes}
 use Rattle.flow_byte.specs.Look.{lookedByte, lookAround, builtByte, flowBuild}
 use Rattle.arrows.specs.Promise.{builtCells}

@@ -34,12 +34,12 @@ use Rattle.integration_field.specs.Diagonal.{wallAt, passesWall}
 use Rattle.integration_field.specs.Listed.{listOf}
 use Rattle.integration_field.specs.Promise.{Walked, LeastWalks}
 use Rattle.integration_field.proofs.Flags.{small-flag}
-use Rattle.started_field.specs.Started.{started}
-use Rattle.started_field.proofs.Started.{started-field}
-use Rattle.least_walks.specs.Walks.{Wall}
-use Rattle.least_walks.proofs.Started.{Ground}
-use Rattle.least_walks.proofs.Ground.{among-mem}
-use Rattle.least_walks.proofs.Promise.{started-ground, started-walks}
+use Rattle.integration_started.specs.Started.{started}
+use Rattle.integration_started.proofs.Started.{started-field}
+use Rattle.integration_walks.specs.Walks.{Wall}
+use Rattle.integration_walks.proofs.Started.{Ground}
+use Rattle.integration_walks.proofs.Ground.{among-mem}
+use Rattle.integration_walks.proofs.Promise.{started-ground, started-walks}
 use Rattle.flow_byte.specs.Look.{Look, Looking, Taken, Ended, lookedByte, lookAround, pointed, builtByte, flowBuild}
 use Rattle.flow_bits.specs.Byte as byte
 use Rattle.flow_bits.specs.Byte.{bitsOf}

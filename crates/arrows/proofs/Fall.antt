@@ -20,13 +20,13 @@ use lib.ListN.{getD}
 use borrow.Author.Tests.{le-leb, lt-leb, eqb-true, eq-eqb}
 use Rattle.fields.specs.Neighbours.{BesideAt}
 use Rattle.fields.proofs.Beside.{beside-below}
-use Rattle.waves.specs.Walks.{start, move}
-use Rattle.waves.proofs.Count.{bit, count, count-le, count-more, leb-grows}
+use Rattle.integration_waves.specs.Walks.{start, move}
+use Rattle.integration_waves.proofs.Count.{bit, count, count-le, count-more, leb-grows}
 use Rattle.integration_field.specs.Word.{low, isLos, isImpassable}
 use Rattle.integration_field.specs.Walks.{Permitted}
 use Rattle.integration_field.specs.Promise.{Walked, LeastWalks}
-use Rattle.started_field.specs.StartedCell.{Among, WindowStarted, CornerStarted}
-use Rattle.least_walks.proofs.Ground.{among-mem, mem-among}
+use Rattle.integration_started.specs.StartedCell.{Among, WindowStarted, CornerStarted}
+use Rattle.integration_walks.proofs.Ground.{among-mem, mem-among}
 use Rattle.flow_byte.specs.New.{isIn}
 
 -- ---- a list has an entry

@@ -36,13 +36,13 @@ use Rattle.integration_field.specs.Diagonal.{wallAt, passesWall}
 use Rattle.integration_field.specs.Listed.{listOf}
 use Rattle.integration_field.specs.Answer.{buildAnswer}
 use Rattle.integration_field.proofs.Flags.{small-flag}
-use Rattle.started_field.specs.StartedCell.{Among}
-use Rattle.started_field.specs.declared.InitAnswer.{InitAnswer}
-use Rattle.started_field.specs.Started.{started, initNumber, initAnswer}
-use Rattle.started_field.proofs.Started.{accepted-target, answered}
-use Rattle.least_walks.specs.Walks.{Wall}
-use Rattle.least_walks.proofs.Ground.{among-mem, mem-among}
-use Rattle.least_walks.proofs.Promise.{built}
+use Rattle.integration_started.specs.StartedCell.{Among}
+use Rattle.integration_started.specs.declared.InitAnswer.{InitAnswer}
+use Rattle.integration_started.specs.Started.{started, initNumber, initAnswer}
+use Rattle.integration_started.proofs.Started.{accepted-target, answered}
+use Rattle.integration_walks.specs.Walks.{Wall}
+use Rattle.integration_walks.proofs.Ground.{among-mem, mem-among}
+use Rattle.integration_walks.proofs.Promise.{built}
 use Rattle.flow_byte.specs.Look.{Look, Looking, Taken, Ended, lookedByte, lookAround, pointed, flowBuild}
 use Rattle.flow_bits.specs.Byte.{bitsOf, dirOf, isImpassable}
 use Rattle.flow_byte.specs.New.{startOf, windowBits, newBytes}

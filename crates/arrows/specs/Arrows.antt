@@ -10,7 +10,7 @@ use lib.ListN.{getD}
 use Rattle.fields.specs.Cell.{cell, indexOf}
 use Rattle.route.specs.Target.{Target, EndCell}
 use Rattle.integration_field.specs.Word.{low}
-use Rattle.least_walks.specs.Walks.{Wall}
+use Rattle.integration_walks.specs.Walks.{Wall}
 use Rattle.flow_bits.specs.Byte.{isImpassable}
 
 -- a cell's built cost: its low 16 bits

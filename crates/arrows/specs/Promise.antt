@@ -9,8 +9,8 @@ use lib.ListN.{length, getD}
 use Rattle.route.specs.Target.{Target, byWindow, isSightless, TargetIn, targetOf}
 use Rattle.integration_field.specs.declared.IntegrationField.{IntegrationField}
 use Rattle.integration_field.specs.Built.{builtField}
-use Rattle.started_field.specs.Started.{started, initNumber}
-use Rattle.least_walks.specs.Promise.{SameStart}
+use Rattle.integration_started.specs.Started.{started, initNumber}
+use Rattle.integration_walks.specs.Promise.{SameStart}
 use Rattle.flow_byte.specs.New.{flowNew}
 use Rattle.flow_byte.specs.Look.{flowBuild}
 use Rattle.arrows.specs.Arrows.{ClearArrows, ArrowsLead}

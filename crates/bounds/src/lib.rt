@@ -88,10 +88,10 @@ fn run(low: &[u8], high: &[u8], target: Target) -> Bounds
     requires { ⌜ FloorsReady (now low) (now high) target ⌝ }
     ensures { λ r. ⌜ r ≡ acceptedBounds (now (low .entry)) (now (high .entry)) (heldTarget target) ⌝ }
 {
-    let lowest = target_field::build_window(low, target);
+    let lowest = integration_target::build_window(low, target);
     let cells = lowest.field;
     let least = sure_cells::costs_of(&cells);
-    let highest = target_field::build_window(high, target);
+    let highest = integration_target::build_window(high, target);
     let other = highest.field;
     let greatest = sure_cells::costs_of(&other);
     let sure = sure_cells::sure_cells(&cells, &least, &greatest);

@@ -22,7 +22,7 @@ use Rattle.integration_field.specs.Wave.{relaxed, offeredAround, offeredBy, cha
 use Rattle.integration_field.specs.Rest.{total}
 use Rattle.integration_field.specs.Build.{isEmpty, settle, build}
 use Rattle.integration_field.specs.Position.{firstPosition, arrivesFrom, positionAt}
-use Rattle.started_field.specs.Sight.{
+use Rattle.integration_started.specs.Sight.{
   walls,
   withPortals,
   withGoal,
@@ -37,8 +37,8 @@ use Rattle.started_field.specs.Sight.{
   waveLooked,
   sightAfter,
 }
-use Rattle.started_field.specs.CornerLine.{cornerLine}
-use Rattle.started_field.specs.Started.{sightFrom, startedFrom, startedAt, started, initNumber}
+use Rattle.integration_started.specs.CornerLine.{cornerLine}
+use Rattle.integration_started.specs.Started.{sightFrom, startedFrom, startedAt, started, initNumber}
 use Rattle.flow_bits.specs.Byte.{isGoal, isPortalGoal, hasLineOfSight, isWall}
 use Rattle.flow_byte.specs.New.{startOf, facingBits, facingChoice, windowBits, newByte, newBytes}
 use Rattle.flow_byte.specs.Look as look

@@ -17,8 +17,8 @@ use Rattle.integration_field.specs.Diagonal.{passesWall}
 use Rattle.integration_field.specs.Wave.{relaxed, offeredAround, offeredBy, changedFrom, next}
 use Rattle.integration_field.specs.Rest.{total}
 use Rattle.integration_field.specs.Build.{isEmpty, settle, build}
-use Rattle.started_field.specs.Sight.{walls, withPortals}
-use Rattle.started_field.specs.Started.{startedAt, started}
+use Rattle.integration_started.specs.Sight.{walls, withPortals}
+use Rattle.integration_started.specs.Started.{startedAt, started}
 use Rattle.cost_bounds.specs.Bounds.{boundsNumber, permittedAlong, isSure, boundsAnswer}
 
 -- the window cells 0 to 0, or 0 to 1, of the North edge; and a goal, cell 0

@@ -15,7 +15,7 @@ use lib.ListN.{length, getD}
 use lib.Seq.{ext-getD}
 use borrow.Author.Tests.{eqb-true, eqb-false, eq-eqb, ne-eqb}
 use Rattle.fields.proofs.Beside.{beside-below}
-use Rattle.waves.specs.Walks.{start, move}
+use Rattle.integration_waves.specs.Walks.{start, move}
 use Rattle.route.specs.Target.{to-window}
 use Rattle.integration_field.specs.Word.{low, isGoal, isPortal, isImpassable}
 use Rattle.integration_field.specs.Walks.{MayEnter, Permitted}
@@ -23,11 +23,11 @@ use Rattle.integration_field.specs.Promise.{Walked, LeastWalks}
 use Rattle.integration_field.specs.Diagonal.{wallAt}
 use Rattle.integration_field.specs.Listed.{withCorners}
 use Rattle.integration_field.proofs.Flags.{small-flag}
-use Rattle.started_field.specs.Sight.{walls, withPortals}
-use Rattle.started_field.specs.Started.{startedAt, started}
-use Rattle.started_field.proofs.Before.{walls-length}
-use Rattle.started_field.proofs.Words.{word-at}
-use Rattle.least_walks.proofs.Ground.{mem-among}
+use Rattle.integration_started.specs.Sight.{walls, withPortals}
+use Rattle.integration_started.specs.Started.{startedAt, started}
+use Rattle.integration_started.proofs.Before.{walls-length}
+use Rattle.integration_started.proofs.Words.{word-at}
+use Rattle.integration_walks.proofs.Ground.{mem-among}
 use Rattle.flow_byte.specs.New.{isIn}
 use Rattle.arrows.proofs.Fall.{is-in, not-in, Sector, value, Plain, end-word, by-kind, spreads}
 use Rattle.arrows.proofs.CellBytes.{small-untaken}

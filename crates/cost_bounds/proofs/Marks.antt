@@ -17,8 +17,8 @@ use Rattle.route.specs.Target.{to-window}
 use Rattle.integration_field.specs.Word.{isImpassable}
 use Rattle.integration_field.specs.Diagonal.{wallAt}
 use Rattle.integration_field.proofs.Flags.{small-flag}
-use Rattle.least_walks.specs.Walks.{Wall}
-use Rattle.least_walks.proofs.Ground.{among-mem, mem-among}
+use Rattle.integration_walks.specs.Walks.{Wall}
+use Rattle.integration_walks.proofs.Ground.{among-mem, mem-among}
 use Rattle.flow_byte.specs.New.{isIn}
 use Rattle.arrows.proofs.Fall.{is-in, in-among, Sector, wall-word, by-kind}
 use Rattle.cost_bounds.specs.Bounds.{someOf, everyOf, permittedFrom, isBelowOthers, isSure}

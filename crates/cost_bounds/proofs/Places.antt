@@ -11,7 +11,7 @@ use Rattle.fields.specs.Cell.{cellAt, indexOf}
 use Rattle.fields.proofs.Steps.{stepped-cell, index-of-cell}
 use Rattle.route.specs.Target.{Target}
 use Rattle.integration_field.specs.Diagonal.{wallAt, passesWall}
-use Rattle.least_walks.specs.Walks.{Wall}
+use Rattle.integration_walks.specs.Walks.{Wall}
 use Rattle.flow_bits.specs.Byte.{bitsOf, dirOf}
 use Rattle.arrows.specs.Arrows.{Away}
 use Rattle.arrows.proofs.Around.{Sees, sees, near-in, pointing-in}

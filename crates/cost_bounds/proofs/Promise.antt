@@ -17,8 +17,8 @@ use Rattle.integration_field.specs.declared.IntegrationField.{IntegrationField}
 use Rattle.integration_field.specs.Word.{isPortal}
 use Rattle.integration_field.specs.Listed.{listOf}
 use Rattle.integration_field.proofs.Flags.{small-flag}
-use Rattle.started_field.specs.Started.{started}
-use Rattle.least_walks.proofs.Ground.{among-mem, mem-among}
+use Rattle.integration_started.specs.Started.{started}
+use Rattle.integration_walks.proofs.Ground.{among-mem, mem-among}
 use Rattle.flow_bits.specs.Byte.{bitsOf}
 use Rattle.flow_byte.specs.New.{isIn, newBytes}
 use Rattle.flow_byte.specs.Look.{flowBuild}

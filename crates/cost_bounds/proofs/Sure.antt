@@ -18,7 +18,7 @@ use Rattle.fields.proofs.Steps.{stepped-cell}
 use Rattle.route.specs.declared.PortalWindow.{PortalWindow}
 use Rattle.route.specs.Target.{to-window, WindowCell}
 use Rattle.integration_field.specs.Word.{low, isGoal, isPortal}
-use Rattle.least_walks.proofs.Ground.{among-mem, mem-among}
+use Rattle.integration_walks.proofs.Ground.{among-mem, mem-among}
 use Rattle.flow_byte.specs.Look.{Look, Looking, Taken, Ended, lookAround, lookedByte, pointed, flowBuild}
 use Rattle.flow_byte.specs.New.{newBytes}
 use Rattle.arrows.specs.Arrows.{arrow, Away}

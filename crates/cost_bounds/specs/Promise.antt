@@ -14,7 +14,7 @@ use Rattle.fields.specs.declared.Stepped.the-variants.{Cell}
 use Rattle.fields.specs.Cell.{cellAt, stepped}
 use Rattle.route.specs.Step.{markOf, stepNumberOn}
 use Rattle.route.specs.Target.{Target, WindowCell}
-use Rattle.least_walks.specs.Walks.{Wall}
+use Rattle.integration_walks.specs.Walks.{Wall}
 use Rattle.flow_byte.specs.Look.{Looking, lookAt}
 use Rattle.arrows.specs.Arrows.{builtCost, Reached, arrow, Away, PassesWall}
 use Rattle.arrows.specs.Promise.{builtCells}

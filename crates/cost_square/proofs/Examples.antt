@@ -15,8 +15,8 @@ use Rattle.step_list.specs.Steps.{stepsIn}
 use Rattle.integration_field.specs.Wave.{relaxed, offeredAround, offeredBy, changedFrom, next}
 use Rattle.integration_field.specs.Rest.{total}
 use Rattle.integration_field.specs.Build.{isEmpty, settle, build}
-use Rattle.started_field.specs.Sight.{walls, withPortals}
-use Rattle.started_field.specs.Started.{startedAt, started}
+use Rattle.integration_started.specs.Sight.{walls, withPortals}
+use Rattle.integration_started.specs.Started.{startedAt, started}
 use Rattle.cost_square.specs.Square.{windowStepNumber, windowCostsNumber, windowCost, costSquare, squareIn, windowCostsAnswer}
 
 -- the window from a first to a last cell of the North edge, in a sector; and a goal, cell 0

@@ -22,8 +22,8 @@ use Rattle.step_list.specs.Steps.{stepsOf, stepOf}
 use Rattle.step_list.proofs.Steps.{steps-count, step-of}
 use Rattle.utilities.proofs.Lists.{table-length, table-at}
 use Rattle.integration_field.specs.Word.{low}
-use Rattle.least_walks.proofs.Ground.{mem-among}
-use Rattle.least_walks.proofs.Promise.{demand3}
+use Rattle.integration_walks.proofs.Ground.{mem-among}
+use Rattle.integration_walks.proofs.Promise.{demand3}
 use Rattle.arrows.specs.Arrows.{builtCost}
 use Rattle.arrows.specs.Promise.{builtCells}
 use Rattle.arrows.proofs.Fall.{end-word}

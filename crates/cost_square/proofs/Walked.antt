@@ -9,15 +9,15 @@ use mathlib.Core.List.{List}
 use Prim.Native.Nat.{ℕ, _≤_, _<_}
 use native.Mathlib.Omega.{arith}
 use lib.ListN.{length, getD}
-use Rattle.waves.specs.Walks.{start, move}
+use Rattle.integration_waves.specs.Walks.{start, move}
 use Rattle.route.specs.Target.{to-window, GoalCell, WindowIn}
 use Rattle.integration_field.specs.Word.{low, isImpassable}
 use Rattle.integration_field.specs.Listed.{listOf}
 use Rattle.integration_field.proofs.Flags.{small-flag}
-use Rattle.started_field.specs.Started.{started}
-use Rattle.least_walks.specs.Walks.{Wall, Enterable, StartedLeast}
-use Rattle.least_walks.proofs.Ground.{among-mem, mem-among}
-use Rattle.least_walks.proofs.Promise.{demand3}
+use Rattle.integration_started.specs.Started.{started}
+use Rattle.integration_walks.specs.Walks.{Wall, Enterable, StartedLeast}
+use Rattle.integration_walks.proofs.Ground.{among-mem, mem-among}
+use Rattle.integration_walks.proofs.Promise.{demand3}
 use Rattle.arrows.specs.Arrows.{builtCost}
 use Rattle.arrows.specs.Promise.{builtCells}
 use Rattle.arrows.proofs.Fall.{Sector, Plain, end-word, by-kind, spreads}

@@ -11,9 +11,9 @@ use Rattle.route.specs.Target.{Target, GoalCell, targetOf, StepWindow}
 use Rattle.step_list.specs.Steps.{stepsOf, stepOf}
 use Rattle.integration_field.specs.Listed.{listOf}
 use Rattle.integration_field.specs.Built.{waveCount}
-use Rattle.started_field.specs.Started.{started}
-use Rattle.least_walks.specs.Walks.{Wall, StartedWalk}
-use Rattle.least_walks.specs.Promise.{Demand3}
+use Rattle.integration_started.specs.Started.{started}
+use Rattle.integration_walks.specs.Walks.{Wall, StartedWalk}
+use Rattle.integration_walks.specs.Promise.{Demand3}
 use Rattle.arrows.specs.Arrows.{builtCost}
 use Rattle.arrows.specs.Promise.{builtCells}
 

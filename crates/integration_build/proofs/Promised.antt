@@ -10,8 +10,8 @@ use Rattle.integration_field.specs.Listed.{listOf}
 use Rattle.integration_field.specs.Answer.{answerOf, buildNumber, buildAnswer}
 use Rattle.integration_field.specs.Promise.{LeastWalks, Counted, EarliestCorners, ListKept, BuildRefused}
 use Rattle.integration_field.proofs.Answers.{answer-promises, list-kept, build-refused}
-use Rattle.least_walks.specs.Promise.{BuildsStarted}
-use Rattle.least_walks.proofs.Promise.{builds-started}
+use Rattle.integration_walks.specs.Promise.{BuildsStarted}
+use Rattle.integration_walks.proofs.Promise.{builds-started}
 use Rattle.arrows.specs.Promise.{StartedArrows}
 use Rattle.arrows.proofs.Lead.{started-arrows}
 

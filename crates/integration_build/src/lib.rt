@@ -15,7 +15,7 @@ ghost use Rattle.integration_field.specs.Listed.{listOf, padded, Indexes};
 ghost use Rattle.integration_field.specs.Wave.{isWritten, relaxed, offered, offeredAround, offeredBy};
 ghost use Rattle.integration_field.specs.Answer.{answerOf, allCells, Accepted, buildAnswer};
 ghost use Rattle.integration_field.specs.Promise.{LeastWalks, Counted, EarliestCorners, ListKept, BuildRefused};
-ghost use Rattle.least_walks.specs.Promise.{BuildsStarted};
+ghost use Rattle.integration_walks.specs.Promise.{BuildsStarted};
 ghost use Rattle.arrows.specs.Promise.{StartedArrows};
 ghost use Rattle.integration_build.specs.Without.{builtWithout};
 ghost use Rattle.integration_build.specs.Wavefront.{Settles, SettlesFrom};
@@ -301,7 +301,7 @@ pub fn built(costs: &[u8], given: IntegrationField) -> BuildAnswer
     let mut wavefront = corner_wave(&answer.field.los_corners, count);
     let waves = run_waves(costs, &mut answer.field.field, &mut wavefront, count);
     answer.waves = waves;
-    let positions = corner_positions::corner_positions(
+    let positions = integration_positions::corner_positions(
         costs,
         &before,
         &answer.field.field,

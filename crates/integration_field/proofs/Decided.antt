@@ -10,8 +10,8 @@ use Prim.Native.Nat.{ℕ, zero, suc, _≤_}
 use native.Mathlib.Omega.{arith}
 use lib.ListN.{length, getD}
 use lib.Seq.{ext-getD}
-use Rattle.waves.specs.Waves.{Waves}
-use Rattle.waves.proofs.Decided.{waves-decide-values}
+use Rattle.integration_waves.specs.Waves.{Waves}
+use Rattle.integration_waves.proofs.Decided.{waves-decide-values}
 use Rattle.integration_field.specs.Word.{low}
 use Rattle.integration_field.specs.Walks.{grid}
 use Rattle.integration_field.specs.Promise.{Walked, LeastWalks, valueAt, OpenAt, Counted}

@@ -15,10 +15,10 @@ use borrow.Author.Tests.{not-true}
 use lib.ListN.{length, getD, List·getD-eq-default}
 use lib.Seq.{ext-getD}
 use Rattle.fields.specs.Neighbours.{BesideAt}
-use Rattle.waves.specs.Walks.{start, move, Below}
-use Rattle.waves.specs.Waves.{Changed, Waves, Ends}
-use Rattle.waves.proofs.Least.{walk-into, fallen-walk}
-use Rattle.waves.proofs.End.{few, least, counted}
+use Rattle.integration_waves.specs.Walks.{start, move, Below}
+use Rattle.integration_waves.specs.Waves.{Changed, Waves, Ends}
+use Rattle.integration_waves.proofs.Least.{walk-into, fallen-walk}
+use Rattle.integration_waves.proofs.End.{few, least, counted}
 use Rattle.integration_field.specs.Word.{low, isOpen, isLos, isImpassable}
 use Rattle.integration_field.specs.Wave.{changedFrom, Wave, next, waveAt}
 use Rattle.integration_field.specs.Rest.{Rests}

@@ -16,7 +16,7 @@ use lib.Dec.{ltb, eqb}
 use lib.ListN.{length, getD}
 use Rattle.utilities.specs.Lists.{below}
 use Rattle.utilities.proofs.Lists.{table-at}
-use Rattle.waves.specs.Walks.{start, move}
+use Rattle.integration_waves.specs.Walks.{start, move}
 use Rattle.integration_field.specs.Word.{low, isGoal, isLos, isImpassable}
 use Rattle.integration_field.specs.Build.{build}
 use Rattle.integration_field.specs.Position.{builtFrom, arrivesFrom, firstPosition, positionAt, positions}

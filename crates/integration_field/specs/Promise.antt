@@ -7,7 +7,7 @@ use mathlib.Core.List.{List, [], _∷_}
 use Prim.Native.Nat.{ℕ, zero, suc, _≤_, _<_}
 use lib.ListN.{length, getD}
 use Rattle.utilities.specs.Padded.{ZeroBeyond, AllZero}
-use Rattle.waves.specs.Waves.{Waves}
+use Rattle.integration_waves.specs.Waves.{Waves}
 use Rattle.integration_field.specs.declared.IntegrationField.{IntegrationField}
 use Rattle.integration_field.specs.declared.BuildAnswer.{BuildAnswer}
 use Rattle.integration_field.specs.Word.{low, isOpen, isGoal, isLos, isImpassable}

@@ -6,7 +6,7 @@ use mathlib.Core.List.{List, List·Memᴰ}
 use Prim.Native.Nat.{ℕ, _<_}
 use lib.ListN.{getD}
 use Rattle.fields.specs.Neighbours.{BesideAt}
-use Rattle.waves.specs.Walks.{Grid, Walk}
+use Rattle.integration_waves.specs.Walks.{Grid, Walk}
 use Rattle.integration_field.specs.Word.{low, isLos, isImpassable}
 
 module _ (costs cells corners : List ℕ) where

@@ -10,11 +10,11 @@ use borrow.Author.Tests.{eq-eqb, ne-eqb}
 use Rattle.route.specs.Step.{stepNumberOn}
 use Rattle.route.specs.Target.{targetOf}
 use Rattle.integration_field.specs.Promise.{ZeroField}
-use Rattle.started_field.specs.declared.InitAnswer.{InitAnswer}
-use Rattle.started_field.specs.Started.{started, initNumber, initRefused, initAccepted, initAnswer, StartedField}
-use Rattle.started_field.proofs.Started.{answer-told, init-refused}
-use Rattle.least_walks.specs.Promise.{OnceBuilt}
-use Rattle.least_walks.proofs.Promise.{once-built}
+use Rattle.integration_started.specs.declared.InitAnswer.{InitAnswer}
+use Rattle.integration_started.specs.Started.{started, initNumber, initRefused, initAccepted, initAnswer, StartedField}
+use Rattle.integration_started.proofs.Started.{answer-told, init-refused}
+use Rattle.integration_walks.specs.Promise.{OnceBuilt}
+use Rattle.integration_walks.proofs.Promise.{once-built}
 use Rattle.arrows.specs.Promise.{OnceBuiltArrows}
 use Rattle.arrows.proofs.Lead.{once-built-arrows}
 

@@ -12,8 +12,8 @@ use mathlib.Core.List.{List, []}
 use Prim.Native.Nat.{ℕ}
 use lib.ListN.{take}
 use Rattle.integration_field.proofs.Lists.{padded-list}
-use Rattle.started_field.specs.Sight.{Sight}
-use Rattle.started_field.specs.Room.{Room}
+use Rattle.integration_started.specs.Sight.{Sight}
+use Rattle.integration_started.specs.Room.{Room}
 use Rattle.integration_init.specs.Held.{sightOf, Holds, HoldsAll, Ready, ReadyAll, Leaves, Applied}
 
 module _ {s : Sight} {cells corners : List ℕ} {count : ℕ} where

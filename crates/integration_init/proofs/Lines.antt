@@ -19,8 +19,8 @@ use Rattle.line_nearest.proofs.Theorem.{line-room, line-inside}
 use Rattle.bresenham.specs.Inner.{DrawnIn}
 use Rattle.bresenham.proofs.Drawn.{drawn-full}
 use Rattle.integration_field.specs.Listed.{Indexes}
-use Rattle.started_field.specs.Sight.{Sight, marked, stopped, lineMarked}
-use Rattle.started_field.specs.Room.{Room}
+use Rattle.integration_started.specs.Sight.{Sight, marked, stopped, lineMarked}
+use Rattle.integration_started.specs.Room.{Room}
 use Rattle.integration_init.specs.Held.{sightOf, Ready, Leaves, Applied}
 use Rattle.integration_init.proofs.Held.{applied-sight, applied-ready}
 

@@ -20,8 +20,8 @@ use Rattle.fields.specs.declared.Stepped.the-variants.{Cell, Outside}
 use Rattle.fields.specs.Cell.{indexOf}
 use Rattle.integration_field.specs.Word.{isLos, isBlocked}
 use Rattle.integration_field.specs.Diagonal.{wallAt}
-use Rattle.started_field.specs.Sight.{Sight, sightWord, unlessWall, seen, lookedAround, waveLooked}
-use Rattle.started_field.proofs.Room.{room-queue, room-seen, room-begins}
+use Rattle.integration_started.specs.Sight.{Sight, sightWord, unlessWall, seen, lookedAround, waveLooked}
+use Rattle.integration_started.proofs.Room.{room-queue, room-seen, room-begins}
 use Rattle.integration_init.specs.Held.{sightOf, Ready, ReadyAll, HoldsAll, Applied}
 
 module _ {cells corners : List ℕ} {count : ℕ} {queue : List ℕ} {queued : ℕ} (ready : ReadyAll cells corners count queue queued) where

@@ -10,8 +10,8 @@ use native.Mathlib.Omega.{arith}
 use lib.ListN.{length, getD, set, take, length-append}
 use Rattle.integration_field.specs.Word.{isBlocked}
 use Rattle.integration_field.proofs.Lists.{padded-push}
-use Rattle.started_field.specs.Sight.{marked}
-use Rattle.started_field.proofs.Room.{room-corner, room-listed}
+use Rattle.integration_started.specs.Sight.{marked}
+use Rattle.integration_started.proofs.Room.{room-corner, room-listed}
 use Rattle.integration_init.specs.Held.{sightOf, Ready, Applied}
 use Rattle.integration_init.proofs.Held.{applied-still}
 

@@ -15,12 +15,12 @@ use Rattle.route.specs.Inner.{heldCells, WindowHeld}
 use Rattle.route.proofs.Targets.{held-length}
 use Rattle.integration_field.specs.Listed.{padded, Indexes, noPositions}
 use Rattle.integration_field.proofs.Lists.{padded-push}
-use Rattle.started_field.specs.Sight.{wallOr, walls, withPortals, withGoal, sightAfter}
-use Rattle.started_field.specs.Started.{startedAt}
-use Rattle.started_field.specs.CornerLine.{cornerLine}
-use Rattle.started_field.proofs.Before.{walls-length}
-use Rattle.started_field.proofs.Lines.{corner-lines}
-use Rattle.started_field.proofs.Waves.{sight-room}
+use Rattle.integration_started.specs.Sight.{wallOr, walls, withPortals, withGoal, sightAfter}
+use Rattle.integration_started.specs.Started.{startedAt}
+use Rattle.integration_started.specs.CornerLine.{cornerLine}
+use Rattle.integration_started.proofs.Before.{walls-length}
+use Rattle.integration_started.proofs.Lines.{corner-lines}
+use Rattle.integration_started.proofs.Waves.{sight-room}
 use Rattle.integration_init.specs.Held.{sightOf, Ready}
 
 module _ (costs cells : List ℕ) (hundred : length costs ≡ 100) (full : length cells ≡ 100) where

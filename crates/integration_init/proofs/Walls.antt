@@ -17,8 +17,8 @@ use Rattle.fields.specs.Cell.{cellAt, indexOf, stepped}
 use Rattle.integration_field.specs.Word.{isLos, isGoal, isBlocked, isImpassable}
 use Rattle.integration_field.specs.Diagonal.{wallAt}
 use Rattle.line_end_table.specs.Ends.{EndsFor}
-use Rattle.started_field.specs.Sight.{Sight, sightWord, seen, wallMet, neighbourLooked, looked, lookedAround, waveLooked}
-use Rattle.started_field.proofs.Words.{seen-flags}
+use Rattle.integration_started.specs.Sight.{Sight, sightWord, seen, wallMet, neighbourLooked, looked, lookedAround, waveLooked}
+use Rattle.integration_started.proofs.Words.{seen-flags}
 use Rattle.integration_init.specs.Held.{NoWall, Lent}
 
 -- a word that is no wall, written over any

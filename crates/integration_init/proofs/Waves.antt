@@ -17,8 +17,8 @@ use Rattle.utilities.specs.declared.CompassDir.the-variants.{Zero}
 use Rattle.utilities.specs.Compass.{orthogonal, sideOf}
 use Rattle.fields.specs.Cell.{cellAt, stepped}
 use Rattle.integration_field.specs.Listed.{Indexes, noPositions, withCorners}
-use Rattle.started_field.specs.Sight.{Sight, begun, looked, lookedAround, waveLooked, sightAfter}
-use Rattle.started_field.proofs.Room.{room-queued}
+use Rattle.integration_started.specs.Sight.{Sight, begun, looked, lookedAround, waveLooked, sightAfter}
+use Rattle.integration_started.proofs.Room.{room-queued}
 use Rattle.integration_init.specs.Held.{sightOf, Holds, Ready, ReadyAll}
 
 pub wave-next : (line : ℕ → List ℕ) (cells : List ℕ) (goal k wave : ℕ) (s : Sight) → wave ≡ suc k → s ≡ sightAfter line cells goal k

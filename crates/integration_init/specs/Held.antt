@@ -9,8 +9,8 @@ use lib.ListN.{length, take}
 use Rattle.integration_field.specs.Diagonal.{wallAt}
 use Rattle.integration_field.specs.Listed.{padded}
 use Rattle.line_end_table.specs.Ends.{EndsFor}
-use Rattle.started_field.specs.Sight.{Sight}
-use Rattle.started_field.specs.Room.{Room}
+use Rattle.integration_started.specs.Sight.{Sight}
+use Rattle.integration_started.specs.Room.{Room}
 
 -- the sight of these cells, of the corners before their count, and of a queue
 abbrev pub sightOf : List ℕ → List ℕ → ℕ → List ℕ → Sight

@@ -12,8 +12,8 @@ use Rattle.integration_field.specs.Diagonal.{passesWall}
 use Rattle.integration_field.specs.Wave.{relaxed, offeredAround, offeredBy, changedFrom, next}
 use Rattle.integration_field.specs.Rest.{total}
 use Rattle.integration_field.specs.Build.{isEmpty, settle, build}
-use Rattle.started_field.specs.Sight.{walls, withPortals, withGoal, seen, neighbourLooked, lookedAround, waveLooked, sightAfter}
-use Rattle.started_field.specs.Started.{sightFrom, startedFrom, startedAt, started}
+use Rattle.integration_started.specs.Sight.{walls, withPortals, withGoal, seen, neighbourLooked, lookedAround, waveLooked, sightAfter}
+use Rattle.integration_started.specs.Started.{sightFrom, startedFrom, startedAt, started}
 use Rattle.flow_byte.specs.New.{startOf, facingBits, facingChoice, windowBits, newByte, newBytes}
 use Rattle.flow_byte.specs.Look as look
 use Rattle.flow_byte.specs.Look.{lookAround, pointed, builtByte, flowBuild}

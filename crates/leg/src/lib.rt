@@ -196,7 +196,7 @@ pub fn build_step(floor: &[u8], step: &[u8], target: Target) -> IntegrationField
 {
     let at = wide(step[0]) * 100;
     let end = at + 100;
-    target_field::build_target(&floor[at..end], target)
+    integration_target::build_target(&floor[at..end], target)
 }
 
 // Whether a window of the leg has no counting cell: the steps are started and built in order, each with the built cells of the step before. The last

@@ -17,7 +17,7 @@ use Rattle.route.specs.Target.{Target, to-window, bySight, targetOf}
 use Rattle.route.specs.Inner.{heldTarget}
 use Rattle.integration_field.specs.declared.BuildAnswer.{BuildAnswer}
 use Rattle.integration_field.specs.Answer.{answerOf}
-use Rattle.started_field.specs.Started.{started}
+use Rattle.integration_started.specs.Started.{started}
 use Rattle.sector.specs.Sector.{sectorField}
 use Rattle.counting.specs.Counting.{countingCells, legTarget}
 use Rattle.step_list.specs.Steps.{stepsOf}

@@ -22,8 +22,8 @@ use Rattle.integration_field.specs.declared.BuildAnswer.{BuildAnswer}
 use Rattle.integration_field.specs.Answer.{refusal, answerOf}
 use Rattle.integration_field.specs.Promise.{BuildRefused}
 use Rattle.integration_field.proofs.Answers.{build-refused}
-use Rattle.started_field.specs.Started.{started}
-use Rattle.least_walks.proofs.Promise.{demand3, started-positions}
+use Rattle.integration_started.specs.Started.{started}
+use Rattle.integration_walks.proofs.Promise.{demand3, started-positions}
 use Rattle.step_list.specs.Steps.{stepsOf}
 use Rattle.leg_plan.specs.Leg.{eachRows, outOfOrder, apart, someClosed, judgedRows, legNumberBy}
 use Rattle.leg_plan.specs.Promise.{sectorAt, costsAt, targetAt}

@@ -11,7 +11,7 @@ use Rattle.route.specs.Step.{noStepList}
 use Rattle.step_list.specs.Steps.{stepsOf}
 use Rattle.integration_field.specs.declared.BuildAnswer.{BuildAnswer}
 use Rattle.integration_field.specs.Answer.{answerOf}
-use Rattle.started_field.specs.Started.{started}
+use Rattle.integration_started.specs.Started.{started}
 use Rattle.leg_plan.specs.Leg.{eachRows, outOfOrder, apart, someClosed}
 use Rattle.leg_plan.specs.Promise.{costsAt, targetAt}
 

@@ -8,7 +8,7 @@ use lib.ListN.{length}
 use Rattle.route.specs.Step.{noStepList}
 use Rattle.step_list.specs.Steps.{stepsOf}
 use Rattle.integration_field.specs.declared.BuildAnswer.{BuildAnswer}
-use Rattle.least_walks.specs.Promise.{Demand3, StartedPositions}
+use Rattle.integration_walks.specs.Promise.{Demand3, StartedPositions}
 use Rattle.leg_plan.specs.Leg.{legNumberBy}
 use Rattle.leg_plan.specs.Promise.{costsAt, targetAt, builtAt}
 

@@ -11,7 +11,7 @@ ghost use Rattle.route.specs.Step.{sectorOf};
 ghost use Rattle.route.specs.Inner.{heldTarget, TargetHeld};
 ghost use Rattle.integration_field.specs.Answer.{answerOf};
 ghost use Rattle.integration_field.specs.Promise.{BuildRefused};
-ghost use Rattle.started_field.specs.Started.{started};
+ghost use Rattle.integration_started.specs.Started.{started};
 ghost use Rattle.step_list.specs.Steps.{stepsOf};
 ghost use Rattle.leg_plan.specs.Leg.{part};
 ghost use Rattle.leg_plan.specs.Inner.{LegReady};

@@ -19,7 +19,7 @@ use Rattle.route.specs.Step.{stepNumber}
 use Rattle.route.specs.Target.{TargetIn, WindowCell}
 use Rattle.route.proofs.Accepted.{accepted-step}
 use Rattle.integration_field.specs.Built.{waveCount}
-use Rattle.started_field.specs.Started.{started}
+use Rattle.integration_started.specs.Started.{started}
 use Rattle.sector.specs.Sector.{sectorField}
 use Rattle.sector.specs.Promise as sector
 use Rattle.sector.proofs.Planned.{sector-planned}

@@ -11,7 +11,7 @@ use Rattle.route.specs.Step.{sectorOf, portalOf}
 use Rattle.route.specs.Target.{Target, WindowCell}
 use Rattle.step_list.specs.Steps.{stepOf}
 use Rattle.integration_field.specs.Built.{waveCount}
-use Rattle.started_field.specs.Started.{started}
+use Rattle.integration_started.specs.Started.{started}
 use Rattle.sector.specs.Sector.{sectorField, sectorBytes}
 use Rattle.sector.specs.Promise.{Planned}
 use Rattle.counting.specs.Counting.{legTarget, CountingCell}

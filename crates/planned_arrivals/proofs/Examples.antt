@@ -15,10 +15,10 @@ use Rattle.integration_field.specs.Diagonal.{passesWall}
 use Rattle.integration_field.specs.Wave.{relaxed, offeredAround, offeredBy, changedFrom, next}
 use Rattle.integration_field.specs.Rest.{total}
 use Rattle.integration_field.specs.Build.{isEmpty, settle, build}
-use Rattle.started_field.specs.Sight.{walls, withGoal, marked, lineMarked, seen, extended, sideTried, wallMet}
-use Rattle.started_field.specs.Sight.{neighbourLooked, lookedAround, waveLooked, sightAfter}
-use Rattle.started_field.specs.CornerLine.{cornerLine}
-use Rattle.started_field.specs.Started.{sightFrom, startedFrom, startedWithout, started}
+use Rattle.integration_started.specs.Sight.{walls, withGoal, marked, lineMarked, seen, extended, sideTried, wallMet}
+use Rattle.integration_started.specs.Sight.{neighbourLooked, lookedAround, waveLooked, sightAfter}
+use Rattle.integration_started.specs.CornerLine.{cornerLine}
+use Rattle.integration_started.specs.Started.{sightFrom, startedFrom, startedWithout, started}
 use Rattle.flow_byte.specs.New.{startOf, newByte, newBytes}
 use Rattle.flow_byte.specs.Look as look
 use Rattle.flow_byte.specs.Look.{lookAround, pointed, builtByte, flowBuild}

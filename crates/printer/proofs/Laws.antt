@@ -17,7 +17,7 @@ use Rattle.integration_field.specs.declared.BuildAnswer.{BuildAnswer}
 use Rattle.integration_field.specs.Answer.{answerOf}
 use Rattle.route.specs.Step.{markOf, portalOf, stepNumberOn}
 use Rattle.route.specs.Target.{targetOf}
-use Rattle.started_field.specs.Started.{started}
+use Rattle.integration_started.specs.Started.{started}
 use Rattle.sector.specs.Sector.{sectorNumber, sectorBytes, sectorAnswer, sectorSheet}
 use Rattle.sector.proofs.Numbers.{seventeen-told}
 use Rattle.printer.specs.Text.{noText, rendered, printed}

@@ -29,10 +29,10 @@ use Rattle.integration_field.specs.Built.{waveCount}
 use Rattle.integration_field.specs.Answer.{refusal, answerOf}
 use Rattle.integration_field.specs.Promise.{BuildRefused}
 use Rattle.integration_field.proofs.Answers.{build-refused}
-use Rattle.started_field.specs.Started.{started}
-use Rattle.least_walks.specs.Promise.{StartedPositions}
-use Rattle.least_walks.specs.Goal.{GoalCosts, GoalPositions}
-use Rattle.least_walks.proofs.Promise.{demand3, started-positions, goal-told}
+use Rattle.integration_started.specs.Started.{started}
+use Rattle.integration_walks.specs.Promise.{StartedPositions}
+use Rattle.integration_walks.specs.Goal.{GoalCosts, GoalPositions}
+use Rattle.integration_walks.proofs.Promise.{demand3, started-positions, goal-told}
 use Rattle.arrows.specs.Arrows.{CellsMarked, ArrowsLead}
 use Rattle.arrows.specs.Promise.{NoCostZero}
 use Rattle.flow_byte.specs.New.{windowBits, newByte, newBytes}

@@ -9,8 +9,8 @@ use Prim.Native.Nat.{ℕ}
 use Rattle.route.specs.Step.{goalOf, isWindow}
 use Rattle.route.specs.Target.{Target, byWindow, EndCell, withoutSight, targetOf}
 use Rattle.integration_field.specs.declared.IntegrationField.{IntegrationField}
-use Rattle.least_walks.specs.Promise.{Demand3}
-use Rattle.least_walks.specs.Goal.{GoalCosts, GoalPositions}
+use Rattle.integration_walks.specs.Promise.{Demand3}
+use Rattle.integration_walks.specs.Goal.{GoalCosts, GoalPositions}
 use Rattle.arrows.specs.Arrows.{ClearArrows, CellsMarked, ArrowsLead}
 use Rattle.arrows.specs.Promise.{NoCostZero}
 

@@ -14,7 +14,7 @@ use Rattle.integration_field.specs.declared.IntegrationField.{IntegrationField}
 use Rattle.integration_field.specs.declared.BuildAnswer.{BuildAnswer}
 use Rattle.integration_field.specs.Built.{builtField}
 use Rattle.integration_field.specs.Answer.{answerOf}
-use Rattle.started_field.specs.Started.{started}
+use Rattle.integration_started.specs.Started.{started}
 use Rattle.flow_byte.specs.New.{newBytes}
 use Rattle.flow_byte.specs.Look.{flowBuild}
 

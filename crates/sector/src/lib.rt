@@ -17,8 +17,8 @@ ghost use Rattle.route.specs.Target.{targetOf, withoutSight, bySight, TargetTol
 ghost use Rattle.route.specs.Inner.{heldCells, heldTarget, WindowHeld};
 ghost use Rattle.integration_field.specs.Promise.{BuildRefused};
 ghost use Rattle.integration_field.specs.Answer.{answerOf};
-ghost use Rattle.started_field.specs.Started.{started};
-ghost use Rattle.least_walks.specs.Promise.{StartedPositions};
+ghost use Rattle.integration_started.specs.Started.{started};
+ghost use Rattle.integration_walks.specs.Promise.{StartedPositions};
 ghost use Rattle.sector.specs.Previous.{WithoutPrevious, TargetOnWall};
 ghost use Rattle.sector.specs.Sector.{lacksPrevious, sectorNumber, sectorBytes, sectorAnswer, sectorSheet, sectorAnswerBy, sectorSheetBy};
 ghost use Rattle.sector.specs.Inner.{flowBytes, RunReady};

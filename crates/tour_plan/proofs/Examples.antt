@@ -14,8 +14,8 @@ use Rattle.step_list.specs.Steps.{stepsIn}
 use Rattle.integration_field.specs.Wave.{relaxed, offeredAround, offeredBy, changedFrom, next}
 use Rattle.integration_field.specs.Rest.{total}
 use Rattle.integration_field.specs.Build.{isEmpty, settle, build}
-use Rattle.started_field.specs.Sight.{walls, withPortals}
-use Rattle.started_field.specs.Started.{startedAt, started}
+use Rattle.integration_started.specs.Sight.{walls, withPortals}
+use Rattle.integration_started.specs.Started.{startedAt, started}
 use Rattle.cost_square.specs.Square.{windowStepNumber, windowCostsNumber, windowCost, costSquare}
 use Rattle.tour_orders.specs.Orders.{ordersOf, orders}
 use Rattle.tours.specs.Tours.{betterTour, leastFigure, triedCount, windowTour}

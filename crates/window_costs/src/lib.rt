@@ -20,7 +20,7 @@ fn column_at(costs: &[u8], steps: &[u8], j: usize) -> [u32; 8]
         return [65535; 8];
     }
     let target = window_columns::target_at(steps, j);
-    let built = target_field::build_window(costs, target);
+    let built = integration_target::build_window(costs, target);
     window_columns::column_of(&built.field, steps)
 }
 

@@ -9,9 +9,9 @@ use denote.Ref.{now}
 use lib.ListN.{take}
 use borrow.Fn.Kinds.{In}
 use borrow.Fn.PlainCycle.{Measures, is, falls, and}
-use Rattle.started_field.specs.CornerLine.{cornerLine}
-use Rattle.started_field.specs.Sight.{Sight, sightAfter}
-use Rattle.started_field.proofs.Waves.{ended}
+use Rattle.integration_started.specs.CornerLine.{cornerLine}
+use Rattle.integration_started.specs.Sight.{Sight, sightAfter}
+use Rattle.integration_started.proofs.Waves.{ended}
 use Rattle.integration_init.specs.Held.{sightOf, Holds}
 use Rattle.integration_init.proofs.Held.{held-all, all-ready}
 use Rattle.integration_init.proofs.Looks.{all-begins}

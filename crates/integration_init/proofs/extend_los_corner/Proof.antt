@@ -13,8 +13,8 @@ use Rattle.line_end.proofs.Laws.{end-inside}
 use Rattle.line_nearest.specs.Line.{line}
 use Rattle.bresenham.proofs.Drawn.{drawn-list}
 use Rattle.integration_field.specs.Listed.{Indexes}
-use Rattle.started_field.specs.Sight.{extended}
-use Rattle.started_field.specs.CornerLine.{cornerLine}
+use Rattle.integration_started.specs.Sight.{extended}
+use Rattle.integration_started.specs.CornerLine.{cornerLine}
 use Rattle.integration_init.proofs.Lines.{line-drawn}
 use Rattle.integration_init.proofs.extend_los_corner.Statement.{statement}
 use Rattle.integration_init.proofs.extend_los_corner.Tie as tie

@@ -7,7 +7,7 @@ use borrow.Author.Needs.{needs}
 use denote.Ref.{now}
 use lib.ListN.{getD}
 use Rattle.integration_field.specs.declared.IntegrationField.{IntegrationField}
-use Rattle.started_field.specs.Started.{started, initRefused}
+use Rattle.integration_started.specs.Started.{started, initRefused}
 use Rattle.route.specs.Step.{stepNumberOn}
 use Rattle.route.proofs.Targets.{made-target, made-held}
 use Rattle.route.proofs.Walls.{accepted-on}

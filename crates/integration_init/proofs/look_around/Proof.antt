@@ -8,8 +8,8 @@ use lib.ListN.{take, drop}
 use Rattle.utilities.specs.declared.CompassDir.{CompassDir}
 use Rattle.utilities.specs.Compass.{orthogonal}
 use Rattle.fields.specs.Cell.{cellAt, stepped}
-use Rattle.started_field.specs.Sight.{Sight, looked, lookedAround}
-use Rattle.started_field.specs.CornerLine.{cornerLine}
+use Rattle.integration_started.specs.Sight.{Sight, looked, lookedAround}
+use Rattle.integration_started.specs.CornerLine.{cornerLine}
 use Rattle.integration_init.specs.Held.{sightOf, ReadyAll, Lent}
 use Rattle.integration_init.proofs.Held.{held-all, all-ready}
 use Rattle.integration_init.proofs.Walls.{lent-looked}

@@ -8,8 +8,8 @@ use borrow.Author.Needs.{needs}
 use denote.Ref.{now}
 use lib.ListN.{getD, take}
 use Rattle.integration_field.specs.Word.{isLos, isGoal, isBlocked, isImpassable}
-use Rattle.started_field.specs.Sight.{wallMet, seen, neighbourLooked}
-use Rattle.started_field.specs.CornerLine.{cornerLine}
+use Rattle.integration_started.specs.Sight.{wallMet, seen, neighbourLooked}
+use Rattle.integration_started.specs.CornerLine.{cornerLine}
 use Rattle.integration_init.specs.Held.{sightOf}
 use Rattle.integration_init.proofs.Looks.{all-begins, wall-held, seen-room, seen-held}
 use Rattle.integration_init.proofs.Masks.{none-set, one-set}

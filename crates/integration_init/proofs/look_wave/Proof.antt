@@ -9,8 +9,8 @@ use denote.Ref.{now}
 use lib.ListN.{length, take}
 use lib.Seq.{slice}
 use Rattle.utilities.specs.Compass.{orthogonal}
-use Rattle.started_field.specs.Sight.{Sight, lookedAround, waveLooked}
-use Rattle.started_field.specs.CornerLine.{cornerLine}
+use Rattle.integration_started.specs.Sight.{Sight, lookedAround, waveLooked}
+use Rattle.integration_started.specs.CornerLine.{cornerLine}
 use Rattle.integration_init.specs.Held.{sightOf, ReadyAll, Lent}
 use Rattle.integration_init.proofs.Held.{held-all, all-ready}
 use Rattle.integration_init.proofs.Looks.{wave-step, wave-end}

@@ -6,7 +6,7 @@ use native.Mathlib.Omega.{arith}
 use borrow.Author.Needs.{needs}
 use denote.Ref.{now}
 use lib.ListN.{length, take, length-set}
-use Rattle.started_field.specs.Sight.{walls}
+use Rattle.integration_started.specs.Sight.{walls}
 use Rattle.integration_init.proofs.Starts.{wall-step, wall-end}
 use Rattle.integration_init.proofs.mark_walls.Statement.{statement}
 use Rattle.integration_init.proofs.mark_walls.Tie as tie

@@ -4,8 +4,8 @@ use mathlib.Core.Path.{_≡_, ap, _∙_}
 use borrow.Author.Needs.{needs}
 use Rattle.utilities.specs.declared.CompassDir.{CompassDir}
 use Rattle.utilities.specs.Compass.{opposite, lowerSide}
-use Rattle.started_field.specs.Sight.{Sight, sideTried, wallMet}
-use Rattle.started_field.specs.CornerLine.{cornerLine}
+use Rattle.integration_started.specs.Sight.{Sight, sideTried, wallMet}
+use Rattle.integration_started.specs.CornerLine.{cornerLine}
 use Rattle.integration_init.proofs.Held.{applied-ready, applied-then}
 use Rattle.integration_init.proofs.meet_wall.Statement.{statement}
 use Rattle.integration_init.proofs.meet_wall.Tie as tie

@@ -1,7 +1,7 @@
 -- `integration_init::start` meets its contract: at window cells, from a goal, or from a goal without sight, as the target says.
 -- Assumes nothing.
 use mathlib.Core.Path.{sym, _∙_}
-use Rattle.started_field.specs.Started.{started}
+use Rattle.integration_started.specs.Started.{started}
 use Rattle.integration_init.proofs.start.Statement.{statement}
 use Rattle.integration_init.proofs.start.Tie as tie
 

@@ -12,7 +12,7 @@ use Rattle.route.specs.declared.WindowCells.{WindowCells}
 use Rattle.route.specs.Inner.{heldCells}
 use Rattle.route.proofs.Targets.{held-inside}
 use Rattle.integration_field.specs.Listed.{padded, noPositions}
-use Rattle.started_field.specs.Sight.{walls, withPortals}
+use Rattle.integration_started.specs.Sight.{walls, withPortals}
 use Rattle.integration_init.proofs.Starts.{portal-step, portal-end, portal-listed, portal-put}
 use Rattle.integration_init.proofs.start_at.Statement.{statement}
 use Rattle.integration_init.proofs.start_at.Tie as tie

@@ -3,8 +3,8 @@
 -- Assumes nothing.
 use borrow.Author.Needs.{needs}
 use denote.Ref.{now}
-use Rattle.started_field.specs.Sight.{walls}
-use Rattle.started_field.specs.Started.{sightFrom, startedFrom}
+use Rattle.integration_started.specs.Sight.{walls}
+use Rattle.integration_started.specs.Started.{sightFrom, startedFrom}
 use Rattle.integration_init.proofs.Starts.{goal-sight, goal-ready, goal-wavefront}
 use Rattle.integration_init.proofs.Waves.{held-field}
 use Rattle.integration_init.proofs.start_from.Statement.{statement}

@@ -6,8 +6,8 @@ use Prim.Native.Nat.{ℕ}
 use borrow.Author.Needs.{needs}
 use lib.ListN.{set}
 use Rattle.integration_field.specs.Listed.{withCorners}
-use Rattle.started_field.specs.Sight.{withGoal}
-use Rattle.started_field.specs.Started.{startedWithout}
+use Rattle.integration_started.specs.Sight.{withGoal}
+use Rattle.integration_started.specs.Started.{startedWithout}
 use Rattle.integration_init.proofs.start_without.Statement.{statement}
 use Rattle.integration_init.proofs.start_without.Tie as tie
 

@@ -8,7 +8,7 @@ use Rattle.fields.specs.declared.Stepped.{Stepped}
 use Rattle.fields.specs.declared.Stepped.the-variants.{Cell, Outside}
 use Rattle.fields.specs.Cell.{Inside, stepped, cellAt, indexOf}
 use Rattle.fields.proofs.Steps.{stepped-cell, index-told}
-use Rattle.started_field.specs.Sight.{unlessWall, sideTried}
+use Rattle.integration_started.specs.Sight.{unlessWall, sideTried}
 use Rattle.integration_init.proofs.Held.{applied-still}
 use Rattle.integration_init.proofs.Looks.{open-cell}
 use Rattle.integration_init.proofs.try_side.Statement.{statement}

@@ -12,8 +12,8 @@ use Rattle.route.specs.Inner.{heldTarget}
 use Rattle.route.proofs.Accepted.{accepted-step}
 use Rattle.route.proofs.Targets.{held-in}
 use Rattle.integration_field.specs.Answer.{answerOf}
-use Rattle.started_field.specs.Started.{started}
-use Rattle.least_walks.proofs.Promise.{accepts-started}
+use Rattle.integration_started.specs.Started.{started}
+use Rattle.integration_walks.proofs.Promise.{accepts-started}
 use Rattle.leg.proofs.Step.{in-floor, lent-part}
 use Rattle.leg_field.proofs.field_of.Statement.{statement}
 use Rattle.leg_field.proofs.field_of.Tie as tie

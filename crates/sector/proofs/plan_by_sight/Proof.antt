@@ -10,7 +10,7 @@ use Rattle.route.specs.declared.RouteStep.{RouteStep}
 use Rattle.route.specs.Target.{Target}
 use Rattle.route.proofs.Targets.{seen-target, seen-held}
 use Rattle.integration_field.specs.Answer.{refusal, answerOf}
-use Rattle.started_field.specs.Started.{started}
+use Rattle.integration_started.specs.Started.{started}
 use Rattle.flow_new.proofs.Numbers.{fits}
 use Rattle.sector.specs.Sector.{sectorNumber, sectorBytes}
 use Rattle.sector.proofs.Numbers.{Accepted, accepted}

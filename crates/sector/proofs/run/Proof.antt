@@ -4,7 +4,7 @@ use mathlib.Core.Path.{sym}
 use denote.Ref.{now}
 use Rattle.route.specs.Inner.{heldCells, heldTarget}
 use Rattle.route.proofs.Targets.{held-in, held-window}
-use Rattle.least_walks.proofs.Promise.{accepts-started}
+use Rattle.integration_walks.proofs.Promise.{accepts-started}
 use Rattle.sector.proofs.Planned.{runs}
 use borrow.Author.Needs.{needs}
 use Rattle.sector.proofs.run.Statement.{statement}

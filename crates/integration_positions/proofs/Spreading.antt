@@ -1,0 +1,276 @@
+-- Positions spread: from a queued cell each neighbour into which a move keeps the built costs exact takes its position, unless it has one.
+--     move-mine     what a move that keeps the built costs exact makes of a walk
+--     spread-at     one cell tried
+--     gone-more     one cell of the queue gone around from
+-- Assumes nothing.
+use mathlib.Core.Path.{_≡_, refl, sym, ap, _∙_}
+use mathlib.Core.Logic.{_⊎_, inl, inr, ⊎-elim}
+use mathlib.Core.List.{List, [], _∷_, List·Memᴰ, List·Memᴰ·cases-cons, List·Memᴰ·not-nil, List·Memᴰ·head}
+use Prim.Native.Nat.{ℕ, suc, _+_, _-_, _<_, _≤_}
+use native.Mathlib.Omega.{arith}
+use native.Mathlib.Decide.{ℕ-discrete}
+use borrow.Author.Tests.{eq-eqb, ne-eqb}
+use lib.ListN.{length, getD, set}
+use lib.Seq.{getD-set-same, getD-set-other}
+use Rattle.utilities.specs.declared.CompassDir.{CompassDir}
+use Rattle.utilities.specs.Compass.{orthogonal}
+use Rattle.utilities.specs.Lists.{below}
+use Rattle.utilities.proofs.Count.{at-set}
+use Rattle.utilities.proofs.Lists.{table-at}
+use Rattle.fields.specs.declared.FieldCell.{FieldCell}
+use Rattle.fields.specs.declared.Stepped.{Stepped}
+use Rattle.fields.specs.declared.Stepped.the-variants.{Cell, Outside}
+use Rattle.fields.specs.Cell.{indexOf, cellAt, stepped}
+use Rattle.fields.specs.Neighbours.{BesideAt}
+use Rattle.fields.proofs.Steps.{stepped-cell, index-below}
+use Rattle.fields.proofs.Beside.{beside-below}
+use Rattle.integration_waves.specs.Walks.{start, move}
+use Rattle.integration_field.specs.Word.{low}
+use Rattle.integration_field.specs.Walks.{MayEnter, Permitted}
+use Rattle.integration_field.specs.Promise.{Walked, LeastWalks}
+use Rattle.integration_field.proofs.Least.{least-walks, last-entered}
+use Rattle.integration_field.proofs.Neighbours.{Neighbour, later, neighbour-beside, beside-neighbour}
+use Rattle.integration_positions.specs.Inner.{enteredFrom, Placing, placing, QueueRoom, Grown, placedTo, placedAround, BuiltOn, Mine, Spread}
+use Rattle.integration_positions.proofs.Room.{Tried, taken, held, apart, tried, grown-none, grown-then, grown-at, behind-queue, has-room, room-to}
+
+module _ (costs before corners built entered : List ℕ) (f : BuiltOn costs before corners built entered) where
+  -- ---- moves that keep the built costs exact
+
+  pub least : LeastWalks costs before corners built
+  least = rw (f .is-built) (least-walks costs before corners (f .full) (f .corners-in))
+
+  abbrev Now : ℕ → ℕ
+  Now x = low (getD built x 0)
+
+  pub entered-at : (x : ℕ) → x < 100 → getD entered x 0 ≡ enteredFrom (getD costs x 0) (getD before x 0) (getD built x 0)
+  entered-at x h = rw (f .is-entered) (table-at (λ x. enteredFrom (getD costs x 0) (getD before x 0) (getD built x 0)) 0 100 x h)
+
+  -- a cell that building lowered: what it holds now, and how it was entered
+  pub record LoweredAt (x : ℕ) : Type 0 where
+    pub now-is : Now x ≡ getD built x 0
+    pub paid : getD costs x 0 ≤ getD built x 0
+    pub may : MayEnter costs before corners x (Now x)
+
+  last-cost : {k x s : ℕ} → Permitted costs before corners k x s → s < low (getD before x 0) → getD costs x 0 ≤ s
+  last-cost (start c e) l = absurd (omega arith)
+  last-cost (move p b m e) l = omega arith
+
+  pub lowered : (x : ℕ) → (getD built x 0 ≡ getD before x 0 → ⊥) → LoweredAt x
+  lowered x h = go (least .attained x)
+    where
+      go : (getD built x 0 ≡ getD before x 0) ⊎ Walked costs before corners x (getD built x 0) → LoweredAt x
+      go (inl e) = absurd (h e)
+      go (inr w) =
+          let e : Now x ≡ getD built x 0 = omega (arith, w .lower) in
+          record {
+            now-is = e;
+            paid = last-cost (w .walk) (w .lower);
+            may = rw e (last-entered costs before corners (f .full) (f .corners-in) (w .moves) x _ (w .walk) (w .lower));
+          }
+
+  -- where the value of entering is that of a cell, building lowered the cell entered, and its cost is the difference
+  pub record Exact (v x : ℕ) : Type 0 where
+    pub at : LoweredAt x
+    pub sum : Now x ≡ v + getD costs x 0
+
+  pub exact : (v x : ℕ) → v < 65536 → x < 100 → getD entered x 0 ≡ v → Exact v x
+  unfolding enteredFrom
+  exact v x l h e = go (ℕ-discrete (getD built x 0) (getD before x 0)) (sym (entered-at x h) ∙ e)
+    where
+      go : Dec (getD built x 0 ≡ getD before x 0) → enteredFrom (getD costs x 0) (getD before x 0) (getD built x 0) ≡ v → Exact v x
+      go (yes q) e = absurd (let z : 65536 ≡ v = rw (eq-eqb _ _ q) at e in omega arith)
+      go (no q) e =
+          let z : getD built x 0 - getD costs x 0 ≡ v = rw (ne-eqb _ _ q) at e in
+          let w = lowered x q in
+          record { at = w; sum = omega (arith, w .now-is, w .paid) }
+
+  pub exact-back : (v x : ℕ) → x < 100 → (getD built x 0 ≡ getD before x 0 → ⊥) → Now x ≡ v + getD costs x 0 → getD entered x 0 ≡ v
+  unfolding enteredFrom
+  exact-back v x h q s = let w = lowered x q in entered-at x h ∙ rw (ne-eqb _ _ q) (omega (arith, w .now-is))
+
+  -- a walk to a cell, and a move into the next that keeps the built costs exact
+  pub move-mine : (p y x : ℕ) → Mine costs before corners built entered y p → BesideAt y x → x < 100 → getD entered x 0 ≡ Now y
+      → Mine costs before corners built entered x p
+  move-mine p y x m b h e =
+      let d = exact (Now y) x (omega arith) h e in
+      let w = m .walk in
+      let enters : MayEnter costs before (getD corners p 0 ∷ []) x (Now x) =
+      record { no-wall = d .at .may .no-wall; not-in-sight = d .at .may .not-in-sight; below = d .at .may .below } in
+      record { corner-of = m .corner-of; walk = (suc (w .0), move (w .1) b enters (d .sum)) }
+
+  -- ---- one cell tried
+
+  module _ (i gone value : ℕ) (small : i < 255) where
+    abbrev Spreads : Placing → Type 0
+    Spreads = Spread costs before corners built entered i gone
+
+    -- what is written behind the queue is not read
+    spread-behind : (x : ℕ) (s : Placing) → Spreads s → Spreads (placing (s .places) (set (s .queue) (s .queued) x) (s .queued))
+    spread-behind x s d = record {
+      behind = d .behind;
+      listed = λ z l p. (let o = d .listed z l p in (o .0, o .1, behind-queue s x (o .0) (o .1) ∙ o .2));
+      queued-placed = λ j l. rw (behind-queue s x j l) (d .queued-placed j l);
+      mine = d .mine;
+      no-later = d .no-later;
+      recent = λ j k l. rw (behind-queue s x j l) (d .recent j k l);
+      closed = λ j z k. (let l : j < s .queued = omega (arith, d .behind) in rw (behind-queue s x j l) (d .closed j z k));
+    }
+
+    pub spread-at : (x : ℕ) (s : Placing) {t : Placing} → x < 100 → QueueRoom s → (getD entered x 0 ≡ value → Mine costs before corners built entered x i)
+        → Spreads s → Tried entered value i x s t → Spreads t
+    spread-at x s h r m d (held e n) = rw e (spread-behind x s d)
+    spread-at x s h r m d (apart e n) = rw e (spread-behind x s d)
+    spread-at x s h r m d (taken e n v) =
+        let full : x < length (s .places) = omega (arith, r .full) in
+        let room : s .queued < length (s .queue) = omega (arith, r .indexes .full, r .indexes .count-in, has-room s x r h n) in
+        let same : getD (set (s .queue) (s .queued) x) (s .queued) 0 ≡ x = getD-set-same (s .queue) (s .queued) x 0 room in
+        let here : getD (set (s .places) x i) x 0 ≡ i = getD-set-same (s .places) x i 0 full in
+        let queue-other : (j : ℕ) → j < s .queued → getD (set (s .queue) (s .queued) x) j 0 ≡ getD (s .queue) j 0 =
+        λ j l. getD-set-other (s .queue) (s .queued) j x 0 (λ q. absurd (omega arith)) in
+        let other : (z : ℕ) → (z ≡ x → ⊥) → getD (set (s .places) x i) z 0 ≡ getD (s .places) z 0 = λ z q. getD-set-other (s .places) x z i 0 q in
+        rw e (record {
+          behind = omega (arith, d .behind);
+          listed = λ z l p. elim (ℕ-discrete z x) [
+            | yes q ↦ (s .queued, omega arith, same ∙ sym q)
+            | no q ↦ (let o = d .listed z l (λ a. p (other z q ∙ a)) in (o .0, omega (arith, o .1), queue-other (o .0) (o .1) ∙ o .2))
+          ];
+          queued-placed = λ j l p. elim (ℕ-discrete j (s .queued)) [
+            | yes q ↦ absurd (let z : i ≡ 255 = sym here ∙ sym (ap (λ (k : ℕ). getD (set (s .places) x i) k 0) (rw q same)) ∙ p in omega arith)
+            | no q ↦ absurd (let l′ : j < s .queued = omega arith in
+                elim (ℕ-discrete (getD (s .queue) j 0) x) [
+                  | yes w ↦ d .queued-placed j l′ (ap (λ (k : ℕ). getD (s .places) k 0) w ∙ n)
+                  | no w ↦ d .queued-placed j l′ (sym (other _ w) ∙ ap (λ (k : ℕ). getD (set (s .places) x i) k 0) (sym (queue-other j l′)) ∙ p)
+                ])
+          ];
+          mine = λ z l p. elim (ℕ-discrete z x) [
+            | yes q ↦ rw (q, here) (m v)
+            | no q ↦ rw (other z q) (d .mine z l (λ a. p (other z q ∙ a)))
+          ];
+          no-later = λ z l p. elim (ℕ-discrete z x) [
+            | yes q ↦ rw (q, here) (omega arith)
+            | no q ↦ rw (other z q) (d .no-later z l (λ a. p (other z q ∙ a)))
+          ];
+          recent = λ j k l. elim (ℕ-discrete j (s .queued)) [
+            | yes q ↦ rw (q, same) here
+            | no q ↦ (let l′ : j < s .queued = omega arith in
+                rw (queue-other j l′) (at-set (λ a. a ≡ i) (s .places) x i (getD (s .queue) j 0) full (λ w. refl) (λ w. d .recent j k l′)))
+          ];
+          closed = λ j z k b a.
+              (let l′ : j < s .queued = omega (arith, d .behind) in
+              let y = getD (s .queue) j 0 in
+              let apart-y : y ≡ x → ⊥ = λ q. d .queued-placed j l′ (ap (λ (k : ℕ). getD (s .places) k 0) q ∙ n) in
+              let old = d .closed j z k (rw (queue-other j l′) at b) (rw (queue-other j l′) at a) in
+              let few : getD (s .places) y 0 < 100 =
+              omega (arith, f .few-corners, d .mine y (r .indexes .cells-in j l′) (d .queued-placed j l′) .corner-of) in
+              let apart-z : z ≡ x → ⊥ = λ q. absurd (omega (arith, ap (λ (k : ℕ). getD (s .places) k 0) q, n)) in
+              rw (queue-other j l′, other y apart-y, other z apart-z) old);
+        })
+
+    -- a cell that was tried holds the position or an earlier one, if a move into it keeps the built costs exact
+    pub tried-least : (x : ℕ) (s : Placing) {t : Placing} → x < 100 → QueueRoom s → Spreads s → Tried entered value i x s t → getD entered x 0 ≡ value
+        → getD (t .places) x 0 ≤ i
+    tried-least x s h r d (held e n) v = rw e (d .no-later x h n)
+    tried-least x s h r d (apart e n) v = absurd (n v)
+    tried-least x s h r d (taken e n w) v = rw (e, getD-set-same (s .places) x i 0 (omega (arith, r .full))) (omega arith)
+
+    -- ---- the neighbours of a cell, one direction after the other
+
+    -- what trying the cells of a list of directions has come to
+    pub record Around (c : FieldCell) (ds : List CompassDir) (s t : Placing) : Type 0 where
+      pub around-spread : Spreads t
+      pub around-grown : Grown s t
+      pub around-least : (z : ℕ) → Neighbour c ds z → getD entered z 0 ≡ value → getD (t .places) z 0 ≤ i
+
+    abbrev Mines : FieldCell → List CompassDir → Type 0
+    Mines c ds = (z : ℕ) → Neighbour c ds z → getD entered z 0 ≡ value → Mine costs before corners built entered z i
+
+    step-around : (c : FieldCell) (d : CompassDir) (t : Stepped) → stepped c d ≡ t → (s : Placing) → QueueRoom s → Mines c (d ∷ []) → Spreads s
+        → Around c (d ∷ []) s (placedTo entered value i t s)
+    step-around c d (Cell n) e s r m q =
+        let x = indexOf n in
+        let h : x < 100 = index-below n (stepped-cell c d n e .within) in
+        let t = tried entered value i x s in
+        let only : (z : ℕ) → Neighbour c (d ∷ []) z → z ≡ x = λ z b. one z b (List·Memᴰ·cases-cons (b .listed)) in
+        record {
+          around-spread = spread-at x s h r (λ v. m x (record { way = d; listed = List·Memᴰ·head refl; cell = n; step = e; index = refl }) v) q t;
+          around-grown = grown-at entered value i x s t;
+          around-least = λ z b v. (let w = only z b in rw w (tried-least x s h r q t (rw w at v)));
+        }
+      where
+        one : (z : ℕ) (b : Neighbour c (d ∷ []) z) → (b .way ≡ d) ⊎ List·Memᴰ (b .way) [] → z ≡ indexOf n
+        one z b (inl w) = let same : Cell (b .cell) ≡ Cell n = sym (b .step) ∙ ap (stepped c) w ∙ e in b .index ∙ ap indexOf cc
+        one z b (inr w) = absurd (List·Memᴰ·not-nil w)
+    step-around c d Outside e s r m q = record {
+      around-spread = q;
+      around-grown = grown-none s;
+      around-least = λ z b v. absurd (none z b (List·Memᴰ·cases-cons (b .listed)));
+    }
+      where
+        none : (z : ℕ) (b : Neighbour c (d ∷ []) z) → (b .way ≡ d) ⊎ List·Memᴰ (b .way) [] → ⊥
+        none z b (inl w) =
+            let clash : Cell (b .cell) ≡ Outside = sym (b .step) ∙ ap (stepped c) w ∙ e in
+            let zero-one : _≡_ {A = ℕ} 0 1 = cc in
+            absurd (omega arith)
+        none z b (inr w) = List·Memᴰ·not-nil w
+
+    abbrev first-of : {c : FieldCell} {d : CompassDir} {ds : List CompassDir} {z : ℕ} → Neighbour c (d ∷ []) z → Neighbour c (d ∷ ds) z
+    first-of {c} {d} {ds} {z} b =
+        record {
+          way = b .way;
+          listed = ⊎-elim (λ w. List·Memᴰ·head w) (λ w. absurd (List·Memᴰ·not-nil w)) (List·Memᴰ·cases-cons (b .listed));
+          cell = b .cell;
+          step = b .step;
+          index = b .index;
+        }
+
+    pub around : (c : FieldCell) (ds : List CompassDir) (s : Placing) → QueueRoom s → Mines c ds → Spreads s
+        → Around c ds s (placedAround entered value i c ds s)
+    unfolding placedAround
+    around c [] s r m q = record { around-spread = q; around-grown = grown-none s; around-least = λ z b v. absurd (List·Memᴰ·not-nil (b .listed)) }
+    around c (d ∷ ds) s r m q =
+        let mid = placedTo entered value i (stepped c d) s in
+        let one = step-around c d (stepped c d) refl s r (λ z b v. m z (first-of b) v) q in
+        let rest = around c ds mid (room-to entered value i small c d (stepped c d) refl s r) (λ z b v. m z (later b) v) (one .around-spread) in
+        record {
+          around-spread = rest .around-spread;
+          around-grown = grown-then (one .around-grown) (rest .around-grown);
+          around-least = λ z b v. (⊎-elim
+              (λ (w : b .way ≡ d).
+              (let here : Neighbour c (d ∷ []) z = record { way = b .way; listed = List·Memᴰ·head w; cell = b .cell; step = b .step; index = b .index } in
+              let l = one .around-least z here v in
+              omega (arith, rest .around-grown .places-kept z (λ a. absurd (omega arith)))))
+              (λ (w : List·Memᴰ (b .way) ds). rest .around-least z (record { way = b .way; listed = w; cell = b .cell; step = b .step; index = b .index }) v)
+              (List·Memᴰ·cases-cons (b .listed)));
+        }
+
+  -- ---- one cell of the queue gone around from
+
+  pub gone-more : (i gone : ℕ) (s : Placing) → i < 255 → QueueRoom s → gone < s .queued → Spread costs before corners built entered i gone s
+      → let y = getD (s .queue) gone 0 in
+      Spread costs before corners built entered i (suc gone) (placedAround entered (Now y) i (cellAt y) orthogonal s)
+  gone-more i gone s small r h d =
+      let y = getD (s .queue) gone 0 in
+      let y-in : y < 100 = r .indexes .cells-in gone h in
+      let y-placed = d .queued-placed gone h in
+      let y-is : getD (s .places) y 0 ≡ i = d .recent gone (omega arith) h in
+      let mine : Mine costs before corners built entered y i = rw y-is at (d .mine y y-in y-placed) in
+      let all = around i gone (Now y) small (cellAt y) orthogonal s r
+      (λ z b v. (let beside = neighbour-beside y y-in z b in move-mine i y z mine beside (beside-below y z beside .1) v)) d in
+      let g = all .around-grown in
+      let t = all .around-spread in
+      let same-y = g .queue-kept gone h in
+      let same-place : getD (placedAround entered (Now y) i (cellAt y) orthogonal s .places) y 0 ≡ i = g .places-kept y y-placed ∙ y-is in
+      record {
+        behind = omega (arith, g .more);
+        listed = t .listed;
+        queued-placed = t .queued-placed;
+        mine = t .mine;
+        no-later = t .no-later;
+        recent = λ j k l. t .recent j (omega arith) l;
+        closed = λ j x k b e. elim (ℕ-discrete j gone) [
+          | yes q ↦
+              (let q-y = ap (λ (m : ℕ). getD (placedAround entered (Now y) i (cellAt y) orthogonal s .queue) m 0) q ∙ same-y in
+              rw (q-y, same-place) (all .around-least x (beside-neighbour y x (rw q-y at b)) (rw q-y at e)))
+          | no q ↦ t .closed j x (omega arith) b e
+        ];
+      }
