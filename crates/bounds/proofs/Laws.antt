@@ -17,8 +17,8 @@ use Rattle.route.specs.Target.{Target, windowOf, byWindow, TargetIn, targetOf}
 use Rattle.route.proofs.Targets.{at-place, target-in}
 use Rattle.integration_field.specs.Word.{isPortal}
 use Rattle.flow_byte.specs.New.{isIn}
-use Rattle.arrows.specs.Arrows.{builtCost}
-use Rattle.arrows.specs.Promise.{builtCells}
+use Rattle.flow_arrows.specs.Arrows.{builtCost}
+use Rattle.flow_arrows.specs.Promise.{builtCells}
 use Rattle.sector.specs.Sector.{sectorBytes}
 use Rattle.cost_bounds.specs.declared.Bounds.{Bounds}
 use Rattle.cost_bounds.specs.Bounds.{someOf, boundsNumber, isSure, refusedBounds, acceptedBounds, boundsAnswer}

@@ -29,8 +29,8 @@ use Rattle.integration_started.proofs.Before.{walls-length}
 use Rattle.integration_started.proofs.Words.{word-at}
 use Rattle.integration_walks.proofs.Ground.{mem-among}
 use Rattle.flow_byte.specs.New.{isIn}
-use Rattle.arrows.proofs.Fall.{is-in, not-in, Sector, value, Plain, end-word, by-kind, spreads}
-use Rattle.arrows.proofs.CellBytes.{small-untaken}
+use Rattle.flow_arrows.proofs.Fall.{is-in, not-in, Sector, value, Plain, end-word, by-kind, spreads}
+use Rattle.flow_arrows.proofs.CellBytes.{small-untaken}
 
 -- ---- the same walls
 

@@ -20,7 +20,7 @@ use Rattle.integration_field.proofs.Flags.{small-flag}
 use Rattle.integration_walks.specs.Walks.{Wall}
 use Rattle.integration_walks.proofs.Ground.{among-mem, mem-among}
 use Rattle.flow_byte.specs.New.{isIn}
-use Rattle.arrows.proofs.Fall.{is-in, in-among, Sector, wall-word, by-kind}
+use Rattle.flow_arrows.proofs.Fall.{is-in, in-among, Sector, wall-word, by-kind}
 use Rattle.cost_bounds.specs.Bounds.{someOf, everyOf, permittedFrom, isBelowOthers, isSure}
 use Rattle.cost_bounds.specs.Promise.{PermittedNeighbour, SureBy, by-window, by-costs, SureCell}
 use Rattle.cost_bounds.proofs.Floors.{wall-known}

@@ -19,8 +19,8 @@ use Rattle.fields.specs.declared.Stepped.the-variants.{Cell, Outside}
 use Rattle.fields.specs.Cell.{cellAt, indexOf, stepped}
 use Rattle.fields.proofs.Steps.{index-of-cell}
 use Rattle.integration_field.specs.Diagonal.{wallAt, passesWall}
-use Rattle.arrows.proofs.Around.{Sees, sees, near-in}
-use Rattle.arrows.proofs.Look.{passes, sees-on}
+use Rattle.flow_arrows.proofs.Around.{Sees, sees, near-in}
+use Rattle.flow_arrows.proofs.Look.{passes, sees-on}
 use Rattle.flow_byte.specs.Look.{isPassedOver}
 use Rattle.cost_bounds.specs.Bounds.{consPermitted, permittedAlong, permittedFrom}
 use Rattle.cost_bounds.specs.Promise.{PermittedNeighbour}

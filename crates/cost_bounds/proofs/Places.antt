@@ -13,11 +13,11 @@ use Rattle.route.specs.Target.{Target}
 use Rattle.integration_field.specs.Diagonal.{wallAt, passesWall}
 use Rattle.integration_walks.specs.Walks.{Wall}
 use Rattle.flow_bits.specs.Byte.{bitsOf, dirOf}
-use Rattle.arrows.specs.Arrows.{Away}
-use Rattle.arrows.proofs.Around.{Sees, sees, near-in, pointing-in}
-use Rattle.arrows.proofs.Bytes.{pointed-is}
-use Rattle.arrows.proofs.Clear.{passes-told}
-use Rattle.arrows.proofs.Moves.{away, reads-so}
+use Rattle.flow_arrows.specs.Arrows.{Away}
+use Rattle.flow_arrows.proofs.Around.{Sees, sees, near-in, pointing-in}
+use Rattle.flow_arrows.proofs.Bytes.{pointed-is}
+use Rattle.flow_arrows.proofs.Clear.{passes-told}
+use Rattle.flow_arrows.proofs.Moves.{away, reads-so}
 use Rattle.cost_bounds.specs.Promise.{PermittedNeighbour, PermittedPlace}
 use Rattle.cost_bounds.proofs.Permitted.{permitted-sees, sees-permitted}
 

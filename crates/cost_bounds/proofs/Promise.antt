@@ -22,14 +22,14 @@ use Rattle.integration_walks.proofs.Ground.{among-mem, mem-among}
 use Rattle.flow_bits.specs.Byte.{bitsOf}
 use Rattle.flow_byte.specs.New.{isIn, newBytes}
 use Rattle.flow_byte.specs.Look.{flowBuild}
-use Rattle.arrows.specs.Arrows.{builtCost, arrow, Away}
-use Rattle.arrows.specs.Promise.{builtCells}
-use Rattle.arrows.proofs.Fall.{Sector, by-kind}
-use Rattle.arrows.proofs.Around.{near-in}
+use Rattle.flow_arrows.specs.Arrows.{builtCost, arrow, Away}
+use Rattle.flow_arrows.specs.Promise.{builtCells}
+use Rattle.flow_arrows.proofs.Fall.{Sector, by-kind}
+use Rattle.flow_arrows.proofs.Around.{near-in}
 use Rattle.utilities.proofs.Lists.{table-at}
-use Rattle.arrows.proofs.Bytes.{pointed-is}
-use Rattle.arrows.proofs.Moves.{away, away-bits}
-use Rattle.arrows.proofs.CellBytes.{window-sector}
+use Rattle.flow_arrows.proofs.Bytes.{pointed-is}
+use Rattle.flow_arrows.proofs.Moves.{away, away-bits}
+use Rattle.flow_arrows.proofs.CellBytes.{window-sector}
 use Rattle.cost_bounds.specs.Bounds.{costsOn, isSure, sureOn}
 use Rattle.cost_bounds.specs.Promise.{FloorBetween, CostBounds, SureCell, SureArrow, SureMarks}
 use Rattle.cost_bounds.proofs.Floors.{started-same, not-dearer, reached-too, portal-known}

@@ -21,13 +21,13 @@ use Rattle.integration_field.specs.Word.{low, isGoal, isPortal}
 use Rattle.integration_walks.proofs.Ground.{among-mem, mem-among}
 use Rattle.flow_byte.specs.Look.{Look, Looking, Taken, Ended, lookAround, lookedByte, pointed, flowBuild}
 use Rattle.flow_byte.specs.New.{newBytes}
-use Rattle.arrows.specs.Arrows.{arrow, Away}
-use Rattle.arrows.proofs.Fall.{is-in, in-among, Sector, value, Plain, NoWall, end-word}
-use Rattle.arrows.proofs.Around.{Sees, near-in, pointing-in, reached-there, reached-back}
-use Rattle.arrows.proofs.Look.{First, first-or-none, first-holds, first-same, LooksAt, Takes, is-taking, takes-first, ends-least}
-use Rattle.arrows.proofs.Bytes.{pointed-is}
-use Rattle.arrows.proofs.Moves.{away}
-use Rattle.arrows.proofs.CellBytes.{plain-byte}
+use Rattle.flow_arrows.specs.Arrows.{arrow, Away}
+use Rattle.flow_arrows.proofs.Fall.{is-in, in-among, Sector, value, Plain, NoWall, end-word}
+use Rattle.flow_arrows.proofs.Around.{Sees, near-in, pointing-in, reached-there, reached-back}
+use Rattle.flow_arrows.proofs.Look.{First, first-or-none, first-holds, first-same, LooksAt, Takes, is-taking, takes-first, ends-least}
+use Rattle.flow_arrows.proofs.Bytes.{pointed-is}
+use Rattle.flow_arrows.proofs.Moves.{away}
+use Rattle.flow_arrows.proofs.CellBytes.{plain-byte}
 use Rattle.cost_bounds.specs.Promise.{PermittedNeighbour, SureBy, by-window, by-costs}
 use Rattle.cost_bounds.proofs.Floors.{wall-known, taken-known}
 use Rattle.cost_bounds.proofs.Permitted.{permitted-sees, sees-permitted, same-sees}

@@ -18,8 +18,8 @@ use Rattle.route.specs.Target.{Target, windowOf, targetOf}
 use Rattle.integration_field.specs.Diagonal.{wallAt}
 use Rattle.flow_byte.specs.New.{isIn}
 use Rattle.flow_byte.specs.Look.{isPassedOver}
-use Rattle.arrows.specs.Arrows.{builtCost}
-use Rattle.arrows.specs.Promise.{builtCells}
+use Rattle.flow_arrows.specs.Arrows.{builtCost}
+use Rattle.flow_arrows.specs.Promise.{builtCells}
 use Rattle.cost_bounds.specs.declared.Bounds.{Bounds}
 
 -- some entry of a list passes a test; every entry does

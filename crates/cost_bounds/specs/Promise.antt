@@ -16,8 +16,8 @@ use Rattle.route.specs.Step.{markOf, stepNumberOn}
 use Rattle.route.specs.Target.{Target, WindowCell}
 use Rattle.integration_walks.specs.Walks.{Wall}
 use Rattle.flow_byte.specs.Look.{Looking, lookAt}
-use Rattle.arrows.specs.Arrows.{builtCost, Reached, arrow, Away, PassesWall}
-use Rattle.arrows.specs.Promise.{builtCells}
+use Rattle.flow_arrows.specs.Arrows.{builtCost, Reached, arrow, Away, PassesWall}
+use Rattle.flow_arrows.specs.Promise.{builtCells}
 use Rattle.cost_bounds.specs.declared.Bounds.{Bounds}
 
 -- a floor between two others (02, "Job 9": all floors between them): each cell costs at least what it costs on the low one, and at most what it

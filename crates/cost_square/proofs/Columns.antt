@@ -15,7 +15,7 @@ use Rattle.utilities.specs.Lists.{below}
 use Rattle.route.specs.Target.{targetOf}
 use Rattle.step_list.specs.Steps.{stepOf}
 use Rattle.utilities.proofs.Lists.{table-at, table-same, table-of}
-use Rattle.arrows.specs.Promise.{builtCells}
+use Rattle.flow_arrows.specs.Promise.{builtCells}
 use Rattle.cost_square.specs.Square.{windowCost, squareEntry, costSquare, rowsOf, squareIn}
 use Rattle.cost_square.specs.Promise.{costAt}
 use Rattle.cost_square.specs.Inner.{leastFrom, heldRow}

@@ -9,7 +9,7 @@ use mathlib.Core.List.{List, [], _∷_, List·Memᴰ, List·Memᴰ·head, List·
 use Prim.Native.Nat.{ℕ, _≤_, _<_, min}
 use native.Mathlib.Omega.{arith}
 use native.Mathlib.Decide.{decLt}
-use Rattle.arrows.specs.Arrows.{builtCost}
+use Rattle.flow_arrows.specs.Arrows.{builtCost}
 use Rattle.cost_square.specs.Square.{leastBuilt}
 
 module _ (built : List ℕ) where

@@ -24,10 +24,10 @@ use Rattle.utilities.proofs.Lists.{table-length, table-at}
 use Rattle.integration_field.specs.Word.{low}
 use Rattle.integration_walks.proofs.Ground.{mem-among}
 use Rattle.integration_walks.proofs.Promise.{demand3}
-use Rattle.arrows.specs.Arrows.{builtCost}
-use Rattle.arrows.specs.Promise.{builtCells}
-use Rattle.arrows.proofs.Fall.{end-word}
-use Rattle.arrows.proofs.CellBytes.{window-sector}
+use Rattle.flow_arrows.specs.Arrows.{builtCost}
+use Rattle.flow_arrows.specs.Promise.{builtCells}
+use Rattle.flow_arrows.proofs.Fall.{end-word}
+use Rattle.flow_arrows.proofs.CellBytes.{window-sector}
 use Rattle.cost_square.specs.Square.{leastBuilt, windowCost, squareEntry, costSquare}
 use Rattle.cost_square.specs.Promise.{WindowWalk, LeastCost, costAt, WindowSquare}
 use Rattle.cost_square.specs.Inner.{WindowsReady}

@@ -18,10 +18,10 @@ use Rattle.integration_started.specs.Started.{started}
 use Rattle.integration_walks.specs.Walks.{Wall, Enterable, StartedLeast}
 use Rattle.integration_walks.proofs.Ground.{among-mem, mem-among}
 use Rattle.integration_walks.proofs.Promise.{demand3}
-use Rattle.arrows.specs.Arrows.{builtCost}
-use Rattle.arrows.specs.Promise.{builtCells}
-use Rattle.arrows.proofs.Fall.{Sector, Plain, end-word, by-kind, spreads}
-use Rattle.arrows.proofs.CellBytes.{window-sector}
+use Rattle.flow_arrows.specs.Arrows.{builtCost}
+use Rattle.flow_arrows.specs.Promise.{builtCells}
+use Rattle.flow_arrows.proofs.Fall.{Sector, Plain, end-word, by-kind, spreads}
+use Rattle.flow_arrows.proofs.CellBytes.{window-sector}
 use Rattle.cost_square.specs.Promise.{WindowWalk}
 
 module _ (costs window : List ℕ) (full : length costs ≡ 100) (window-in : WindowIn window) (byte : (x : ℕ) → x < 100 → getD costs x 0 ≤ 255) where

@@ -14,8 +14,8 @@ use Rattle.integration_field.specs.Built.{waveCount}
 use Rattle.integration_started.specs.Started.{started}
 use Rattle.integration_walks.specs.Walks.{Wall, StartedWalk}
 use Rattle.integration_walks.specs.Promise.{Demand3}
-use Rattle.arrows.specs.Arrows.{builtCost}
-use Rattle.arrows.specs.Promise.{builtCells}
+use Rattle.flow_arrows.specs.Arrows.{builtCost}
+use Rattle.flow_arrows.specs.Promise.{builtCells}
 
 -- a permitted walk of demand 3 from a target alone: of so many moves, into a cell, and the sum that it comes to
 abbrev pub WindowWalk : List ℕ → Target → ℕ → ℕ → ℕ → Type 0

@@ -11,8 +11,8 @@ use Rattle.utilities.specs.Lists.{below}
 use Rattle.route.specs.Step.{sectorOf, isWindow, windowCells, stepRowsOn}
 use Rattle.route.specs.Target.{targetOf}
 use Rattle.step_list.specs.Steps.{stepsOf, stepOf}
-use Rattle.arrows.specs.Arrows.{builtCost}
-use Rattle.arrows.specs.Promise.{builtCells}
+use Rattle.flow_arrows.specs.Arrows.{builtCost}
+use Rattle.flow_arrows.specs.Promise.{builtCells}
 use Rattle.cost_square.specs.declared.WindowRow.{WindowRow}
 use Rattle.cost_square.specs.declared.WindowCosts.{WindowCosts}
 

@@ -22,7 +22,7 @@ use Rattle.route.specs.Inner.{listedTarget}
 use Rattle.route.proofs.Cells.{cells-in}
 use Rattle.route.proofs.Targets.{target-in, sight-in, sight-window}
 use Rattle.route.proofs.Selected.{select-in, selected-from}
-use Rattle.arrows.proofs.Clear.{OnEdge, window-on, target-on}
+use Rattle.flow_arrows.proofs.Clear.{OnEdge, window-on, target-on}
 use Rattle.counting.specs.Counting.{countingCells, legTarget, isClosed}
 use Rattle.counting.specs.Inner.{routeLegTarget}
 

@@ -25,7 +25,7 @@ use Rattle.route.proofs.Facing.{facing-in, facing-north, facing-east, facing-so
 use Rattle.route.proofs.Targets.{target-window, window-told, named-edge, edge-named}
 use Rattle.route.proofs.Selected.{selected, selected-from}
 use Rattle.flow_byte.specs.New.{facingValue, unlessEnd, seenValues}
-use Rattle.arrows.specs.Arrows.{Reached}
+use Rattle.flow_arrows.specs.Arrows.{Reached}
 use Rattle.counting.specs.Counting.{
   counts,
   countingCells,

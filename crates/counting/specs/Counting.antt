@@ -11,7 +11,7 @@ use Rattle.route.specs.Window.{select}
 use Rattle.route.specs.Step.{boundaryByte, windowCells, portalOf}
 use Rattle.route.specs.Target.{Target, to-goal, to-window, to-corner, bySight, targetOf, StepWindow}
 use Rattle.flow_byte.specs.New.{seenValues}
-use Rattle.arrows.specs.Arrows.{Reached}
+use Rattle.flow_arrows.specs.Arrows.{Reached}
 
 -- Window cell i counts. `previous` is the built field of the step before. The cells compared are those of the facing choice, over the whole
 -- window; a window of one cell sees straight alone, since its first cell is its last.

@@ -17,7 +17,7 @@ ghost use Prim.Native.Nat.{_+_, _*_, _<_};
 ghost use lib.ListN.{length};
 ghost use Rattle.fields.specs.Cell.{Inside, indexOf};
 ghost use Rattle.flow_byte.specs.Look.{lookAround, flowBuild};
-ghost use Rattle.arrows.specs.Promise.{BuildArrows};
+ghost use Rattle.flow_arrows.specs.Promise.{BuildArrows};
 ghost use Rattle.flow_build.specs.Flow.{buildNumber, buildSheet};
 ghost use Rattle.flow_build.specs.Inner.{LooksHeld, LooksOn, cellKey, cellKeys, seenKey, isNoted, keyAfter, bitsAfter};
 ghost use Rattle.flow_build.specs.Inner.{isKept, NoneLooks, heldByte, byteAfter, heldBytes, nothingFound};

@@ -20,7 +20,7 @@ use Rattle.route.specs.declared.WindowCells.{WindowCells}
 use Rattle.route.specs.Target.{WindowIn}
 use Rattle.route.specs.Inner.{WindowHeld}
 use Rattle.flow_byte.specs.New.{startOf, windowBits, isIn, newByte, newBytes}
-use Rattle.arrows.proofs.Fall.{in-among}
+use Rattle.flow_arrows.proofs.Fall.{in-among}
 use Rattle.flow_new.specs.Inner.{startBytes, withBits}
 use Rattle.utilities.proofs.Lists.{table-length, table-at}
 

@@ -1,8 +1,8 @@
 // The library that others link. Each export hands on to the call of its name, and promises the same.
-use arrivals::Arrivals;
 use cost_bounds::Bounds;
 use cost_square::WindowCosts;
 use fields::FieldCell;
+use flow_arrivals::Arrivals;
 use integration_field::BuildAnswer;
 use integration_field::IntegrationField;
 use integration_started::InitAnswer;
@@ -33,10 +33,10 @@ ghost use Rattle.integration_field.specs.Promise.{LeastWalks, Counted, Earliest
 ghost use Rattle.integration_started.specs.Started.{initAnswer, StartedField};
 ghost use Rattle.integration_walks.specs.Promise.{StartedPositions, OnceBuilt, BuildsStarted};
 ghost use Rattle.flow_bits.specs.Byte.{dirOf, isPathable, hasLineOfSight, isGoal, isPortalGoal, isWall};
-ghost use Rattle.arrows.specs.Promise.{BuildArrows, OnceBuiltArrows, StartedArrows};
-ghost use Rattle.arrivals.specs.Arrivals.{arrivalsAnswer};
-ghost use Rattle.arrivals.specs.Promise.{ArrivalsTold};
-ghost use Rattle.planned_arrivals.specs.Promise.{WindowArrives, SightlessArrives, LegTold};
+ghost use Rattle.flow_arrows.specs.Promise.{BuildArrows, OnceBuiltArrows, StartedArrows};
+ghost use Rattle.flow_arrivals.specs.Arrivals.{arrivalsAnswer};
+ghost use Rattle.flow_arrivals.specs.Promise.{ArrivalsTold};
+ghost use Rattle.flow_arrivals_planned.specs.Promise.{WindowArrives, SightlessArrives, LegTold};
 ghost use Rattle.flow_new.specs.Flow.{newNumber, newSheet};
 ghost use Rattle.flow_build.specs.Flow.{buildNumber, buildSheet};
 ghost use Rattle.sector.specs.Sector.{sectorAnswer, sectorSheet, sectorAnswerBy, sectorSheetBy};
@@ -192,7 +192,7 @@ pub extern "C" fn hanjolum_arrivals(sheet: &[u8]) -> Arrivals
     ensures without_sight { λ r. ⌜ (r .number ≡ 0 → SightlessArrives (now (sheet .entry)) (r .moves)) ⌝ }
     ensures refused { λ r. ⌜ ((r .number ≡ 0 → ⊥) → AllZero 0 (r .moves)) ⌝ }
 {
-    following::arrivals(sheet)
+    flow_following::arrivals(sheet)
 }
 
 // The built field of a leg's step, as the leg plans it, or number 1, 3, 21, 4 to 10, 16, or 15.

@@ -12,8 +12,8 @@ use Rattle.integration_field.specs.Promise.{LeastWalks, Counted, EarliestCorner
 use Rattle.integration_field.proofs.Answers.{answer-promises, list-kept, build-refused}
 use Rattle.integration_walks.specs.Promise.{BuildsStarted}
 use Rattle.integration_walks.proofs.Promise.{builds-started}
-use Rattle.arrows.specs.Promise.{StartedArrows}
-use Rattle.arrows.proofs.Lead.{started-arrows}
+use Rattle.flow_arrows.specs.Promise.{StartedArrows}
+use Rattle.flow_arrows.proofs.Lead.{started-arrows}
 
 -- what is given: costs are bytes, and the field's arrays have a hundred places
 pub record Given (costs : List ℕ) (f : IntegrationField) : Type 0 where

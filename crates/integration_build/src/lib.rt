@@ -16,7 +16,7 @@ ghost use Rattle.integration_field.specs.Wave.{isWritten, relaxed, offered, off
 ghost use Rattle.integration_field.specs.Answer.{answerOf, allCells, Accepted, buildAnswer};
 ghost use Rattle.integration_field.specs.Promise.{LeastWalks, Counted, EarliestCorners, ListKept, BuildRefused};
 ghost use Rattle.integration_walks.specs.Promise.{BuildsStarted};
-ghost use Rattle.arrows.specs.Promise.{StartedArrows};
+ghost use Rattle.flow_arrows.specs.Promise.{StartedArrows};
 ghost use Rattle.integration_build.specs.Without.{builtWithout};
 ghost use Rattle.integration_build.specs.Wavefront.{Settles, SettlesFrom};
 ghost use Rattle.integration_build.specs.Inner.{NotBelowAll, ChangedCells, OfferReady, WaveReady};

@@ -15,8 +15,8 @@ use Rattle.integration_started.specs.Started.{started, initNumber, initRefused,
 use Rattle.integration_started.proofs.Started.{answer-told, init-refused}
 use Rattle.integration_walks.specs.Promise.{OnceBuilt}
 use Rattle.integration_walks.proofs.Promise.{once-built}
-use Rattle.arrows.specs.Promise.{OnceBuiltArrows}
-use Rattle.arrows.proofs.Lead.{once-built-arrows}
+use Rattle.flow_arrows.specs.Promise.{OnceBuiltArrows}
+use Rattle.flow_arrows.proofs.Lead.{once-built-arrows}
 
 module _ (costs step : List ℕ) where
   pub costs-refused : (length costs ≡ 100 → ⊥) → initRefused 1 ≡ initAnswer costs step

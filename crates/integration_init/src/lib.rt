@@ -32,7 +32,7 @@ ghost use Rattle.integration_started.specs.CornerLine.{cornerLine};
 ghost use Rattle.integration_started.specs.Sight.{wallOr, walls, marked, stopped, lineMarked, extended, unlessWall, sideTried, wallMet};
 ghost use Rattle.integration_started.specs.Sight.{neighbourLooked, looked, lookedAround, waveLooked, sightAfter};
 ghost use Rattle.integration_walks.specs.Promise.{OnceBuilt};
-ghost use Rattle.arrows.specs.Promise.{OnceBuiltArrows};
+ghost use Rattle.flow_arrows.specs.Promise.{OnceBuiltArrows};
 ghost use Rattle.integration_init.specs.Held.{sightOf, Holds, Ready, Applied, AppliedAll, HoldsAll, ReadyAll, NoWall, Lent, InWave};
 
 // How many corners are listed, and how many cells the wave has queued.

@@ -24,9 +24,9 @@ use Rattle.sectors.proofs.Floor.{across-sector}
 use Rattle.sector.specs.Sector.{sectorField, sectorBytes}
 use Rattle.sector.proofs.Planned.{sector-leads}
 use Rattle.flow_byte.specs.New.{windowBits}
-use Rattle.arrows.specs.Arrows.{Reached, arrow, Leads, ends, moves, ArrowsLead}
-use Rattle.arrows.specs.Promise.{WindowSector}
-use Rattle.arrows.proofs.Lead.{window-flow}
+use Rattle.flow_arrows.specs.Arrows.{Reached, arrow, Leads, ends, moves, ArrowsLead}
+use Rattle.flow_arrows.specs.Promise.{WindowSector}
+use Rattle.flow_arrows.proofs.Lead.{window-flow}
 use Rattle.counting.specs.Counting.{countingCells}
 use Rattle.step_list.specs.Steps.{stepsOf}
 use Rattle.leg_plan.specs.Leg.{part, planned}

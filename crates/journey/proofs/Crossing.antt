@@ -28,8 +28,8 @@ use Rattle.route.proofs.Selected.{selected-from}
 use Rattle.sectors.proofs.Floor.{Arrives}
 use Rattle.flow_bits.specs.Byte.{bitsOf}
 use Rattle.flow_byte.specs.New.{facingBits, facingValue, seenValues, facingChoice, windowBits}
-use Rattle.arrows.specs.Arrows.{northward, eastward, southward, westward, Reached}
-use Rattle.arrows.proofs.Moves.{isArrow}
+use Rattle.flow_arrows.specs.Arrows.{northward, eastward, southward, westward, Reached}
+use Rattle.flow_arrows.proofs.Moves.{isArrow}
 use Rattle.counting.specs.Counting.{counts, countingCells}
 use Rattle.counting.proofs.Told.{seen-inner, one-below, counting-told, one-straight}
 use Rattle.journey.specs.Place.{Place, placeOf, Points}

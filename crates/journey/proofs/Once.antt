@@ -9,7 +9,7 @@ use mathlib.Core.Bool.{Bool}
 use mathlib.Core.List.{List}
 use Prim.Native.Nat.{ℕ, zero, suc, _+_, _-_}
 use native.Mathlib.Omega.{arith}
-use Rattle.arrows.specs.Arrows.{northward, eastward, southward, westward}
+use Rattle.flow_arrows.specs.Arrows.{northward, eastward, southward, westward}
 use Rattle.journey.specs.Place.{Place, Points, arrowAt, FloorMove}
 use Rattle.journey.specs.Journey.{ReachedIn, Journey, ends, moves, crosses}
 

@@ -15,8 +15,8 @@ use lib.Dec.{ltb, leb}
 use lib.ListN.{getD, drop}
 use lib.Seq.{getD-take, getD-drop}
 use borrow.Author.Tests.{ltb-true, leb-true}
-use Rattle.arrows.specs.Arrows.{arrow, northward, eastward, southward, westward, Away}
-use Rattle.arrows.proofs.Moves.{isArrow}
+use Rattle.flow_arrows.specs.Arrows.{arrow, northward, eastward, southward, westward, Away}
+use Rattle.flow_arrows.proofs.Moves.{isArrow}
 use Rattle.leg_plan.specs.Leg.{part}
 use Rattle.journey.specs.Place.{Place, OnFloor, placeOf, sectorIn, cellIn, Points, arrowAt}
 

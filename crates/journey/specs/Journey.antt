@@ -8,7 +8,7 @@ use lib.ListN.{length, getD}
 use Rattle.route.specs.Step.{goalOf}
 use Rattle.route.specs.Target.{WindowCell}
 use Rattle.step_list.specs.Steps.{stepOf}
-use Rattle.arrows.specs.Arrows.{builtCost, Reached, Cuts, PassesWall}
+use Rattle.flow_arrows.specs.Arrows.{builtCost, Reached, Cuts, PassesWall}
 use Rattle.leg_plan.specs.Promise.{sectorAt, costsAt, builtAt, targetAt}
 use Rattle.journey.specs.Place.{Place, placeOf, sectorIn, cellIn, FloorMove}
 

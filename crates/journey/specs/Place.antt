@@ -5,7 +5,7 @@ use mathlib.Core.Path.{_≡_}
 use mathlib.Core.List.{List}
 use Prim.Native.Nat.{ℕ, zero, suc, _+_, _*_, _/_, _%_, _≤_, _<_}
 use lib.ListN.{getD}
-use Rattle.arrows.specs.Arrows.{northward, eastward, southward, westward}
+use Rattle.flow_arrows.specs.Arrows.{northward, eastward, southward, westward}
 
 -- A place on the floor, of 80 columns by 80 rows: row 0 is north, column 0 is west.
 pub record Place : Type 0 where

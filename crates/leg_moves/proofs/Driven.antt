@@ -11,7 +11,7 @@ use Prim.Native.Nat.{ℕ, zero, _%_, _≤_, _<_}
 use native.Mathlib.Omega.{arith}
 use lib.ListN.{length}
 use Rattle.route.specs.Step.{goalOf}
-use Rattle.arrows.specs.Arrows.{Reached}
+use Rattle.flow_arrows.specs.Arrows.{Reached}
 use Rattle.step_list.specs.Steps.{stepOf, stepsOf}
 use Rattle.leg_plan.specs.Leg.{planned}
 use Rattle.leg_plan.specs.Promise.{sectorAt, builtAt}

@@ -12,7 +12,7 @@ use Rattle.route.specs.Step.{isWindow, goalOf}
 use Rattle.route.specs.Target.{Target, to-corner, withoutSight}
 use Rattle.route.proofs.Accepted.{accepted-goal}
 use Rattle.route.proofs.Targets.{target-goal}
-use Rattle.arrows.proofs.CellBytes.{corner-byte}
+use Rattle.flow_arrows.proofs.CellBytes.{corner-byte}
 use Rattle.sector.specs.Sector.{sectorBytes}
 use Rattle.step_list.specs.Steps.{stepOf, stepsOf}
 use Rattle.leg_plan.specs.Leg.{part, planned}

@@ -17,8 +17,8 @@ use Rattle.utilities.specs.Compass.{all, differences, points, within, rises, fa
 use Rattle.utilities.proofs.Sums.{sum-told, sum-made, within-true, true-within}
 use Rattle.route.proofs.Below.{holds-at}
 use Rattle.flow_bits.specs.Byte.{dirWith, dirOf}
-use Rattle.arrows.specs.Arrows.{northward, eastward, southward, westward}
-use Rattle.arrows.proofs.Moves.{isArrow}
+use Rattle.flow_arrows.specs.Arrows.{northward, eastward, southward, westward}
+use Rattle.flow_arrows.proofs.Moves.{isArrow}
 use Rattle.journey.specs.Place.{Place, Points}
 
 unless : (a b : Bool) → a ≡ true → (not a || b) ≡ true → b ≡ true

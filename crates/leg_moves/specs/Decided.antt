@@ -15,8 +15,8 @@ use Prim.Native.Nat.{ℕ, zero, suc, _+_, _-_, _*_, _/_, _%_, _≤_, _<_}
 use native.Mathlib.Omega.{arith}
 use lib.Dec.{ltb, leb}
 use borrow.Author.Tests.{ltb-true, leb-true, lt-ltb, le-leb}
-use Rattle.arrows.specs.Arrows.{northward, eastward, southward, westward}
-use Rattle.arrivals.specs.Decided.{AllDifferent, few}
+use Rattle.flow_arrows.specs.Arrows.{northward, eastward, southward, westward}
+use Rattle.flow_arrivals.specs.Decided.{AllDifferent, few}
 use Rattle.journey.specs.Place.{Place, OnFloor, sectorIn, cellIn, Points, arrowAt, FloorMove, FloorWalk, stays, goes}
 use Rattle.leg_moves.specs.Moving.{Still, Next, moves-to, stands, StandsAfter, Way, stands-after, stands-never}
 

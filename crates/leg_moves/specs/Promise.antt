@@ -7,7 +7,7 @@ use mathlib.Core.List.{List}
 use Prim.Native.Nat.{ℕ, zero, suc, _≤_, _<_}
 use lib.ListN.{length, getD}
 use Rattle.route.specs.Step.{goalOf}
-use Rattle.arrows.specs.Arrows.{Reached}
+use Rattle.flow_arrows.specs.Arrows.{Reached}
 use Rattle.step_list.specs.Steps.{stepOf, stepsOf}
 use Rattle.leg_plan.specs.Leg.{legNumberBy, legSheetBy}
 use Rattle.leg_plan.specs.Promise.{sectorAt, builtAt}

@@ -53,7 +53,7 @@ pub fn arrivals_agree(record: &[u8]) -> bool {
     if sheet > 101 {
         return false;
     }
-    let found = following::arrivals(part(record, 1, 1 + sheet));
+    let found = flow_following::arrivals(part(record, 1, 1 + sheet));
     let moves = found.moves;
     found.number == byte_at(record, 102) && check::same(&moves, part(record, 103, 203))
 }

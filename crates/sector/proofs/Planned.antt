@@ -33,14 +33,14 @@ use Rattle.integration_started.specs.Started.{started}
 use Rattle.integration_walks.specs.Promise.{StartedPositions}
 use Rattle.integration_walks.specs.Goal.{GoalCosts, GoalPositions}
 use Rattle.integration_walks.proofs.Promise.{demand3, started-positions, goal-told}
-use Rattle.arrows.specs.Arrows.{CellsMarked, ArrowsLead}
-use Rattle.arrows.specs.Promise.{NoCostZero}
+use Rattle.flow_arrows.specs.Arrows.{CellsMarked, ArrowsLead}
+use Rattle.flow_arrows.specs.Promise.{NoCostZero}
 use Rattle.flow_byte.specs.New.{windowBits, newByte, newBytes}
 use Rattle.flow_byte.specs.Look.{builtByte, flowBuild}
 use Rattle.flow_build.specs.Flow.{buildNumber, buildSheet}
-use Rattle.arrows.proofs.Bytes.{new-length}
-use Rattle.arrows.proofs.Clear.{OnEdge, arrows-clear, target-on}
-use Rattle.arrows.proofs.Lead.{arrows-led, marked-told, arrows-lead}
+use Rattle.flow_arrows.proofs.Bytes.{new-length}
+use Rattle.flow_arrows.proofs.Clear.{OnEdge, arrows-clear, target-on}
+use Rattle.flow_arrows.proofs.Lead.{arrows-led, marked-told, arrows-lead}
 use Rattle.sector.specs.Sector.{sectorNumber, sectorField, sectorBytes, sectorAnswer, sectorSheet, sectorAnswerBy, sectorSheetBy}
 use Rattle.sector.specs.Inner.{flowBytes}
 use Rattle.sector.specs.Previous.{WithoutPrevious, TargetOnWall}

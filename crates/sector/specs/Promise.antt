@@ -11,8 +11,8 @@ use Rattle.route.specs.Target.{Target, byWindow, EndCell, withoutSight, targetO
 use Rattle.integration_field.specs.declared.IntegrationField.{IntegrationField}
 use Rattle.integration_walks.specs.Promise.{Demand3}
 use Rattle.integration_walks.specs.Goal.{GoalCosts, GoalPositions}
-use Rattle.arrows.specs.Arrows.{ClearArrows, CellsMarked, ArrowsLead}
-use Rattle.arrows.specs.Promise.{NoCostZero}
+use Rattle.flow_arrows.specs.Arrows.{ClearArrows, CellsMarked, ArrowsLead}
+use Rattle.flow_arrows.specs.Promise.{NoCostZero}
 
 -- `built` are the cells of the built field, `waves` the count, `bytes` what was written
 pub record Planned (costs : List ℕ) (target : Target) (built : List ℕ) (waves : ℕ) (bytes : List ℕ) : Type 0 where

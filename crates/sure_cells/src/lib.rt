@@ -15,7 +15,7 @@ ghost use Rattle.integration_field.specs.Word.{isPortal};
 ghost use Rattle.integration_field.specs.Listed.{Indexes};
 ghost use Rattle.flow_byte.specs.New.{isIn};
 ghost use Rattle.flow_byte.specs.Look.{isPassedOver};
-ghost use Rattle.arrows.specs.Arrows.{builtCost};
+ghost use Rattle.flow_arrows.specs.Arrows.{builtCost};
 ghost use Rattle.cost_bounds.specs.Bounds.{someOf, permittedFrom, isBelowOthers, isSure};
 ghost use Rattle.cost_bounds.specs.Inner.{heldPermitted, FoundAlong};
 

@@ -17,7 +17,7 @@ use Rattle.route.specs.Step.{windowCells}
 use Rattle.route.specs.Target.{targetOf}
 use Rattle.step_list.specs.Steps.{stepsOf, stepOf}
 use Rattle.step_list.proofs.Steps.{steps-count}
-use Rattle.arrows.specs.Promise.{builtCells}
+use Rattle.flow_arrows.specs.Promise.{builtCells}
 use Rattle.cost_square.specs.Square.{windowCostsNumber, windowCost, squareEntry, costSquare}
 use Rattle.cost_square.specs.Promise.{costAt}
 use Rattle.cost_square.specs.Inner.{WindowsReady}

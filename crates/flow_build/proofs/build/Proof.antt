@@ -5,7 +5,7 @@ use native.Mathlib.Omega.{arith}
 use borrow.Author.Tests.{eq-eqb, ne-eqb}
 use denote.Ref.{now}
 use lib.ListN.{length}
-use Rattle.arrows.proofs.Lead.{build-arrows}
+use Rattle.flow_arrows.proofs.Lead.{build-arrows}
 use Rattle.flow_build.specs.Flow.{buildNumber}
 use borrow.Author.Needs.{needs}
 use Rattle.flow_build.proofs.build.Statement.{statement}

@@ -5,7 +5,7 @@ use Prim.Native.Nat.{_≤_, _-_}
 use native.Mathlib.Omega.{arith}
 use borrow.Author.Needs.{needs}
 use denote.Ref.{now}
-use Rattle.arrows.specs.Arrows.{builtCost}
+use Rattle.flow_arrows.specs.Arrows.{builtCost}
 use Rattle.utilities.proofs.Lists.{FilledTo, filled-more, filled-all}
 use Rattle.sure_cells.proofs.costs_of.Statement.{statement}
 use Rattle.sure_cells.proofs.costs_of.Tie as tie

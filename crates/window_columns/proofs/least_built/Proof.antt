@@ -12,7 +12,7 @@ use lib.Seq.{slice, slice-cons, slice-empty}
 use Rattle.route.specs.declared.WindowCells.{WindowCells}
 use Rattle.route.specs.Inner.{heldCells, WindowHeld}
 use Rattle.route.proofs.Targets.{held-inside}
-use Rattle.arrows.specs.Arrows.{builtCost}
+use Rattle.flow_arrows.specs.Arrows.{builtCost}
 use Rattle.cost_square.specs.Square.{leastBuilt}
 use Rattle.cost_square.proofs.Least.{least-small}
 use Rattle.window_columns.proofs.least_built.Statement.{statement}
