@@ -8,8 +8,8 @@ use native.Mathlib.Omega.{arith}
 use lib.ListN.{length, set, length-append}
 use lib.Seq.{sets}
 use Rattle.practice.specs.declared.PracticeFloor.{PracticeFloor}
-use Rattle.text.specs.Rows.{rowsText, decimal}
-use Rattle.text.proofs.Laws.{sets-append, rows-length}
+use Rattle.print_text.specs.Rows.{rowsText, decimal}
+use Rattle.print_text.proofs.Laws.{sets-append, rows-length}
 use Rattle.practice_text.specs.Text.{floorText}
 
 module _ (floor : PracticeFloor) where

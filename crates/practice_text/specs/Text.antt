@@ -8,7 +8,7 @@ use lib.Dec.{eqb}
 use lib.ListN.{length, getD}
 use Rattle.practice.specs.declared.PracticeFloor.{PracticeFloor}
 use Rattle.practice.specs.Floor.{practiceFloor}
-use Rattle.text.specs.Rows.{rowsText, decimal}
+use Rattle.print_text.specs.Rows.{rowsText, decimal}
 
 -- the seed of four bytes, low byte first
 unfoldable pub seedOf : List ℕ → ℕ

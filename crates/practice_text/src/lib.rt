@@ -40,9 +40,9 @@ fn put_floor(out: &mut [u8; 213], floor: PracticeFloor) -> usize
     ensures { λ r. ⌜ (r ≤ 213) × (r ≡ length (floorText floor)) × (now (out .exit) ≡ sets (now (out .entry)) 0 (floorText floor)) ⌝ }
 {
     let costs = floor.costs;
-    text::put_rows(out, &costs);
+    print_text::put_rows(out, &costs);
     let goal = floor.goal;
-    let end = 210 + text::put_decimal(out, 210, goal);
+    let end = 210 + print_text::put_decimal(out, 210, goal);
     out[end] = 10;
     end + 1
 }

@@ -6,7 +6,7 @@ use Prim.Native.Nat.{ℕ}
 use lib.ListN.{replicate}
 use Rattle.route.specs.Window.{onEdge, edge, cellsBetween}
 use Rattle.route.specs.Step.{stepNumberOn}
-use Rattle.text.specs.Rows.{decimal}
+use Rattle.print_text.specs.Rows.{decimal}
 use Rattle.sector.specs.Sector.{sectorNumber}
 use Rattle.printer.specs.Text.{noText, rendered, printed}
 

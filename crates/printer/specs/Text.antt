@@ -8,7 +8,7 @@ use lib.Dec.{eqb}
 use lib.ListN.{take, drop, replicate}
 use Rattle.route.specs.Step.{portalOf}
 use Rattle.route.specs.Target.{targetOf}
-use Rattle.text.specs.Rows.{rowsText, decimal}
+use Rattle.print_text.specs.Rows.{rowsText, decimal}
 use Rattle.sector.specs.Sector.{sectorNumber, sectorBytes}
 
 -- `no`, a space, the number and a line feed

@@ -12,7 +12,7 @@ fn put_no(out: &mut [u8; 210], number: u8) -> usize
     out[0] = b'n';
     out[1] = b'o';
     out[2] = b' ';
-    let end = 3 + text::put_decimal(out, 3, number);
+    let end = 3 + print_text::put_decimal(out, 3, number);
     out[end] = 10;
     end + 1
 }
@@ -25,7 +25,7 @@ fn render(number: u8, sheet: &[u8; 100], out: &mut [u8; 210]) -> usize
     if number != 0 {
         return put_no(out, number);
     }
-    text::put_rows(out, sheet);
+    print_text::put_rows(out, sheet);
     210
 }
 

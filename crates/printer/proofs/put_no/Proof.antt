@@ -5,8 +5,8 @@ use mathlib.Core.List.{[], _∷_}
 use native.Mathlib.Omega.{arith}
 use lib.ListN.{length-append, set}
 use borrow.Author.Needs.{needs}
-use Rattle.text.specs.Rows.{decimal}
-use Rattle.text.proofs.Laws.{sets-append}
+use Rattle.print_text.specs.Rows.{decimal}
+use Rattle.print_text.proofs.Laws.{sets-append}
 use Rattle.printer.specs.Text.{noText}
 use Rattle.printer.proofs.put_no.Statement.{statement}
 use Rattle.printer.proofs.put_no.Tie as tie

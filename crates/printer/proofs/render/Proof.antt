@@ -3,7 +3,7 @@
 use native.Mathlib.Omega.{arith}
 use denote.Ref.{now}
 use mathlib.Core.Path.{sym}
-use Rattle.text.proofs.Laws.{rows-length}
+use Rattle.print_text.proofs.Laws.{rows-length}
 use borrow.Author.Tests.{eq-eqb, ne-eqb}
 use Rattle.printer.specs.Text.{rendered}
 use borrow.Author.Needs.{needs}

@@ -1,12 +1,12 @@
--- `text::put_cell` meets its contract: the high digit, and the low one behind it.
+-- `print_text::put_cell` meets its contract: the high digit, and the low one behind it.
 -- Assumes nothing.
 use native.Mathlib.Numerals.{add-one}
 use native.Mathlib.Omega.{arith}
 use lib.ListN.{length-set}
 use borrow.Author.Needs.{needs}
-use Rattle.text.specs.Rows.{cellText}
-use Rattle.text.proofs.put_cell.Statement.{statement}
-use Rattle.text.proofs.put_cell.Tie as tie
+use Rattle.print_text.specs.Rows.{cellText}
+use Rattle.print_text.proofs.put_cell.Statement.{statement}
+use Rattle.print_text.proofs.put_cell.Tie as tie
 
 hex-digit-requires : tie.Need-hex-digit-requires
 hex-digit-requires c κs = search needs

@@ -8,7 +8,7 @@ use native.Mathlib.Numerals.{add-one}
 use native.Mathlib.Omega.{arith}
 use lib.ListN.{length, length-append, getD, set}
 use lib.Seq.{sets}
-use Rattle.text.specs.Rows.{cellText, cellsText, rowText, rowsText}
+use Rattle.print_text.specs.Rows.{cellText, cellsText, rowText, rowsText}
 
 -- a text stored behind another is stored with it
 pub sets-append : (l s t : List ℕ) (at : ℕ) → sets (sets l at s) (at + length s) t ≡ sets l at (s ++ t)

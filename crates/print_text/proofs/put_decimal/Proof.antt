@@ -1,4 +1,4 @@
--- `text::put_decimal` meets its contract: one digit, or tens and units.
+-- `print_text::put_decimal` meets its contract: one digit, or tens and units.
 -- Assumes nothing.
 use mathlib.Core.Path.{refl}
 use native.Mathlib.Numerals.{add-one}
@@ -6,9 +6,9 @@ use native.Mathlib.Omega.{arith}
 use lib.ListN.{length-set}
 use borrow.Author.Needs.{needs}
 use borrow.Author.Tests.{lt-ltb, le-ltb}
-use Rattle.text.specs.Rows.{decimal}
-use Rattle.text.proofs.put_decimal.Statement.{statement}
-use Rattle.text.proofs.put_decimal.Tie as tie
+use Rattle.print_text.specs.Rows.{decimal}
+use Rattle.print_text.proofs.put_decimal.Statement.{statement}
+use Rattle.print_text.proofs.put_decimal.Tie as tie
 
 add-out : tie.Need-add-out
 add-out c = search needs

@@ -1,4 +1,4 @@
--- `text::put_rows` meets its contract. The loop's invariant: the first rows are stored, and `out` is as long as it was.
+-- `print_text::put_rows` meets its contract. The loop's invariant: the first rows are stored, and `out` is as long as it was.
 -- Assumes nothing.
 use denote.Ref.{now}
 use mathlib.Core.Path.{_≡_, refl, ap, _∙_}
@@ -6,10 +6,10 @@ use Prim.Native.Nat.{_≤_, _-_}
 use native.Mathlib.Omega.{arith}
 use lib.ListN.{length}
 use lib.Seq.{sets, length-sets}
-use Rattle.text.specs.Rows.{rowsText}
-use Rattle.text.proofs.Laws.{one-row-more}
-use Rattle.text.proofs.put_rows.Statement.{statement}
-use Rattle.text.proofs.put_rows.Tie as tie
+use Rattle.print_text.specs.Rows.{rowsText}
+use Rattle.print_text.proofs.Laws.{one-row-more}
+use Rattle.print_text.proofs.put_rows.Statement.{statement}
+use Rattle.print_text.proofs.put_rows.Tie as tie
 
 abbrev Inv-loop : tie.InvT-loop
 Inv-loop out₀ cells row₀ out row =

@@ -3,7 +3,7 @@ ghost use mathlib.Core.Path.{_≡_};
 ghost use Prim.Native.Nat.{_+_, _*_, _≤_, _<_};
 ghost use lib.ListN.{length};
 ghost use lib.Seq.{sets};
-ghost use Rattle.text.specs.Rows.{hexDigit, cellText, rowText, rowsText, decimal};
+ghost use Rattle.print_text.specs.Rows.{hexDigit, cellText, rowText, rowsText, decimal};
 
 // The hexadecimal digit of a number below 16.
 fn hex_digit(n: u8) -> u8

@@ -1,10 +1,10 @@
--- `text::hex_digit` meets its contract: a digit below ten, or a letter.
+-- `print_text::hex_digit` meets its contract: a digit below ten, or a letter.
 -- Assumes nothing.
 use borrow.Author.Tests.{lt-ltb, le-ltb}
-use Rattle.text.specs.Rows.{hexDigit}
+use Rattle.print_text.specs.Rows.{hexDigit}
 use borrow.Author.Needs.{needs}
-use Rattle.text.proofs.hex_digit.Statement.{statement}
-use Rattle.text.proofs.hex_digit.Tie as tie
+use Rattle.print_text.proofs.hex_digit.Statement.{statement}
+use Rattle.print_text.proofs.hex_digit.Tie as tie
 
 add-result : tie.Need-add-result
 add-result c = search needs

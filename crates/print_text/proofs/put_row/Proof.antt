@@ -1,4 +1,4 @@
--- `text::put_row` meets its contract. The loop's invariant: the row's first cells are stored, and `out` is as long as it was.
+-- `print_text::put_row` meets its contract. The loop's invariant: the row's first cells are stored, and `out` is as long as it was.
 -- Assumes nothing.
 use denote.Ref.{now}
 use mathlib.Core.Path.{_≡_, refl, ap, _∙_}
@@ -6,10 +6,10 @@ use Prim.Native.Nat.{_≤_, _-_, _*_}
 use native.Mathlib.Omega.{arith}
 use lib.ListN.{length, length-set}
 use lib.Seq.{sets, length-sets}
-use Rattle.text.specs.Rows.{cellsText}
-use Rattle.text.proofs.Laws.{one-cell-more, row-ended}
-use Rattle.text.proofs.put_row.Statement.{statement}
-use Rattle.text.proofs.put_row.Tie as tie
+use Rattle.print_text.specs.Rows.{cellsText}
+use Rattle.print_text.proofs.Laws.{one-cell-more, row-ended}
+use Rattle.print_text.proofs.put_row.Statement.{statement}
+use Rattle.print_text.proofs.put_row.Tie as tie
 
 abbrev Inv-loop : tie.InvT-loop
 Inv-loop out₀ cells row start first column₀ out column =
