@@ -6,7 +6,7 @@ fn main() {
     let mut input = [0u8; 109];
     let count = io::read_full(0, &mut input);
     let mut out = [0u8; 210];
-    let length = printer::report(&input[..count], &mut out);
+    let length = sector_text::report(&input[..count], &mut out);
     if !io::write_all(1, &out[..length]) {
         io::write_all(2, b"sector_printer: standard output cannot be written\n");
     }

@@ -21,7 +21,7 @@ fn a_newer_source_is_found() {
     write(&archive, 10);
     write(&old, 9);
     write(&crates.join("fields/proofs/Laws.antt"), 20);
-    write(&crates.join("printer/src/main.rt"), 20);
+    write(&crates.join("sector_printer/src/main.rt"), 20);
     assert_eq!(newer_source(&crates, &archive), None);
     write(&new, 11);
     assert_eq!(newer_source(&crates, &archive), Some(new));

@@ -20,7 +20,7 @@ use Rattle.route.specs.Target.{targetOf}
 use Rattle.integration_started.specs.Started.{started}
 use Rattle.sector.specs.Sector.{sectorNumber, sectorBytes, sectorAnswer, sectorSheet}
 use Rattle.sector.proofs.Numbers.{seventeen-told}
-use Rattle.printer.specs.Text.{noText, rendered, printed}
+use Rattle.sector_text.specs.Text.{noText, rendered, printed}
 
 -- an input of fewer than 100 bytes is refused with 1, whatever is made of it
 pub printed-short : (input sheet : List ℕ) → length input < 100 → rendered 1 sheet ≡ printed input

@@ -3,7 +3,7 @@ ghost use mathlib.Core.Path.{_≡_};
 ghost use Prim.Native.Nat.{_≤_};
 ghost use lib.ListN.{length};
 ghost use lib.Seq.{sets};
-ghost use Rattle.printer.specs.Text.{noText, rendered, printed};
+ghost use Rattle.sector_text.specs.Text.{noText, rendered, printed};
 
 // The line of a refusal, and how many bytes it is.
 fn put_no(out: &mut [u8; 210], number: u8) -> usize

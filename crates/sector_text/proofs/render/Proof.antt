@@ -1,14 +1,14 @@
--- `printer::render` meets its contract: the line of a refusal, or the lines of a sheet.
+-- `sector_text::render` meets its contract: the line of a refusal, or the lines of a sheet.
 -- Assumes nothing.
 use native.Mathlib.Omega.{arith}
 use denote.Ref.{now}
 use mathlib.Core.Path.{sym}
 use Rattle.print_text.proofs.Laws.{rows-length}
 use borrow.Author.Tests.{eq-eqb, ne-eqb}
-use Rattle.printer.specs.Text.{rendered}
+use Rattle.sector_text.specs.Text.{rendered}
 use borrow.Author.Needs.{needs}
-use Rattle.printer.proofs.render.Statement.{statement}
-use Rattle.printer.proofs.render.Tie as tie
+use Rattle.sector_text.proofs.render.Statement.{statement}
+use Rattle.sector_text.proofs.render.Tie as tie
 
 put-no-requires : tie.Need-put-no-requires
 put-no-requires c κs = search needs

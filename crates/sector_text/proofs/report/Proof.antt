@@ -1,4 +1,4 @@
--- `printer::report` meets its contract: an input too short to have costs, or what the sector call answers for its parts.
+-- `sector_text::report` meets its contract: an input too short to have costs, or what the sector call answers for its parts.
 -- Assumes nothing.
 use denote.Ref.{now}
 use mathlib.Core.Path.{_≡_, _∙_}
@@ -8,11 +8,11 @@ use Prim.Native.Nat.{_-_}
 use lib.ListN.{length, take, drop, replicate}
 use lib.Seq.{sets}
 use Rattle.sector.specs.Sector.{sectorAnswer, sectorSheet}
-use Rattle.printer.specs.Text.{rendered}
-use Rattle.printer.proofs.Laws.{printed-short, printed-answer}
+use Rattle.sector_text.specs.Text.{rendered}
+use Rattle.sector_text.proofs.Laws.{printed-short, printed-answer}
 use borrow.Author.Needs.{needs}
-use Rattle.printer.proofs.report.Statement.{statement}
-use Rattle.printer.proofs.report.Tie as tie
+use Rattle.sector_text.proofs.report.Statement.{statement}
+use Rattle.sector_text.proofs.report.Tie as tie
 
 render-requires : tie.Need-render-requires
 render-requires c κs = search needs

@@ -1,4 +1,4 @@
--- `printer::put_no` meets its contract: `no`, a space, the number's digits and a line feed, stored one behind the other.
+-- `sector_text::put_no` meets its contract: `no`, a space, the number's digits and a line feed, stored one behind the other.
 -- Assumes nothing.
 use denote.Ref.{now}
 use mathlib.Core.List.{[], _∷_}
@@ -7,9 +7,9 @@ use lib.ListN.{length-append, set}
 use borrow.Author.Needs.{needs}
 use Rattle.print_text.specs.Rows.{decimal}
 use Rattle.print_text.proofs.Laws.{sets-append}
-use Rattle.printer.specs.Text.{noText}
-use Rattle.printer.proofs.put_no.Statement.{statement}
-use Rattle.printer.proofs.put_no.Tie as tie
+use Rattle.sector_text.specs.Text.{noText}
+use Rattle.sector_text.proofs.put_no.Statement.{statement}
+use Rattle.sector_text.proofs.put_no.Tie as tie
 
 element-write-out : tie.Need-element-write-out
 element-write-out c = search needs

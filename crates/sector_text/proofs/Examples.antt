@@ -8,7 +8,7 @@ use Rattle.route.specs.Window.{onEdge, edge, cellsBetween}
 use Rattle.route.specs.Step.{stepNumberOn}
 use Rattle.print_text.specs.Rows.{decimal}
 use Rattle.sector.specs.Sector.{sectorNumber}
-use Rattle.printer.specs.Text.{noText, rendered, printed}
+use Rattle.sector_text.specs.Text.{noText, rendered, printed}
 
 abbrev east : ℕ → List ℕ
 east last = replicate 100 1 ++ (0 ∷ 0 ∷ 1 ∷ 9 ∷ last ∷ 1 ∷ 0 ∷ 0 ∷ [])
