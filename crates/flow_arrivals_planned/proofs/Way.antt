@@ -13,9 +13,9 @@ use lib.ListN.{getD}
 use Rattle.flow_arrows.specs.Arrows.{Reached}
 use Rattle.leg_plan.specs.Leg.{part}
 use Rattle.leg_plan.specs.Promise.{sectorAt, builtAt}
-use Rattle.journey.specs.Place.{Place, OnFloor, placeOf, cellIn, FloorMove, FloorWalk, stays, goes, Points}
-use Rattle.journey.specs.Journey.{Journey, ends, moves, crosses}
-use Rattle.journey.proofs.Places.{landed, whole-place, arrow-is, inside}
+use Rattle.leg_journey.specs.Place.{Place, OnFloor, placeOf, cellIn, FloorMove, FloorWalk, stays, goes, Points}
+use Rattle.leg_journey.specs.Journey.{Journey, ends, moves, crosses}
+use Rattle.leg_journey.proofs.Places.{landed, whole-place, arrow-is, inside}
 use Rattle.flow_arrivals.specs.Following.{isArrival, Follows, Comes, there, further}
 use Rattle.flow_arrivals.specs.Promise.{ArrivalsTold}
 use Rattle.flow_arrivals_planned.specs.Promise.{StandsThere, WholeWay, LegTold}

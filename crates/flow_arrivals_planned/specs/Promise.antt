@@ -13,8 +13,8 @@ use Rattle.flow_arrows.specs.Promise.{WindowSector, SightlessSector, builtCells
 use Rattle.sector.specs.Sector.{sectorBytes}
 use Rattle.leg_plan.specs.Leg.{part}
 use Rattle.leg_plan.specs.Promise.{sectorAt, builtAt}
-use Rattle.journey.specs.Place.{Place, placeOf, FloorWalk}
-use Rattle.journey.specs.Journey.{NoZero, LegArrives}
+use Rattle.leg_journey.specs.Place.{Place, placeOf, FloorWalk}
+use Rattle.leg_journey.specs.Journey.{NoZero, LegArrives}
 use Rattle.flow_arrivals.specs.Following.{isArrival, Comes}
 
 -- Where the sheet is what the sector call's definition gives for a sector of some kind, the number of every reached cell is that of the moves by which its

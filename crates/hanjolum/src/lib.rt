@@ -54,8 +54,8 @@ ghost use Rattle.leg_plan.specs.Leg.{legNumber, legSheet, legNumberBy, legSheet
 ghost use Rattle.leg_plan.specs.Closed.{LegClosed};
 ghost use Rattle.leg_plan.specs.Walls.{LegOnWall};
 ghost use Rattle.leg_plan.specs.Promise.{LegPlanned, LegPlannedBy};
-ghost use Rattle.journey.specs.Journey.{LegArrives, LegArrivesAtGoal};
-ghost use Rattle.journey.specs.Place.{placeOf};
+ghost use Rattle.leg_journey.specs.Journey.{LegArrives, LegArrivesAtGoal};
+ghost use Rattle.leg_journey.specs.Place.{placeOf};
 ghost use Rattle.leg_field.specs.Field.{fieldAnswerBy};
 ghost use Rattle.leg_field.specs.Promise.{FieldPlanned, AsLeg, BeyondList};
 ghost use Rattle.leg_moves.specs.Answers.{moveAnswer, wayAnswer};

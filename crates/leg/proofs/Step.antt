@@ -27,9 +27,9 @@ use Rattle.route.proofs.Targets.{held-listed, listed-held, held-window}
 use Rattle.sector.specs.Sector.{sectorField, sectorBytes}
 use Rattle.sector.specs.Inner.{flowBytes}
 use Rattle.sector.proofs.Planned.{run-bytes}
-use Rattle.counting.specs.Counting.{legTarget}
-use Rattle.counting.specs.Inner.{routeLegTarget}
-use Rattle.counting.proofs.Counting.{leg-target-in, made-is, closed-listed}
+use Rattle.leg_counting.specs.Counting.{legTarget}
+use Rattle.leg_counting.specs.Inner.{routeLegTarget}
+use Rattle.leg_counting.proofs.Counting.{leg-target-in, made-is, closed-listed}
 use Rattle.step_list.specs.Steps.{stepsOf}
 use Rattle.step_list.specs.Inner.{stepAt}
 use Rattle.step_list.proofs.Steps.{stepsFrom, from-start, from-here, from-done}

@@ -9,7 +9,7 @@ use lib.ListN.{length}
 use Rattle.route.specs.declared.Target as program
 use Rattle.route.specs.Step.{stepNumber}
 use Rattle.route.specs.Inner.{heldTarget, TargetHeld}
-use Rattle.counting.specs.Counting.{legTarget, isClosed}
+use Rattle.leg_counting.specs.Counting.{legTarget, isClosed}
 
 -- a step that is not refused before it is planned, on a floor of 64 sectors
 pub record StepReady (floor step : List ℕ) : Type 0 where

@@ -25,7 +25,7 @@ ghost use Rattle.leg_plan.specs.Leg.{names, namesTwice, someGoal, outOfOrder, i
 ghost use Rattle.leg_plan.specs.Leg.{part, stepField, stepBytes, someClosed, withPart, planned, legNumber, legSheet, legNumberBy, legSheetBy};
 ghost use Rattle.leg_plan.specs.Inner.{LegReady};
 ghost use Rattle.leg_plan.specs.Promise.{LegPlanned, LegPlannedBy};
-ghost use Rattle.journey.specs.Journey.{LegArrives, LegArrivesAtGoal, Arrives};
+ghost use Rattle.leg_journey.specs.Journey.{LegArrives, LegArrivesAtGoal, Arrives};
 ghost use Rattle.leg.specs.Inner.{StepReady, StepTarget};
 
 // A byte as a number of an index's width.
@@ -186,7 +186,7 @@ pub fn target_of(step: &[u8], sight: bool, has_previous: bool, previous: &[u32; 
     requires { ⌜ stepNumber (now step) ≡ 0 ⌝ }
     ensures { λ r. ⌜ StepTarget sight (now (step .entry)) «has_previous» (now (previous .entry)) r ⌝ }
 {
-    counting::leg_target(RouteStep::new(step), sight, has_previous, previous)
+    leg_counting::leg_target(RouteStep::new(step), sight, has_previous, previous)
 }
 
 // A step's field on its own sector's costs, started and built, without positions.
@@ -212,7 +212,7 @@ pub fn is_some_closed(floor: &[u8], steps: &[u8], sight: bool) -> bool
         let at = k * 8;
         let step = &steps[at..at + 8];
         let target = target_of(step, sight, 0 < k, &previous);
-        if counting::is_closed(target) {
+        if leg_counting::is_closed(target) {
             return true;
         }
         if k + 1 == count {

@@ -19,7 +19,7 @@ use Rattle.integration_field.specs.declared.BuildAnswer.{BuildAnswer}
 use Rattle.integration_field.specs.Answer.{answerOf}
 use Rattle.integration_started.specs.Started.{started}
 use Rattle.sector.specs.Sector.{sectorField}
-use Rattle.counting.specs.Counting.{countingCells, legTarget}
+use Rattle.leg_counting.specs.Counting.{countingCells, legTarget}
 use Rattle.step_list.specs.Steps.{stepsOf}
 use Rattle.step_list.specs.Inner.{stepAt}
 use Rattle.step_list.proofs.Steps.{step-of}

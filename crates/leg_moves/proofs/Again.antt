@@ -11,7 +11,7 @@ use Prim.Native.Nat.{ℕ, zero, suc, _+_, _-_, _<_}
 use native.Mathlib.Decide.{ℕ-discrete}
 use native.Mathlib.Omega.{arith}
 use Rattle.flow_arrivals.specs.Decided.{AllDifferent, few}
-use Rattle.journey.specs.Place.{Place, OnFloor, FloorMove, FloorWalk, stays, goes}
+use Rattle.leg_journey.specs.Place.{Place, OnFloor, FloorMove, FloorWalk, stays, goes}
 use Rattle.leg_moves.specs.Moving.{Next, moves-to, stands, StandsAfter, ComesAgain}
 use Rattle.leg_moves.specs.Decided.{next, move-once, stands-here, stands-further, later, stands-once}
 use Rattle.leg_moves.specs.Decided.{passed, passed-on, indexIn, index-below, index-once}

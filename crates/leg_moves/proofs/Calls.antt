@@ -6,8 +6,8 @@
 use mathlib.Core.Path.{_≡_, refl, sym, ap, subst, _∙_}
 use mathlib.Core.List.{List}
 use Prim.Native.Nat.{ℕ, zero, suc}
-use Rattle.journey.specs.Place.{Place, placeOf, FloorMove}
-use Rattle.journey.proofs.Places.{on-floor}
+use Rattle.leg_journey.specs.Place.{Place, placeOf, FloorMove}
+use Rattle.leg_journey.proofs.Places.{on-floor}
 use Rattle.leg_moves.specs.declared.CartMove.{CartMove}
 use Rattle.leg_moves.specs.declared.CartWay.{CartWay}
 use Rattle.leg_moves.specs.Moving.{stillOutcome, byteAt, Still}

@@ -17,10 +17,10 @@ use Rattle.leg_plan.specs.Leg.{planned}
 use Rattle.leg_plan.specs.Promise.{sectorAt, builtAt}
 use Rattle.leg_plan.proofs.Numbers.{Judged, accepted, ready}
 use Rattle.leg_plan.proofs.Planned as plan
-use Rattle.journey.specs.Place.{Place, OnFloor, placeOf, sectorIn, cellIn, FloorWalk, stays, goes}
-use Rattle.journey.specs.Journey.{ReachedIn, Stops, Journey, ends, moves, crosses, NoZero, NoZeroFrom, LegArrives, LegArrivesAtGoal}
-use Rattle.journey.proofs.Places.{sector-in, cell-in, on-floor, landed}
-use Rattle.journey.proofs.Arrives.{leg-arrives, goal-arrives}
+use Rattle.leg_journey.specs.Place.{Place, OnFloor, placeOf, sectorIn, cellIn, FloorWalk, stays, goes}
+use Rattle.leg_journey.specs.Journey.{ReachedIn, Stops, Journey, ends, moves, crosses, NoZero, NoZeroFrom, LegArrives, LegArrivesAtGoal}
+use Rattle.leg_journey.proofs.Places.{sector-in, cell-in, on-floor, landed}
+use Rattle.leg_journey.proofs.Arrives.{leg-arrives, goal-arrives}
 use Rattle.leg_moves.specs.declared.CartMove.{CartMove}
 use Rattle.leg_moves.specs.declared.CartWay.{CartWay}
 use Rattle.leg_moves.specs.Moving.{stillOutcome, byteAt, Still}

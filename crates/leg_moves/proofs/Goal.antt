@@ -19,8 +19,8 @@ use Rattle.leg_plan.specs.Leg.{part, planned}
 use Rattle.leg_plan.specs.Promise.{sectorAt, portalAt, costsAt, targetAt}
 use Rattle.leg_plan.proofs.Numbers.{Judged, ready}
 use Rattle.leg_plan.proofs.Planned as plan
-use Rattle.journey.specs.Place.{placeOf}
-use Rattle.journey.proofs.Places.{sector-in, cell-in}
+use Rattle.leg_journey.specs.Place.{placeOf}
+use Rattle.leg_journey.proofs.Places.{sector-in, cell-in}
 use Rattle.leg_plan.proofs.Before.{first-goal}
 use Rattle.leg_moves.specs.Moving.{byteAt}
 

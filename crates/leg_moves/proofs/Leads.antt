@@ -19,7 +19,7 @@ use Rattle.route.proofs.Below.{holds-at}
 use Rattle.flow_bits.specs.Byte.{dirWith, dirOf}
 use Rattle.flow_arrows.specs.Arrows.{northward, eastward, southward, westward}
 use Rattle.flow_arrows.proofs.Moves.{isArrow}
-use Rattle.journey.specs.Place.{Place, Points}
+use Rattle.leg_journey.specs.Place.{Place, Points}
 
 unless : (a b : Bool) → a ≡ true → (not a || b) ≡ true → b ≡ true
 unless true b t e = e

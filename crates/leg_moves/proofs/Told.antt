@@ -12,8 +12,8 @@ use Prim.Native.Nat.{ℕ, suc, _+_, _≤_, _<_}
 use native.Mathlib.Numerals.{add-one}
 use native.Mathlib.Omega.{arith}
 use Rattle.flow_bits.specs.Byte.{isGoal, hasLineOfSight}
-use Rattle.journey.specs.Place.{Place, OnFloor, placeOf, sectorIn, cellIn, FloorMove, FloorWalk, stays, goes}
-use Rattle.journey.proofs.Places.{landed, whole-place}
+use Rattle.leg_journey.specs.Place.{Place, OnFloor, placeOf, sectorIn, cellIn, FloorMove, FloorWalk, stays, goes}
+use Rattle.leg_journey.proofs.Places.{landed, whole-place}
 use Rattle.leg_moves.specs.Moving.{ReadsGoal, ReadsSight, ReadsNeither, stillOutcome, byteAt, Still, Next, moves-to, stands}
 use Rattle.leg_moves.specs.Moving.{StandsAfter, StandsWhere, Way, stands-after, stands-never}
 use Rattle.leg_moves.specs.Decided.{next, move-once, stands-once, few-moves, way}

@@ -7,7 +7,7 @@ use Prim.Native.Nat.{ℕ, zero, suc}
 use lib.Dec.{ltb, eqb}
 use lib.ListN.{length}
 use Rattle.route.specs.Table.{row, firstNumber}
-use Rattle.journey.specs.Place.{Place, placeOf, sectorIn, cellIn}
+use Rattle.leg_journey.specs.Place.{Place, placeOf, sectorIn, cellIn}
 use Rattle.leg_moves.specs.declared.CartMove.{CartMove}
 use Rattle.leg_moves.specs.declared.CartWay.{CartWay}
 use Rattle.leg_moves.specs.Moving.{stillOutcome, byteAt, Next, moves-to, stands, Way, stands-after, stands-never}

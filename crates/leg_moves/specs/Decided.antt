@@ -17,7 +17,7 @@ use lib.Dec.{ltb, leb}
 use borrow.Author.Tests.{ltb-true, leb-true, lt-ltb, le-leb}
 use Rattle.flow_arrows.specs.Arrows.{northward, eastward, southward, westward}
 use Rattle.flow_arrivals.specs.Decided.{AllDifferent, few}
-use Rattle.journey.specs.Place.{Place, OnFloor, sectorIn, cellIn, Points, arrowAt, FloorMove, FloorWalk, stays, goes}
+use Rattle.leg_journey.specs.Place.{Place, OnFloor, sectorIn, cellIn, Points, arrowAt, FloorMove, FloorWalk, stays, goes}
 use Rattle.leg_moves.specs.Moving.{Still, Next, moves-to, stands, StandsAfter, Way, stands-after, stands-never}
 
 abbrev pub place : ℕ → ℕ → Place

@@ -1,7 +1,7 @@
 -- Contracts of functions beneath the calls.
 -- Assumes nothing.
 use Prim.Native.Nat.{ℕ}
-use Rattle.journey.specs.Place.{Place, Points}
+use Rattle.leg_journey.specs.Place.{Place, Points}
 use Rattle.leg_moves.specs.declared.Spot.{Spot}
 use Rattle.leg_moves.specs.declared.Onward.{Onward}
 use Rattle.leg_moves.specs.declared.Onward.the-variants.{To, Nowhere}

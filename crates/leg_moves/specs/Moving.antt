@@ -7,7 +7,7 @@ use mathlib.Core.List.{List}
 use Prim.Native.Nat.{ℕ, suc, _+_, _*_}
 use lib.ListN.{getD}
 use Rattle.flow_bits.specs.Byte.{isGoal, hasLineOfSight}
-use Rattle.journey.specs.Place.{Place, sectorIn, cellIn, FloorMove, FloorWalk}
+use Rattle.leg_journey.specs.Place.{Place, sectorIn, cellIn, FloorMove, FloorWalk}
 
 -- ---- the outcomes
 -- 0 stopped, which a refusal answers too; 1 moved; 2 arrived; 3 in sight; 4 never

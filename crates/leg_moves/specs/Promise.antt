@@ -11,8 +11,8 @@ use Rattle.flow_arrows.specs.Arrows.{Reached}
 use Rattle.step_list.specs.Steps.{stepOf, stepsOf}
 use Rattle.leg_plan.specs.Leg.{legNumberBy, legSheetBy}
 use Rattle.leg_plan.specs.Promise.{sectorAt, builtAt}
-use Rattle.journey.specs.Place.{Place, placeOf, FloorMove, FloorWalk}
-use Rattle.journey.specs.Journey.{Journey, NoZero, NoZeroFrom}
+use Rattle.leg_journey.specs.Place.{Place, placeOf, FloorMove, FloorWalk}
+use Rattle.leg_journey.specs.Journey.{Journey, NoZero, NoZeroFrom}
 use Rattle.leg_moves.specs.declared.CartMove.{CartMove}
 use Rattle.leg_moves.specs.declared.CartWay.{CartWay}
 use Rattle.leg_moves.specs.Moving.{ReadsGoal, ReadsSight, ReadsNeither, byteAt, Still, StandsAfter, StandsWhere, ComesAgain}

@@ -3,7 +3,7 @@ ghost use mathlib.Core.Path.{_≡_};
 ghost use mathlib.Core.List.{List};
 ghost use Prim.Native.Nat.{ℕ, _+_, _*_, _%_, _<_};
 ghost use lib.ListN.{length};
-ghost use Rattle.journey.specs.Place.{OnFloor, placeOf, sectorIn, cellIn, arrowAt};
+ghost use Rattle.leg_journey.specs.Place.{OnFloor, placeOf, sectorIn, cellIn, arrowAt};
 ghost use Rattle.leg_moves.specs.Moving.{stillOutcome, byteAt};
 ghost use Rattle.leg_moves.specs.Answers.{cartNumber, placed, stood, moveAnswer, wayFrom, wayAnswer};
 ghost use Rattle.leg_moves.specs.Promise.{CartNumbered, MoveRefused, WayRefused, MoveTold, WayTold, LegDriven, WayToGoal};

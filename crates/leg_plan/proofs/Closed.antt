@@ -21,7 +21,7 @@ use Rattle.route.specs.Target.{Target, to-goal, to-window, bySight, WindowCell,
 use Rattle.route.proofs.Targets.{target-goal}
 use Rattle.route.proofs.NoneIs.{noneIs, none-is, none-both, step-is}
 use Rattle.step_list.specs.Steps.{stepsOf, stepOf}
-use Rattle.counting.specs.Counting.{countingCells, isClosed, CountingCell}
+use Rattle.leg_counting.specs.Counting.{countingCells, isClosed, CountingCell}
 use Rattle.leg_plan.specs.Leg.{part, floorNumber, eachRows, outOfOrder, apart, closedFrom, someClosed, judgedRows, legNumberBy}
 use Rattle.leg_plan.specs.Promise.{hasBefore, builtAt, builtBefore, targetAt}
 use Rattle.leg_plan.specs.Closed.{LegClosed}

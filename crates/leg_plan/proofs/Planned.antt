@@ -30,9 +30,9 @@ use Rattle.step_list.specs.Steps.{stepOf}
 use Rattle.leg_plan.specs.Promise.{sectorAt, targetAt, portalAt, hasBefore, costsAt, builtAt, builtBefore, LegPlannedBy}
 use Rattle.step_list.proofs.Steps.{steps-count, step-of}
 use Rattle.leg_plan.proofs.Numbers.{accepted, ready}
-use Rattle.counting.specs.Counting.{CountingCell}
-use Rattle.counting.proofs.Counting.{leg-target-in, leg-target-on}
-use Rattle.counting.proofs.Told.{counting-told}
+use Rattle.leg_counting.specs.Counting.{CountingCell}
+use Rattle.leg_counting.proofs.Counting.{leg-target-in, leg-target-on}
+use Rattle.leg_counting.proofs.Told.{counting-told}
 use Rattle.leg_plan.proofs.Before.{later-window}
 use Rattle.leg_plan.proofs.Sheet.{Fits, full-after, kept, written, built-is}
 

@@ -17,7 +17,7 @@ use Rattle.route.specs.Step.{sectorOf, portalOf}
 use Rattle.route.specs.Target.{bySight, targetOf}
 use Rattle.sector.specs.Sector.{sectorField, sectorBytes}
 use Rattle.sector.proofs.Planned.{bytes-hundred, none-read}
-use Rattle.counting.specs.Counting.{legTarget}
+use Rattle.leg_counting.specs.Counting.{legTarget}
 use Rattle.leg_plan.specs.Leg.{part, names, namesTwice, stepField, stepBytes, closedFrom, withPart, plannedFrom}
 use Rattle.step_list.proofs.Steps.{neither}
 use Rattle.step_list.specs.Steps.{stepOf}

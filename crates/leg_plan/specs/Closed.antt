@@ -8,7 +8,7 @@ use Prim.Native.Nat.{ℕ, suc, _<_}
 use lib.ListN.{length}
 use Rattle.route.specs.Table.{firstNumber}
 use Rattle.step_list.specs.Steps.{stepsOf, stepOf}
-use Rattle.counting.specs.Counting.{CountingCell}
+use Rattle.leg_counting.specs.Counting.{CountingCell}
 use Rattle.leg_plan.specs.Leg.{judgedRows}
 use Rattle.leg_plan.specs.Promise.{builtAt}
 

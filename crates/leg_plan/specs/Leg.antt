@@ -12,7 +12,7 @@ use Rattle.sectors.specs.declared.Across.{Across}
 use Rattle.sectors.specs.declared.Across.the-variants.{Sector, OffFloor}
 use Rattle.sectors.specs.Floor.{across}
 use Rattle.sector.specs.Sector.{sectorField, sectorBytes}
-use Rattle.counting.specs.Counting.{legTarget, isClosed}
+use Rattle.leg_counting.specs.Counting.{legTarget, isClosed}
 
 -- a sector's own 100 bytes, of a floor or of a sheet
 abbrev pub part : List ℕ → ℕ → List ℕ

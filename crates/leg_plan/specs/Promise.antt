@@ -14,7 +14,7 @@ use Rattle.integration_field.specs.Built.{waveCount}
 use Rattle.integration_started.specs.Started.{started}
 use Rattle.sector.specs.Sector.{sectorField, sectorBytes}
 use Rattle.sector.specs.Promise.{Planned}
-use Rattle.counting.specs.Counting.{legTarget, CountingCell}
+use Rattle.leg_counting.specs.Counting.{legTarget, CountingCell}
 use Rattle.leg_plan.specs.Leg.{part, names}
 
 -- ---- step k of a leg

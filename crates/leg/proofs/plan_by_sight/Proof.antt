@@ -8,7 +8,7 @@ use denote.Ref.{now}
 use Rattle.route.specs.Table.{firstNumber}
 use Rattle.leg_plan.specs.Leg.{judgedRows}
 use Rattle.leg_plan.proofs.Numbers.{Judged, judged, judged-first, closed-15, open-0, ready}
-use Rattle.journey.proofs.Promised.{refuses, plans}
+use Rattle.leg_journey.proofs.Promised.{refuses, plans}
 use borrow.Author.Needs.{needs}
 use Rattle.leg.proofs.plan_by_sight.Statement.{statement}
 use Rattle.leg.proofs.plan_by_sight.Tie as tie

@@ -14,7 +14,7 @@ use Rattle.utilities.specs.Compass.{differences, points, within}
 use Rattle.utilities.proofs.Compass.{small}
 use Rattle.utilities.proofs.Sums.{Made, sum, both-in, low-out, high-out, within-true, cast-back}
 use Rattle.flow_bits.specs.Byte.{dirOf}
-use Rattle.journey.specs.Place.{Place}
+use Rattle.leg_journey.specs.Place.{Place}
 use Rattle.leg_moves.specs.Inner.{placeAt}
 use Rattle.leg_moves.proofs.Leads.{columnSum, rowSum, no-way, lands, off}
 use borrow.Author.Needs.{needs}

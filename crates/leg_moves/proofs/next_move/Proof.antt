@@ -4,8 +4,8 @@ use mathlib.Core.Path.{_≡_, refl, sym, ap, subst, _∙_}
 use mathlib.Core.List.{List}
 use Prim.Native.Nat.{ℕ}
 use denote.Ref.{now}
-use Rattle.journey.specs.Place.{arrowAt, FloorMove}
-use Rattle.journey.proofs.Places.{landed}
+use Rattle.leg_journey.specs.Place.{arrowAt, FloorMove}
+use Rattle.leg_journey.proofs.Places.{landed}
 use Rattle.leg_moves.specs.declared.Spot.{Spot}
 use Rattle.leg_moves.specs.Moving.{stillOutcome, Still}
 use Rattle.leg_moves.specs.Answers.{cartNumber, placed}

@@ -2,7 +2,7 @@
 -- Assumes nothing.
 use mathlib.Core.Path.{ap₂}
 use native.Mathlib.Omega.{arith}
-use Rattle.journey.specs.Place.{placeOf}
+use Rattle.leg_journey.specs.Place.{placeOf}
 use borrow.Author.Needs.{needs}
 use Rattle.leg_moves.proofs.place_of.Statement.{statement}
 use Rattle.leg_moves.proofs.place_of.Tie as tie

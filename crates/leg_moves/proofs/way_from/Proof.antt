@@ -6,8 +6,8 @@ use Prim.Native.Nat.{ℕ, _-_, _≤_}
 use native.Mathlib.Omega.{arith}
 use borrow.Author.Needs.{needs}
 use denote.Ref.{now}
-use Rattle.journey.proofs.Places.{landed}
-use Rattle.journey.specs.Place.{Place, OnFloor, arrowAt, FloorMove, FloorWalk, stays}
+use Rattle.leg_journey.proofs.Places.{landed}
+use Rattle.leg_journey.specs.Place.{Place, OnFloor, arrowAt, FloorMove, FloorWalk, stays}
 use Rattle.leg_moves.specs.declared.Spot.{Spot}
 use Rattle.leg_moves.specs.Moving.{stillOutcome, Still}
 use Rattle.leg_moves.specs.Answers.{stood}

@@ -16,8 +16,8 @@ use Rattle.leg_plan.proofs.Walls.{leg-told}
 use Rattle.leg_plan.proofs.Closed.{fifteen-told}
 use Rattle.leg_plan.proofs.Numbers.{Judged, accepted}
 use Rattle.leg_plan.proofs.Planned as plan
-use Rattle.journey.specs.Journey.{Arrives}
-use Rattle.journey.proofs.Arrives.{leg-arrives, goal-arrives}
+use Rattle.leg_journey.specs.Journey.{Arrives}
+use Rattle.leg_journey.proofs.Arrives.{leg-arrives, goal-arrives}
 
 arrives : (sight : Bool) (floor steps sheet : List ℕ) → Judged floor steps sheet → ((i : ℕ) → getD floor i 0 ≤ 255)
     → Arrives sight floor (stepsOf steps) (planned sight floor (stepsOf steps) sheet)

@@ -26,7 +26,7 @@ use Rattle.route.proofs.Targets.{target-window, window-told, named-edge, edge-n
 use Rattle.route.proofs.Selected.{selected, selected-from}
 use Rattle.flow_byte.specs.New.{facingValue, unlessEnd, seenValues}
 use Rattle.flow_arrows.specs.Arrows.{Reached}
-use Rattle.counting.specs.Counting.{
+use Rattle.leg_counting.specs.Counting.{
   counts,
   countingCells,
   StraightAcross,

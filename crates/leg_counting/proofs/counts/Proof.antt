@@ -1,4 +1,4 @@
--- `counting::counts` meets its contract: of the costs that the cell compares, one after the other is looked at.
+-- `leg_counting::counts` meets its contract: of the costs that the cell compares, one after the other is looked at.
 -- Assumes nothing.
 use mathlib.Core.Path.{_≡_}
 use mathlib.Core.Bool.{_||_}
@@ -7,9 +7,9 @@ use denote.Ref.{now}
 use native.Mathlib.Omega.{arith}
 use borrow.Author.Needs.{needs}
 use borrow.Author.Tests.{lt-ltb, le-ltb}
-use Rattle.counting.specs.Counting.{counts}
-use Rattle.counting.proofs.counts.Statement.{statement}
-use Rattle.counting.proofs.counts.Tie as tie
+use Rattle.leg_counting.specs.Counting.{counts}
+use Rattle.leg_counting.proofs.counts.Statement.{statement}
+use Rattle.leg_counting.proofs.counts.Tie as tie
 
 -- where the costs are known: they decide
 decided : (m : tie.After-seen-values) → let a = m .before .before .args in

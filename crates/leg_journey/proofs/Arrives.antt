@@ -27,7 +27,7 @@ use Rattle.flow_byte.specs.New.{windowBits}
 use Rattle.flow_arrows.specs.Arrows.{Reached, arrow, Leads, ends, moves, ArrowsLead}
 use Rattle.flow_arrows.specs.Promise.{WindowSector}
 use Rattle.flow_arrows.proofs.Lead.{window-flow}
-use Rattle.counting.specs.Counting.{countingCells}
+use Rattle.leg_counting.specs.Counting.{countingCells}
 use Rattle.step_list.specs.Steps.{stepsOf}
 use Rattle.leg_plan.specs.Leg.{part, planned}
 use Rattle.step_list.specs.Steps.{stepOf}
@@ -37,11 +37,11 @@ use Rattle.leg_plan.proofs.Before.{first-goal, later-window, sector-before}
 use Rattle.leg_plan.proofs.Numbers.{Judged, ready}
 use Rattle.leg_plan.proofs.Planned as plan
 use Rattle.leg_plan.proofs.Sheet.{built-is}
-use Rattle.journey.specs.Place.{Place, placeOf, cellIn, FloorMove, Points}
-use Rattle.journey.specs.Journey as journey
-use Rattle.journey.specs.Journey.{ReachedIn, MoveInside, Stops, Journey, NoZeroFrom, LegArrives, LegArrivesAtGoal}
-use Rattle.journey.proofs.Places.{sector-in, cell-in, arrow-is, inside}
-use Rattle.journey.proofs.Crossing.{Landing, crossing}
+use Rattle.leg_journey.specs.Place.{Place, placeOf, cellIn, FloorMove, Points}
+use Rattle.leg_journey.specs.Journey as journey
+use Rattle.leg_journey.specs.Journey.{ReachedIn, MoveInside, Stops, Journey, NoZeroFrom, LegArrives, LegArrivesAtGoal}
+use Rattle.leg_journey.proofs.Places.{sector-in, cell-in, arrow-is, inside}
+use Rattle.leg_journey.proofs.Crossing.{Landing, crossing}
 
 -- bits of the low half, or-ed onto a window cell's flags, are the arrow
 low-half : (b : ℕ) → b < 16 → bitOr 0x90 b % 16 ≡ b

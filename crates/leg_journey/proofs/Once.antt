@@ -10,8 +10,8 @@ use mathlib.Core.List.{List}
 use Prim.Native.Nat.{ℕ, zero, suc, _+_, _-_}
 use native.Mathlib.Omega.{arith}
 use Rattle.flow_arrows.specs.Arrows.{northward, eastward, southward, westward}
-use Rattle.journey.specs.Place.{Place, Points, arrowAt, FloorMove}
-use Rattle.journey.specs.Journey.{ReachedIn, Journey, ends, moves, crosses}
+use Rattle.leg_journey.specs.Place.{Place, Points, arrowAt, FloorMove}
+use Rattle.leg_journey.specs.Journey.{ReachedIn, Journey, ends, moves, crosses}
 
 same-place : {p q : Place} → p .column ≡ q .column → p .row ≡ q .row → p ≡ q
 same-place c r = ap₂ (λ (column row : ℕ). record { column = column; row = row }) c r

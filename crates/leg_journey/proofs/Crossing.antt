@@ -30,10 +30,10 @@ use Rattle.flow_bits.specs.Byte.{bitsOf}
 use Rattle.flow_byte.specs.New.{facingBits, facingValue, seenValues, facingChoice, windowBits}
 use Rattle.flow_arrows.specs.Arrows.{northward, eastward, southward, westward, Reached}
 use Rattle.flow_arrows.proofs.Moves.{isArrow}
-use Rattle.counting.specs.Counting.{counts, countingCells}
-use Rattle.counting.proofs.Told.{seen-inner, one-below, counting-told, one-straight}
-use Rattle.journey.specs.Place.{Place, placeOf, Points}
-use Rattle.journey.proofs.Places.{points}
+use Rattle.leg_counting.specs.Counting.{counts, countingCells}
+use Rattle.leg_counting.proofs.Told.{seen-inner, one-below, counting-told, one-straight}
+use Rattle.leg_journey.specs.Place.{Place, placeOf, Points}
+use Rattle.leg_journey.proofs.Places.{points}
 
 -- ---- where bits point over a boundary
 

@@ -10,8 +10,8 @@ ghost use Prim.Native.Nat.{_<_};
 ghost use lib.Dec.{eqb};
 ghost use Rattle.route.specs.Window.{select, cellsBetween, listed};
 ghost use Rattle.route.specs.Inner.{listedTarget};
-ghost use Rattle.counting.specs.Counting.{counts};
-ghost use Rattle.counting.specs.Inner.{routeLegTarget};
+ghost use Rattle.leg_counting.specs.Counting.{counts};
+ghost use Rattle.leg_counting.specs.Inner.{routeLegTarget};
 
 // Whether a window cell counts: some facing cell that it compares was reached. `previous` is the built field of the step before.
 fn counts(portal: PortalWindow, previous: &[u32; 100], index: usize) -> bool

@@ -23,8 +23,8 @@ use Rattle.route.proofs.Cells.{cells-in}
 use Rattle.route.proofs.Targets.{target-in, sight-in, sight-window}
 use Rattle.route.proofs.Selected.{select-in, selected-from}
 use Rattle.flow_arrows.proofs.Clear.{OnEdge, window-on, target-on}
-use Rattle.counting.specs.Counting.{countingCells, legTarget, isClosed}
-use Rattle.counting.specs.Inner.{routeLegTarget}
+use Rattle.leg_counting.specs.Counting.{countingCells, legTarget, isClosed}
+use Rattle.leg_counting.specs.Inner.{routeLegTarget}
 
 pub counting-in : (previous step : List ℕ) → WindowIn (countingCells previous step)
 unfolding countingCells

@@ -18,7 +18,7 @@ use borrow.Author.Tests.{ltb-true, leb-true}
 use Rattle.flow_arrows.specs.Arrows.{arrow, northward, eastward, southward, westward, Away}
 use Rattle.flow_arrows.proofs.Moves.{isArrow}
 use Rattle.leg_plan.specs.Leg.{part}
-use Rattle.journey.specs.Place.{Place, OnFloor, placeOf, sectorIn, cellIn, Points, arrowAt}
+use Rattle.leg_journey.specs.Place.{Place, OnFloor, placeOf, sectorIn, cellIn, Points, arrowAt}
 
 module _ (s x : ℕ) (h : x < 100) where
   pub sector-in : sectorIn (placeOf s x) ≡ s

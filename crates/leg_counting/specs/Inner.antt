@@ -7,7 +7,7 @@ use Rattle.route.specs.declared.RouteStep.{RouteStep}
 use Rattle.route.specs.Window.{select, cellsBetween}
 use Rattle.route.specs.Target.{Target, to-window, bySight}
 use Rattle.route.specs.Inner.{routeTarget}
-use Rattle.counting.specs.Counting.{counts}
+use Rattle.leg_counting.specs.Counting.{counts}
 
 abbrev pub routeLegTarget : RouteStep → Bool → Bool → List ℕ → Target
 routeLegTarget s sight false previous = bySight sight (routeTarget s)

@@ -1,7 +1,7 @@
--- `counting::is_closed` meets its contract: of a window its count decides, a goal is never closed.
+-- `leg_counting::is_closed` meets its contract: of a window its count decides, a goal is never closed.
 -- Assumes nothing.
-use Rattle.counting.proofs.is_closed.Statement.{statement}
-use Rattle.counting.proofs.is_closed.Tie as tie
+use Rattle.leg_counting.proofs.is_closed.Statement.{statement}
+use Rattle.leg_counting.proofs.is_closed.Tie as tie
 
 returns : tie.Need-returns
 returns c = rw (c .if1 .taken)

@@ -10,7 +10,7 @@ use Rattle.route.specs.Target.{WindowCell}
 use Rattle.step_list.specs.Steps.{stepOf}
 use Rattle.flow_arrows.specs.Arrows.{builtCost, Reached, Cuts, PassesWall}
 use Rattle.leg_plan.specs.Promise.{sectorAt, costsAt, builtAt, targetAt}
-use Rattle.journey.specs.Place.{Place, placeOf, sectorIn, cellIn, FloorMove}
+use Rattle.leg_journey.specs.Place.{Place, placeOf, sectorIn, cellIn, FloorMove}
 
 module _ (sight : Bool) (floor : List ℕ) (steps : List (List ℕ)) where
   -- a place is a reached cell of the sector of step k, steps being counted from 0: its built cost there is below 65535

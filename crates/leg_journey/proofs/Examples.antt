@@ -18,10 +18,10 @@ use Rattle.flow_byte.specs.New.{startOf, facingBits, facingChoice, windowBits, 
 use Rattle.flow_byte.specs.Look as look
 use Rattle.flow_byte.specs.Look.{lookAround, pointed, builtByte, flowBuild}
 use Rattle.sector.specs.Sector.{sectorBytes}
-use Rattle.counting.specs.Counting.{counts, countingCells}
+use Rattle.leg_counting.specs.Counting.{counts, countingCells}
 use Rattle.leg_plan.specs.Leg.{planned, plannedFrom}
-use Rattle.journey.specs.Place.{placeOf}
-use Rattle.journey.proofs.Once.{moved, followed}
+use Rattle.leg_journey.specs.Place.{placeOf}
+use Rattle.leg_journey.proofs.Once.{moved, followed}
 
 -- on a floor of ones, n walls from cell 90 of sector 10 on
 abbrev walled : ℕ → List ℕ

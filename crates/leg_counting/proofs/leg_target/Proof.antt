@@ -1,12 +1,12 @@
--- `counting::leg_target` meets its contract: the step's own target, or the window cells that count.
+-- `leg_counting::leg_target` meets its contract: the step's own target, or the window cells that count.
 -- Assumes nothing.
 use mathlib.Core.Path.{ap, _∙_}
 use borrow.Author.Needs.{needs}
 use borrow.Author.Tests.{not-true, not-false}
 use Rattle.route.specs.Inner.{sightedBy}
 use Rattle.route.proofs.Targets.{listed-sight}
-use Rattle.counting.proofs.leg_target.Statement.{statement}
-use Rattle.counting.proofs.leg_target.Tie as tie
+use Rattle.leg_counting.proofs.leg_target.Statement.{statement}
+use Rattle.leg_counting.proofs.leg_target.Tie as tie
 
 as-target-requires : tie.Need-as-target-requires
 as-target-requires c κs = search needs

@@ -1,4 +1,4 @@
--- `counting::counting_cells` meets its contract. The loop's invariant: those that count of the window's first `place` cells are collected.
+-- `leg_counting::counting_cells` meets its contract. The loop's invariant: those that count of the window's first `place` cells are collected.
 -- Assumes nothing.
 use mathlib.Core.Path.{_≡_, refl, sym, ap, _∙_}
 use mathlib.Core.Logic.{⊎-elim}
@@ -12,9 +12,9 @@ use Rattle.route.specs.declared.WindowCells.{WindowCells}
 use Rattle.route.specs.Window.{cellsBetween}
 use Rattle.route.specs.Target.{WindowIn}
 use Rattle.route.proofs.Cells.{Collected, cells-in, listed-at, taken, passed, collected-all}
-use Rattle.counting.specs.Counting.{counts}
-use Rattle.counting.proofs.counting_cells.Statement.{statement}
-use Rattle.counting.proofs.counting_cells.Tie as tie
+use Rattle.leg_counting.specs.Counting.{counts}
+use Rattle.leg_counting.proofs.counting_cells.Statement.{statement}
+use Rattle.leg_counting.proofs.counting_cells.Tie as tie
 
 abbrev cellsOf : PortalWindow → List ℕ
 cellsOf portal = cellsBetween (portal .boundary) (portal .start) (portal .end)

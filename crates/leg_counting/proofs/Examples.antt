@@ -8,7 +8,7 @@ use mathlib.Core.List.{List, [], _∷_}
 use Prim.Native.Nat.{ℕ}
 use lib.ListN.{set, replicate}
 use Rattle.route.specs.Window.{onEdge, edge, cellsBetween}
-use Rattle.counting.specs.Counting.{counts, countingCells}
+use Rattle.leg_counting.specs.Counting.{counts, countingCells}
 
 -- a North window from one column to another
 abbrev window : ℕ → ℕ → List ℕ
