@@ -20,12 +20,12 @@ use Rattle.flow_byte.specs.New.{isIn}
 use Rattle.flow_arrows.specs.Arrows.{builtCost}
 use Rattle.flow_arrows.specs.Promise.{builtCells}
 use Rattle.sector.specs.Sector.{sectorBytes}
-use Rattle.cost_bounds.specs.declared.Bounds.{Bounds}
-use Rattle.cost_bounds.specs.Bounds.{someOf, boundsNumber, isSure, refusedBounds, acceptedBounds, boundsAnswer}
-use Rattle.cost_bounds.specs.Promise.{CostBounds, SureMarks, BoundsRefused, NoBounds}
-use Rattle.cost_bounds.proofs.Marks.{told-some}
-use Rattle.cost_bounds.proofs.Promise.{cost-bounds, sure-marks, portals}
-use Rattle.cost_bounds.proofs.Numbers.{accepted, eighteen-told, ranged, zero-bounds, by-window}
+use Rattle.bounds_told.specs.declared.Bounds.{Bounds}
+use Rattle.bounds_told.specs.Bounds.{someOf, boundsNumber, isSure, refusedBounds, acceptedBounds, boundsAnswer}
+use Rattle.bounds_told.specs.Promise.{CostBounds, SureMarks, BoundsRefused, NoBounds}
+use Rattle.bounds_told.proofs.Marks.{told-some}
+use Rattle.bounds_told.proofs.Promise.{cost-bounds, sure-marks, portals}
+use Rattle.bounds_told.proofs.Numbers.{accepted, eighteen-told, ranged, zero-bounds, by-window}
 use Rattle.bounds.specs.Promise.{floorBytes}
 
 -- ---- all cells, one after the other

@@ -1,6 +1,6 @@
 // The call for bounds: its number, and for two floors and a window step each cell's least and greatest built cost over all floors between them, and
 // which cells are sure.
-use cost_bounds::Bounds;
+use bounds_told::Bounds;
 use route::RouteStep;
 use route::Target;
 ghost use mathlib.Core.Path.{_≡_};
@@ -11,8 +11,8 @@ ghost use lib.ListN.{length};
 ghost use Rattle.utilities.specs.Lists.{below};
 ghost use Rattle.route.specs.Target.{targetOf};
 ghost use Rattle.route.specs.Inner.{heldTarget};
-ghost use Rattle.cost_bounds.specs.Bounds.{someOf, noRange, boundsNumber, refusedBounds, acceptedBounds, boundsAnswer};
-ghost use Rattle.cost_bounds.specs.Promise.{CostBounds, SureMarks, BoundsRefused, NoBounds};
+ghost use Rattle.bounds_told.specs.Bounds.{someOf, noRange, boundsNumber, refusedBounds, acceptedBounds, boundsAnswer};
+ghost use Rattle.bounds_told.specs.Promise.{CostBounds, SureMarks, BoundsRefused, NoBounds};
 ghost use Rattle.bounds.specs.Inner.{FloorsReady};
 ghost use Rattle.bounds.specs.Promise.{floorBytes};
 
@@ -90,11 +90,11 @@ fn run(low: &[u8], high: &[u8], target: Target) -> Bounds
 {
     let lowest = integration_target::build_window(low, target);
     let cells = lowest.field;
-    let least = sure_cells::costs_of(&cells);
+    let least = bounds_sure::costs_of(&cells);
     let highest = integration_target::build_window(high, target);
     let other = highest.field;
-    let greatest = sure_cells::costs_of(&other);
-    let sure = sure_cells::sure_cells(&cells, &least, &greatest);
+    let greatest = bounds_sure::costs_of(&other);
+    let sure = bounds_sure::sure_cells(&cells, &least, &greatest);
     Bounds {
         number: 0,
         least,

@@ -1,5 +1,5 @@
 // The library that others link. Each export hands on to the call of its name, and promises the same.
-use cost_bounds::Bounds;
+use bounds_told::Bounds;
 use cost_square::WindowCosts;
 use fields::FieldCell;
 use flow_arrivals::Arrivals;
@@ -42,8 +42,8 @@ ghost use Rattle.flow_build.specs.Flow.{buildNumber, buildSheet};
 ghost use Rattle.sector.specs.Sector.{sectorAnswer, sectorSheet, sectorAnswerBy, sectorSheetBy};
 ghost use Rattle.sector.specs.Previous.{WithoutPrevious, TargetOnWall};
 ghost use Rattle.sector.specs.Promise.{Planned, PlannedWithout};
-ghost use Rattle.cost_bounds.specs.Bounds.{boundsAnswer};
-ghost use Rattle.cost_bounds.specs.Promise.{CostBounds, SureMarks, BoundsRefused, NoBounds};
+ghost use Rattle.bounds_told.specs.Bounds.{boundsAnswer};
+ghost use Rattle.bounds_told.specs.Promise.{CostBounds, SureMarks, BoundsRefused, NoBounds};
 ghost use Rattle.bounds.specs.Promise.{floorBytes};
 ghost use Rattle.cost_square.specs.Square.{squareIn, windowCostsAnswer};
 ghost use Rattle.cost_square.specs.Promise.{WindowSquare, SquareRefused, WrongCount, NotAmong};

@@ -9,8 +9,8 @@ use lib.ListN.{getD}
 use Rattle.route.specs.Target.{targetOf}
 use Rattle.route.specs.Inner.{heldTarget}
 use Rattle.route.proofs.Targets.{made-target, made-held}
-use Rattle.cost_bounds.specs.Bounds.{boundsNumber, acceptedBounds}
-use Rattle.cost_bounds.proofs.Numbers.{Accepted, accepted, by-window}
+use Rattle.bounds_told.specs.Bounds.{boundsNumber, acceptedBounds}
+use Rattle.bounds_told.proofs.Numbers.{Accepted, accepted, by-window}
 use borrow.Author.Needs.{needs}
 use Rattle.bounds.proofs.Laws.{refuses, accepts}
 use Rattle.bounds.proofs.bounds.Statement.{statement}

@@ -10,7 +10,7 @@ use lib.ListN.{length}
 use borrow.Author.Tests.{eq-eqb, ne-eqb}
 use borrow.Author.Needs.{needs}
 use Rattle.route.specs.Step.{isWindow, stepNumberOn}
-use Rattle.cost_bounds.specs.Bounds.{boundsNumber}
+use Rattle.bounds_told.specs.Bounds.{boundsNumber}
 use Rattle.bounds.proofs.bounds_number.Statement.{statement}
 use Rattle.bounds.proofs.bounds_number.Tie as tie
 

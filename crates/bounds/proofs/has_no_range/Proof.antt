@@ -8,7 +8,7 @@ use native.Mathlib.Omega.{arith}
 use borrow.Author.Needs.{needs}
 use denote.Ref.{now}
 use Rattle.utilities.specs.Lists.{below}
-use Rattle.cost_bounds.specs.Bounds.{someOf, noRange}
+use Rattle.bounds_told.specs.Bounds.{someOf, noRange}
 use Rattle.bounds.proofs.Laws.{some-so-far, some-found}
 use Rattle.bounds.proofs.has_no_range.Statement.{statement}
 use Rattle.bounds.proofs.has_no_range.Tie as tie
