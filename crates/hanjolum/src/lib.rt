@@ -1,6 +1,5 @@
 // The library that others link. Each export hands on to the call of its name, and promises the same.
 use bounds_told::Bounds;
-use cost_square::WindowCosts;
 use fields::FieldCell;
 use flow_arrivals::Arrivals;
 use integration_field::BuildAnswer;
@@ -13,6 +12,7 @@ use line_end::LineEnd;
 use line_nearest::Line;
 use practice::PracticeFloor;
 use tour_plan::PlannedTour;
+use window_square::WindowCosts;
 ghost use mathlib.Core.Bool.{true, false};
 ghost use mathlib.Core.Path.{_≡_};
 ghost use mathlib.Core.Logic.{_↔_};
@@ -45,8 +45,8 @@ ghost use Rattle.sector.specs.Promise.{Planned, PlannedWithout};
 ghost use Rattle.bounds_told.specs.Bounds.{boundsAnswer};
 ghost use Rattle.bounds_told.specs.Promise.{CostBounds, SureMarks, BoundsRefused, NoBounds};
 ghost use Rattle.bounds.specs.Promise.{floorBytes};
-ghost use Rattle.cost_square.specs.Square.{squareIn, windowCostsAnswer};
-ghost use Rattle.cost_square.specs.Promise.{WindowSquare, SquareRefused, WrongCount, NotAmong};
+ghost use Rattle.window_square.specs.Square.{squareIn, windowCostsAnswer};
+ghost use Rattle.window_square.specs.Promise.{WindowSquare, SquareRefused, WrongCount, NotAmong};
 ghost use Rattle.tour_plan.specs.Plan.{tourIn, tourAnswer};
 ghost use Rattle.tour_plan.specs.Promise.{TourPlanned, TourRefused};
 ghost use Rattle.step_list.specs.Steps.{stepsOf};

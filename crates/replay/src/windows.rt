@@ -1,10 +1,10 @@
 // The records of window costs and of tours: the costs of a sector and the steps of its windows.
-use cost_square::WindowRow;
 use records::byte_at;
 use records::part;
 use records::short_at;
 use records::size_at;
 use records::word_at;
+use window_square::WindowRow;
 
 // Whether the eight costs of a row are those that stand in 32 bits each.
 fn same_row(costs: [u32; 8], bytes: &[u8]) -> bool {

@@ -4,7 +4,7 @@ use tours::WindowTour;
 ghost use mathlib.Core.Path.{_≡_};
 ghost use mathlib.Core.Logic.{_↔_};
 ghost use Rattle.step_list.specs.Steps.{stepsOf};
-ghost use Rattle.cost_square.specs.Promise.{WrongCount, NotAmong};
+ghost use Rattle.window_square.specs.Promise.{WrongCount, NotAmong};
 ghost use Rattle.tour_plan.specs.Plan.{refusedTour, acceptedTour, tourIn, tourAnswer};
 ghost use Rattle.tour_plan.specs.Promise.{TourPlanned, TourRefused};
 

@@ -18,13 +18,13 @@ use Rattle.route.specs.Target.{targetOf}
 use Rattle.step_list.specs.Steps.{stepsOf, stepOf}
 use Rattle.step_list.proofs.Steps.{steps-count}
 use Rattle.flow_arrows.specs.Promise.{builtCells}
-use Rattle.cost_square.specs.Square.{windowCostsNumber, windowCost, squareEntry, costSquare}
-use Rattle.cost_square.specs.Promise.{costAt}
-use Rattle.cost_square.specs.Inner.{WindowsReady}
-use Rattle.cost_square.proofs.Least.{least-small}
-use Rattle.cost_square.proofs.Numbers.{ready}
-use Rattle.cost_square.proofs.Calls.{NumbersTold, numbers}
-use Rattle.cost_square.proofs.Promise.{entry-at, row-long, rows-eight, square-told}
+use Rattle.window_square.specs.Square.{windowCostsNumber, windowCost, squareEntry, costSquare}
+use Rattle.window_square.specs.Promise.{costAt}
+use Rattle.window_square.specs.Inner.{WindowsReady}
+use Rattle.window_square.proofs.Least.{least-small}
+use Rattle.window_square.proofs.Numbers.{ready}
+use Rattle.window_square.proofs.Calls.{NumbersTold, numbers}
+use Rattle.window_square.proofs.Promise.{entry-at, row-long, rows-eight, square-told}
 use Rattle.tour_orders.specs.Orders.{orders}
 use Rattle.tour_orders.specs.Told.{AllOrders}
 use Rattle.tours.specs.declared.WindowTour.{WindowTour}

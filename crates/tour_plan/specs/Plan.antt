@@ -6,7 +6,7 @@ use Prim.Native.Nat.{ℕ}
 use lib.Dec.{eqb}
 use lib.ListN.{length, replicate}
 use Rattle.step_list.specs.Steps.{stepsOf}
-use Rattle.cost_square.specs.Square.{windowCostsNumber, costSquare}
+use Rattle.window_square.specs.Square.{windowCostsNumber, costSquare}
 use Rattle.tours.specs.declared.WindowTour.{WindowTour}
 use Rattle.tours.specs.Tours.{windowTour}
 use Rattle.tour_plan.specs.declared.PlannedTour.{PlannedTour}

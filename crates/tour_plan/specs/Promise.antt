@@ -6,8 +6,8 @@ use mathlib.Core.List.{List}
 use Prim.Native.Nat.{ℕ}
 use lib.ListN.{length}
 use Rattle.utilities.specs.Padded.{AllZero}
-use Rattle.cost_square.specs.Square.{costSquare}
-use Rattle.cost_square.specs.Promise.{WindowSquare}
+use Rattle.window_square.specs.Square.{costSquare}
+use Rattle.window_square.specs.Promise.{WindowSquare}
 use Rattle.tour_orders.specs.Orders.{orders}
 use Rattle.tour_orders.specs.Told.{AllOrders}
 use Rattle.tours.specs.declared.WindowTour.{WindowTour}

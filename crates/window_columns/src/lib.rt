@@ -1,8 +1,8 @@
 // Window costs, column by column: the least costs of each window's cells in one built field; and columns turned into the rows of a square.
-use cost_square::WindowRow;
 use route::RouteStep;
 use route::Target;
 use route::WindowCells;
+use window_square::WindowRow;
 ghost use mathlib.Core.Path.{_≡_};
 ghost use mathlib.Core.List.{map};
 ghost use Prim.Native.Nat.{_/_, _<_, min};
@@ -12,9 +12,9 @@ ghost use Rattle.route.specs.Target.{targetOf};
 ghost use Rattle.route.specs.Inner.{heldCells, heldTarget, WindowHeld, TargetHeld};
 ghost use Rattle.step_list.specs.Steps.{stepsOf};
 ghost use Rattle.step_list.specs.Inner.{stepAt};
-ghost use Rattle.cost_square.specs.Square.{leastBuilt};
-ghost use Rattle.cost_square.specs.Promise.{costAt};
-ghost use Rattle.cost_square.specs.Inner.{WindowSteps, leastFrom, heldRow};
+ghost use Rattle.window_square.specs.Square.{leastBuilt};
+ghost use Rattle.window_square.specs.Promise.{costAt};
+ghost use Rattle.window_square.specs.Inner.{WindowSteps, leastFrom, heldRow};
 
 // The smaller of two costs.
 fn smaller(cost: u32, other: u32) -> u32

@@ -1,14 +1,14 @@
 // The call for window costs: its number, and for the windows of one sector the square of their costs, a column for each window that is built for.
-use cost_square::WindowCosts;
-use cost_square::WindowRow;
+use window_square::WindowCosts;
+use window_square::WindowRow;
 ghost use mathlib.Core.Path.{_≡_};
 ghost use mathlib.Core.Logic.{_↔_};
 ghost use mathlib.Core.List.{map};
 ghost use Rattle.utilities.specs.Lists.{below};
 ghost use Rattle.step_list.specs.Steps.{stepsOf};
-ghost use Rattle.cost_square.specs.Square.{squareEntry, costSquare, squareIn, refusedWindowCosts, windowCostsAnswer};
-ghost use Rattle.cost_square.specs.Promise.{WindowSquare, SquareRefused, WrongCount, NotAmong};
-ghost use Rattle.cost_square.specs.Inner.{WindowsReady};
+ghost use Rattle.window_square.specs.Square.{squareEntry, costSquare, squareIn, refusedWindowCosts, windowCostsAnswer};
+ghost use Rattle.window_square.specs.Promise.{WindowSquare, SquareRefused, WrongCount, NotAmong};
+ghost use Rattle.window_square.specs.Inner.{WindowsReady};
 
 // Column j of the square: what it costs from each window to the one at place j of the list, for which alone the sector is built. 65535 where the list
 // has none there.

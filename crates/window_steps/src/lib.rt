@@ -3,7 +3,7 @@ ghost use mathlib.Core.Path.{_≡_};
 ghost use lib.ListN.{length};
 ghost use Rattle.route.specs.Table.{firstNumber};
 ghost use Rattle.step_list.specs.Steps.{stepsOf};
-ghost use Rattle.cost_square.specs.Square.{windowStepNumber, windowStepRows, windowCostsNumber};
+ghost use Rattle.window_square.specs.Square.{windowStepNumber, windowStepRows, windowCostsNumber};
 
 // 4 to 8, 16, or 20 for a step that is refused among the windows of a sector, else 0.
 fn window_step_number(costs: &[u8], sector: u8, step: &[u8]) -> u8

@@ -7,8 +7,8 @@ use native.Mathlib.Omega.{arith}
 use borrow.Author.Needs.{needs}
 use denote.Ref.{now}
 use lib.ListN.{length, getD}
-use Rattle.cost_square.specs.Square.{windowCostsNumber}
-use Rattle.cost_square.proofs.Numbers.{ready}
+use Rattle.window_square.specs.Square.{windowCostsNumber}
+use Rattle.window_square.proofs.Numbers.{ready}
 use Rattle.tours.specs.Promise.{TourSquare}
 use Rattle.tour_plan.proofs.Planned.{tour-square, refuses, Told, accepts}
 use Rattle.tour.proofs.plan_tour.Statement.{statement}

@@ -6,7 +6,7 @@ use native.Mathlib.Omega.{arith}
 use denote.Ref.{now}
 use Rattle.step_list.specs.Steps.{stepsOf}
 use Rattle.utilities.proofs.Lists.{FilledTo, filled-more, filled-all}
-use Rattle.cost_square.specs.Inner.{leastFrom}
+use Rattle.window_square.specs.Inner.{leastFrom}
 use Rattle.window_columns.proofs.column_of.Statement.{statement}
 use Rattle.window_columns.proofs.column_of.Tie as tie
 

@@ -13,8 +13,8 @@ use Rattle.route.specs.declared.WindowCells.{WindowCells}
 use Rattle.route.specs.Inner.{heldCells, WindowHeld}
 use Rattle.route.proofs.Targets.{held-inside}
 use Rattle.flow_arrows.specs.Arrows.{builtCost}
-use Rattle.cost_square.specs.Square.{leastBuilt}
-use Rattle.cost_square.proofs.Least.{least-small}
+use Rattle.window_square.specs.Square.{leastBuilt}
+use Rattle.window_square.proofs.Least.{least-small}
 use Rattle.window_columns.proofs.least_built.Statement.{statement}
 use Rattle.window_columns.proofs.least_built.Tie as tie
 

@@ -15,7 +15,7 @@ use Rattle.route.specs.Inner.{heldCells}
 use Rattle.route.proofs.Targets.{target-window, held-window}
 use Rattle.step_list.specs.Steps.{stepsOf, stepOf}
 use Rattle.step_list.proofs.Steps.{steps-count, step-of}
-use Rattle.cost_square.specs.Square.{leastBuilt}
+use Rattle.window_square.specs.Square.{leastBuilt}
 use Rattle.window_columns.proofs.least_from.Statement.{statement}
 use Rattle.window_columns.proofs.least_from.Tie as tie
 

@@ -6,7 +6,7 @@ use Prim.Native.Nat.{ℕ, _≤_, _-_}
 use native.Mathlib.Omega.{arith}
 use Rattle.utilities.specs.Lists.{below}
 use Rattle.utilities.proofs.Lists.{FilledTo, filled-more, filled-all}
-use Rattle.cost_square.specs.Promise.{costAt}
+use Rattle.window_square.specs.Promise.{costAt}
 use Rattle.window_columns.proofs.square_of.Statement.{statement}
 use Rattle.window_columns.proofs.square_of.Tie as tie
 

@@ -15,8 +15,8 @@ use Rattle.step_list.specs.Steps.{stepsOf, stepOf}
 use Rattle.step_list.proofs.Steps.{steps-count, step-of}
 use Rattle.integration_field.specs.declared.IntegrationField.{IntegrationField}
 use Rattle.flow_arrows.specs.Promise.{builtCells}
-use Rattle.cost_square.specs.Inner.{leastFrom}
-use Rattle.cost_square.proofs.Columns.{column-unused, column-used}
+use Rattle.window_square.specs.Inner.{leastFrom}
+use Rattle.window_square.proofs.Columns.{column-unused, column-used}
 use Rattle.window_costs.proofs.column_at.Statement.{statement}
 use Rattle.window_costs.proofs.column_at.Tie as tie
 

@@ -7,9 +7,9 @@ use native.Mathlib.Omega.{arith}
 use borrow.Author.Needs.{needs}
 use denote.Ref.{now}
 use lib.ListN.{getD}
-use Rattle.cost_square.specs.Square.{windowCostsNumber}
-use Rattle.cost_square.proofs.Numbers.{ready}
-use Rattle.cost_square.proofs.Calls.{refuses, accepts}
+use Rattle.window_square.specs.Square.{windowCostsNumber}
+use Rattle.window_square.proofs.Numbers.{ready}
+use Rattle.window_square.proofs.Calls.{refuses, accepts}
 use Rattle.window_costs.proofs.window_costs.Statement.{statement}
 use Rattle.window_costs.proofs.window_costs.Tie as tie
 

@@ -7,7 +7,7 @@ use borrow.Author.Needs.{needs}
 use denote.Ref.{now}
 use Rattle.step_list.specs.Steps.{stepsOf}
 use Rattle.utilities.proofs.Lists.{FilledTo, filled-more, filled-all}
-use Rattle.cost_square.proofs.Columns.{columnOf, turned}
+use Rattle.window_square.proofs.Columns.{columnOf, turned}
 use Rattle.window_costs.proofs.window_square.Statement.{statement}
 use Rattle.window_costs.proofs.window_square.Tie as tie
 

@@ -10,7 +10,7 @@ use Rattle.step_list.specs.Steps.{stepsOf}
 use Rattle.step_list.specs.Inner.{stepAt}
 use Rattle.route.proofs.Rows.{tests}
 use Rattle.step_list.proofs.Steps.{stepsFrom, from-start, from-here, from-done, lent-step, step-long}
-use Rattle.cost_square.specs.Square.{windowStepNumber, windowStepRows}
+use Rattle.window_square.specs.Square.{windowStepNumber, windowStepRows}
 use Rattle.window_steps.proofs.each_window_step.Statement.{statement}
 use Rattle.window_steps.proofs.each_window_step.Tie as tie
 

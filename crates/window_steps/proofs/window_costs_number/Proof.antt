@@ -13,7 +13,7 @@ use borrow.Author.Tests.{lt-ltb, le-ltb, eq-eqb, ne-eqb}
 use Rattle.route.specs.Step.{sectorOf}
 use Rattle.step_list.specs.Steps.{stepsOf, stepOf}
 use Rattle.step_list.proofs.Steps.{steps-count, step-of, sector-at}
-use Rattle.cost_square.specs.Square.{windowCostsNumber}
+use Rattle.window_square.specs.Square.{windowCostsNumber}
 use Rattle.window_steps.proofs.window_costs_number.Statement.{statement}
 use Rattle.window_steps.proofs.window_costs_number.Tie as tie
 

@@ -10,7 +10,7 @@ use borrow.Author.Needs.{needs}
 use borrow.Author.Tests.{eq-eqb, ne-eqb}
 use Rattle.route.specs.Step.{sectorOf, isWindow, eachStepOn}
 use Rattle.route.proofs.Walls.{each-step-on}
-use Rattle.cost_square.proofs.Numbers.{step-number}
+use Rattle.window_square.proofs.Numbers.{step-number}
 use Rattle.window_steps.proofs.window_step_number.Statement.{statement}
 use Rattle.window_steps.proofs.window_step_number.Tie as tie
 

@@ -13,8 +13,8 @@ use Rattle.route.specs.Target.{targetOf}
 use Rattle.step_list.specs.Steps.{stepsOf, stepOf}
 use Rattle.flow_arrows.specs.Arrows.{builtCost}
 use Rattle.flow_arrows.specs.Promise.{builtCells}
-use Rattle.cost_square.specs.declared.WindowRow.{WindowRow}
-use Rattle.cost_square.specs.declared.WindowCosts.{WindowCosts}
+use Rattle.window_square.specs.declared.WindowRow.{WindowRow}
+use Rattle.window_square.specs.declared.WindowCosts.{WindowCosts}
 
 -- ---- the number
 

@@ -9,8 +9,8 @@ use lib.ListN.{length, getD}
 use Rattle.route.specs.Step.{isWindow, windowCells, stepNumber}
 use Rattle.step_list.specs.Steps.{stepOf}
 use Rattle.step_list.specs.Inner.{stepAt}
-use Rattle.cost_square.specs.declared.WindowRow.{WindowRow}
-use Rattle.cost_square.specs.Square.{leastBuilt}
+use Rattle.window_square.specs.declared.WindowRow.{WindowRow}
+use Rattle.window_square.specs.Square.{leastBuilt}
 
 -- steps with windows, of which none is refused
 pub record WindowSteps (steps : List ℕ) : Type 0 where

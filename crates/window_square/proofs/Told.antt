@@ -20,9 +20,9 @@ use Rattle.route.proofs.NoneIs.{step-is}
 use Rattle.route.proofs.Walls.{each-step-on, accepted-on}
 use Rattle.step_list.specs.Steps.{stepsOf, stepOf}
 use Rattle.step_list.proofs.Steps.{steps-count, step-of, step-long}
-use Rattle.cost_square.specs.Square.{windowStepNumber, windowStepRows, windowCostsNumber}
-use Rattle.cost_square.specs.Promise.{WrongCount, AmongWindows, NotAmong}
-use Rattle.cost_square.proofs.Numbers.{step-number}
+use Rattle.window_square.specs.Square.{windowStepNumber, windowStepRows, windowCostsNumber}
+use Rattle.window_square.specs.Promise.{WrongCount, AmongWindows, NotAmong}
+use Rattle.window_square.proofs.Numbers.{step-number}
 
 -- ---- a step of 8 bytes
 

@@ -17,7 +17,7 @@ use Rattle.integration_field.specs.Rest.{total}
 use Rattle.integration_field.specs.Build.{isEmpty, settle, build}
 use Rattle.integration_started.specs.Sight.{walls, withPortals}
 use Rattle.integration_started.specs.Started.{startedAt, started}
-use Rattle.cost_square.specs.Square.{windowStepNumber, windowCostsNumber, windowCost, costSquare, squareIn, windowCostsAnswer}
+use Rattle.window_square.specs.Square.{windowStepNumber, windowCostsNumber, windowCost, costSquare, squareIn, windowCostsAnswer}
 
 -- the window from a first to a last cell of the North edge, in a sector; and a goal, cell 0
 abbrev north : ℕ → ℕ → ℕ → List ℕ

@@ -30,8 +30,8 @@ use Rattle.route.proofs.Walls.{each-step-on, accepted-on}
 use Rattle.step_list.specs.Steps.{stepsOf, stepOf}
 use Rattle.step_list.specs.Inner.{stepAt}
 use Rattle.step_list.proofs.Steps.{steps-count, step-of, step-long}
-use Rattle.cost_square.specs.Square.{noWindowOf, windowStepNumber, windowStepRows, windowCostsNumber}
-use Rattle.cost_square.specs.Inner.{WindowsReady}
+use Rattle.window_square.specs.Square.{noWindowOf, windowStepNumber, windowStepRows, windowCostsNumber}
+use Rattle.window_square.specs.Inner.{WindowsReady}
 
 -- ---- a step
 

@@ -28,11 +28,11 @@ use Rattle.flow_arrows.specs.Arrows.{builtCost}
 use Rattle.flow_arrows.specs.Promise.{builtCells}
 use Rattle.flow_arrows.proofs.Fall.{end-word}
 use Rattle.flow_arrows.proofs.CellBytes.{window-sector}
-use Rattle.cost_square.specs.Square.{leastBuilt, windowCost, squareEntry, costSquare}
-use Rattle.cost_square.specs.Promise.{WindowWalk, LeastCost, costAt, WindowSquare}
-use Rattle.cost_square.specs.Inner.{WindowsReady}
-use Rattle.cost_square.proofs.Least.{least-small, least-most, least-met}
-use Rattle.cost_square.proofs.Walked.{walked-reached, reached-walked}
+use Rattle.window_square.specs.Square.{leastBuilt, windowCost, squareEntry, costSquare}
+use Rattle.window_square.specs.Promise.{WindowWalk, LeastCost, costAt, WindowSquare}
+use Rattle.window_square.specs.Inner.{WindowsReady}
+use Rattle.window_square.proofs.Least.{least-small, least-most, least-met}
+use Rattle.window_square.proofs.Walked.{walked-reached, reached-walked}
 
 -- ---- a window
 

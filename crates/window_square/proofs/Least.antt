@@ -10,7 +10,7 @@ use Prim.Native.Nat.{ℕ, _≤_, _<_, min}
 use native.Mathlib.Omega.{arith}
 use native.Mathlib.Decide.{decLt}
 use Rattle.flow_arrows.specs.Arrows.{builtCost}
-use Rattle.cost_square.specs.Square.{leastBuilt}
+use Rattle.window_square.specs.Square.{leastBuilt}
 
 module _ (built : List ℕ) where
   pub cost-small : (x : ℕ) → builtCost built x ≤ 65535

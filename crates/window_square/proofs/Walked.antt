@@ -22,7 +22,7 @@ use Rattle.flow_arrows.specs.Arrows.{builtCost}
 use Rattle.flow_arrows.specs.Promise.{builtCells}
 use Rattle.flow_arrows.proofs.Fall.{Sector, Plain, end-word, by-kind, spreads}
 use Rattle.flow_arrows.proofs.CellBytes.{window-sector}
-use Rattle.cost_square.specs.Promise.{WindowWalk}
+use Rattle.window_square.specs.Promise.{WindowWalk}
 
 module _ (costs window : List ℕ) (full : length costs ≡ 100) (window-in : WindowIn window) (byte : (x : ℕ) → x < 100 → getD costs x 0 ≤ 255) where
   abbrev cells : List ℕ

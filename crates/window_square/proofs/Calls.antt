@@ -12,9 +12,9 @@ use borrow.Author.Tests.{ne-eqb}
 use Rattle.utilities.specs.Lists.{below}
 use Rattle.utilities.proofs.Padded.{all-zero}
 use Rattle.step_list.specs.Steps.{stepsOf}
-use Rattle.cost_square.specs.declared.WindowRow.{WindowRow}
-use Rattle.cost_square.specs.declared.WindowCosts.{WindowCosts}
-use Rattle.cost_square.specs.Square.{
+use Rattle.window_square.specs.declared.WindowRow.{WindowRow}
+use Rattle.window_square.specs.declared.WindowCosts.{WindowCosts}
+use Rattle.window_square.specs.Square.{
   windowCostsNumber,
   costSquare,
   rowsOf,
@@ -22,12 +22,12 @@ use Rattle.cost_square.specs.Square.{
   refusedWindowCosts,
   windowCostsAnswer,
 }
-use Rattle.cost_square.specs.Promise.{costAt, WindowSquare, SquareRefused, WrongCount, NotAmong}
-use Rattle.cost_square.specs.Inner.{heldRow}
-use Rattle.cost_square.proofs.Numbers.{ready}
-use Rattle.cost_square.proofs.Told.{nineteen-told, twenty-told}
-use Rattle.cost_square.proofs.Promise.{rows-eight, square-told}
-use Rattle.cost_square.proofs.Columns.{rows-held, rows-back}
+use Rattle.window_square.specs.Promise.{costAt, WindowSquare, SquareRefused, WrongCount, NotAmong}
+use Rattle.window_square.specs.Inner.{heldRow}
+use Rattle.window_square.proofs.Numbers.{ready}
+use Rattle.window_square.proofs.Told.{nineteen-told, twenty-told}
+use Rattle.window_square.proofs.Promise.{rows-eight, square-told}
+use Rattle.window_square.proofs.Columns.{rows-held, rows-back}
 
 -- the square of a refused answer
 zero-row : (n i j : ℕ) → costAt (squareIn (rowsOf (replicate n (replicate 8 0)))) i j ≡ 0

@@ -16,10 +16,10 @@ use Rattle.route.specs.Target.{targetOf}
 use Rattle.step_list.specs.Steps.{stepOf}
 use Rattle.utilities.proofs.Lists.{table-at, table-same, table-of}
 use Rattle.flow_arrows.specs.Promise.{builtCells}
-use Rattle.cost_square.specs.Square.{windowCost, squareEntry, costSquare, rowsOf, squareIn}
-use Rattle.cost_square.specs.Promise.{costAt}
-use Rattle.cost_square.specs.Inner.{leastFrom, heldRow}
-use Rattle.cost_square.proofs.Promise.{entry-unused}
+use Rattle.window_square.specs.Square.{windowCost, squareEntry, costSquare, rowsOf, squareIn}
+use Rattle.window_square.specs.Promise.{costAt}
+use Rattle.window_square.specs.Inner.{leastFrom, heldRow}
+use Rattle.window_square.proofs.Promise.{entry-unused}
 
 module _ (costs : List ℕ) (steps : List (List ℕ)) where
   abbrev pub columnOf : ℕ → List ℕ
