@@ -1,6 +1,6 @@
 // The call for a tour of the windows of one sector: Job 13's number and square, and the tour over it.
 use tour_plan::PlannedTour;
-use tours::WindowTour;
+use tour_sums::WindowTour;
 ghost use mathlib.Core.Path.{_≡_};
 ghost use mathlib.Core.Logic.{_↔_};
 ghost use Rattle.step_list.specs.Steps.{stepsOf};
@@ -51,6 +51,6 @@ pub fn plan_tour(costs: &[u8], steps: &[u8], limit: u16) -> PlannedTour
         return refused(number);
     }
     let square = window_costs::window_square(costs, steps);
-    let tour = window_tour::window_tour(square, steps.len() / 8, limit);
+    let tour = tour_search::window_tour(square, steps.len() / 8, limit);
     accepted(tour)
 }

@@ -7,7 +7,7 @@ use Prim.Native.Nat.{ℕ, suc, _+_, _-_, _<_}
 use native.Mathlib.Omega.{arith}
 use native.Mathlib.Numerals.{add-one}
 use Rattle.tour_orders.specs.Orders.{numbersFrom}
-use Rattle.tours.specs.Tours.{cheapestEntry, summed, leastFigure}
+use Rattle.tour_sums.specs.Tours.{cheapestEntry, summed, leastFigure}
 
 module _ (square : List (List ℕ)) (n : ℕ) where
   abbrev pub entry : ℕ → ℕ

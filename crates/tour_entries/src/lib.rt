@@ -3,8 +3,8 @@ ghost use mathlib.Core.Path.{_≡_};
 ghost use mathlib.Core.Bool.{cond};
 ghost use Prim.Native.Nat.{_<_, _≤_, min};
 ghost use lib.Dec.{eqb};
-ghost use Rattle.tours.specs.Tours.{moveCost, cheapestEntry, leastFigure};
-ghost use Rattle.tours.specs.Promise.{TourSquare};
+ghost use Rattle.tour_sums.specs.Tours.{moveCost, cheapestEntry, leastFigure};
+ghost use Rattle.tour_sums.specs.Promise.{TourSquare};
 
 // The cheapest entry into a window so far, once the entry from one more window is looked at; from itself there is none.
 fn enter_from(square: &[[u32; 8]; 8], from: usize, window: usize, cheapest: u32) -> u32

@@ -18,7 +18,7 @@ use Rattle.integration_started.specs.Sight.{walls, withPortals}
 use Rattle.integration_started.specs.Started.{startedAt, started}
 use Rattle.window_square.specs.Square.{windowStepNumber, windowCostsNumber, windowCost, costSquare}
 use Rattle.tour_orders.specs.Orders.{ordersOf, orders}
-use Rattle.tours.specs.Tours.{betterTour, leastFigure, triedCount, windowTour}
+use Rattle.tour_sums.specs.Tours.{betterTour, leastFigure, triedCount, windowTour}
 use Rattle.tour_plan.specs.declared.PlannedTour.{PlannedTour}
 use Rattle.tour_plan.specs.Plan.{tourAnswer}
 

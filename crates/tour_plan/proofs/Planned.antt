@@ -27,9 +27,9 @@ use Rattle.window_square.proofs.Calls.{NumbersTold, numbers}
 use Rattle.window_square.proofs.Promise.{entry-at, row-long, rows-eight, square-told}
 use Rattle.tour_orders.specs.Orders.{orders}
 use Rattle.tour_orders.specs.Told.{AllOrders}
-use Rattle.tours.specs.declared.WindowTour.{WindowTour}
-use Rattle.tours.specs.Tours.{windowTour}
-use Rattle.tours.specs.Promise.{TourSquare, BestAnswer, LeastAnswer}
+use Rattle.tour_sums.specs.declared.WindowTour.{WindowTour}
+use Rattle.tour_sums.specs.Tours.{windowTour}
+use Rattle.tour_sums.specs.Promise.{TourSquare, BestAnswer, LeastAnswer}
 use Rattle.tour_plan.specs.declared.PlannedTour.{PlannedTour}
 use Rattle.tour_plan.specs.Plan.{refusedTour, acceptedTour, tourIn, tourAnswer}
 use Rattle.tour_plan.specs.Promise.{TourPlanned, TourRefused}

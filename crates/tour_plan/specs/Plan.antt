@@ -7,8 +7,8 @@ use lib.Dec.{eqb}
 use lib.ListN.{length, replicate}
 use Rattle.step_list.specs.Steps.{stepsOf}
 use Rattle.window_square.specs.Square.{windowCostsNumber, costSquare}
-use Rattle.tours.specs.declared.WindowTour.{WindowTour}
-use Rattle.tours.specs.Tours.{windowTour}
+use Rattle.tour_sums.specs.declared.WindowTour.{WindowTour}
+use Rattle.tour_sums.specs.Tours.{windowTour}
 use Rattle.tour_plan.specs.declared.PlannedTour.{PlannedTour}
 
 -- a refusal has every other part zero (01, under the table)

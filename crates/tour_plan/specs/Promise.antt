@@ -10,8 +10,8 @@ use Rattle.window_square.specs.Square.{costSquare}
 use Rattle.window_square.specs.Promise.{WindowSquare}
 use Rattle.tour_orders.specs.Orders.{orders}
 use Rattle.tour_orders.specs.Told.{AllOrders}
-use Rattle.tours.specs.declared.WindowTour.{WindowTour}
-use Rattle.tours.specs.Promise.{BestAnswer, LeastAnswer}
+use Rattle.tour_sums.specs.declared.WindowTour.{WindowTour}
+use Rattle.tour_sums.specs.Promise.{BestAnswer, LeastAnswer}
 use Rattle.tour_plan.specs.declared.PlannedTour.{PlannedTour}
 
 pub record TourPlanned (costs : List ℕ) (steps : List (List ℕ)) (limit : ℕ) (tour : WindowTour) : Type 0 where

@@ -9,7 +9,7 @@ use denote.Ref.{now}
 use lib.ListN.{length, getD}
 use Rattle.window_square.specs.Square.{windowCostsNumber}
 use Rattle.window_square.proofs.Numbers.{ready}
-use Rattle.tours.specs.Promise.{TourSquare}
+use Rattle.tour_sums.specs.Promise.{TourSquare}
 use Rattle.tour_plan.proofs.Planned.{tour-square, refuses, Told, accepts}
 use Rattle.tour.proofs.plan_tour.Statement.{statement}
 use Rattle.tour.proofs.plan_tour.Tie as tie

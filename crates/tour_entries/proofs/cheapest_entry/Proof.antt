@@ -4,7 +4,7 @@ use mathlib.Core.Path.{_≡_, refl, ap, _∙_}
 use Prim.Native.Nat.{_-_, _≤_}
 use native.Mathlib.Omega.{arith}
 use native.Mathlib.Numerals.{add-one}
-use Rattle.tours.specs.Tours.{cheapestEntry}
+use Rattle.tour_sums.specs.Tours.{cheapestEntry}
 use Rattle.tour_entries.proofs.cheapest_entry.Statement.{statement}
 use Rattle.tour_entries.proofs.cheapest_entry.Tie as tie
 

@@ -4,8 +4,8 @@ use mathlib.Core.Path.{_≡_}
 use Prim.Native.Nat.{_+_, _-_, _*_, _≤_}
 use native.Mathlib.Omega.{arith}
 use Rattle.tour_orders.specs.Orders.{numbersFrom}
-use Rattle.tours.specs.Tours.{summed, leastFigure}
-use Rattle.tours.proofs.Least.{entry-small}
+use Rattle.tour_sums.specs.Tours.{summed, leastFigure}
+use Rattle.tour_sums.proofs.Least.{entry-small}
 use Rattle.tour_entries.proofs.Figure.{entry, figure-starts, figure-goes}
 use Rattle.tour_entries.proofs.least_figure.Statement.{statement}
 use Rattle.tour_entries.proofs.least_figure.Tie as tie

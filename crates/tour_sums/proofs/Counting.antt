@@ -9,8 +9,8 @@ use Prim.Native.Nat.{ℕ, zero, suc}
 use native.Mathlib.Omega.{arith}
 use lib.Dec.{eqb}
 use borrow.Author.Tests.{eqb-false, ne-eqb, not-true}
-use Rattle.tours.specs.Tours.{moveCost, countsFrom, tourCounts}
-use Rattle.tours.specs.Promise.{CountingOrder}
+use Rattle.tour_sums.specs.Tours.{moveCost, countsFrom, tourCounts}
+use Rattle.tour_sums.specs.Promise.{CountingOrder}
 
 module _ (square : List (List ℕ)) where
   from-told : (a : ℕ) (l : List ℕ) → countsFrom square a l ≡ true → CountingOrder square (a ∷ l)

@@ -6,9 +6,9 @@ use mathlib.Core.List.{List}
 use Prim.Native.Nat.{ℕ, zero, suc, _+_, _<_, _≤_}
 use lib.Dec.{eqb, ltb}
 use lib.ListN.{length, getD}
-use Rattle.tours.specs.declared.Tour.{Tour}
-use Rattle.tours.specs.Tours.{moveCost}
-use Rattle.tours.specs.Promise.{TourSquare}
+use Rattle.tour_sums.specs.declared.Tour.{Tour}
+use Rattle.tour_sums.specs.Tours.{moveCost}
+use Rattle.tour_sums.specs.Promise.{TourSquare}
 
 -- each is a row of the square, and a place of a row
 abbrev pub WindowNumbers : List ℕ → Type 0

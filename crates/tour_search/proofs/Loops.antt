@@ -16,11 +16,11 @@ use lib.ListN.{length, getD, take, set, length-set}
 use lib.Seq.{getD-set-same, getD-set-other, getD-take}
 use Rattle.tour_orders.specs.Orders.{orders, factorial}
 use Rattle.tour_orders.proofs.Orders.{each, order-inside}
-use Rattle.tours.specs.Tours.{moveCost, sumFrom, tourSum, countsFrom, tourCounts}
-use Rattle.tours.proofs.Best.{never}
+use Rattle.tour_sums.specs.Tours.{moveCost, sumFrom, tourSum, countsFrom, tourCounts}
+use Rattle.tour_sums.proofs.Best.{never}
 use Rattle.tour_ranking.specs.Inner.{orderAt}
 use Rattle.tour_ranking.proofs.Places.{padded-at}
-use Rattle.window_tour.specs.Inner.{WindowNumbers, weight, weighed, SumsKept}
+use Rattle.tour_search.specs.Inner.{WindowNumbers, weight, weighed, SumsKept}
 
 -- ---- what a move weighs
 

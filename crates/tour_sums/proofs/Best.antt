@@ -13,8 +13,8 @@ use native.Mathlib.Decide.{decLt, ℕ-discrete}
 use lib.ListN.{length, getD, take}
 use lib.Seq.{take-suc}
 use borrow.Author.Tests.{lt-ltb, le-ltb}
-use Rattle.tours.specs.declared.Tour.{Tour}
-use Rattle.tours.specs.Tours.{tourSum, tourCounts, noTour, tourOf, betterTour, bestTour}
+use Rattle.tour_sums.specs.declared.Tour.{Tour}
+use Rattle.tour_sums.specs.Tours.{tourSum, tourCounts, noTour, tourOf, betterTour, bestTour}
 
 pub never : true ≡ false → ⊥
 never e = let z : _≡_ {A = ℕ} 0 1 = ap (λ (b : Bool). cond b 0 1) e in omega arith

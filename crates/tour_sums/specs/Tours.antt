@@ -7,8 +7,8 @@ use lib.Dec.{eqb, ltb}
 use lib.ListN.{length, getD, take, replicate}
 use Rattle.utilities.specs.Padded.{padded}
 use Rattle.tour_orders.specs.Orders.{otherWindows, orders}
-use Rattle.tours.specs.declared.Tour.{Tour}
-use Rattle.tours.specs.declared.WindowTour.{WindowTour}
+use Rattle.tour_sums.specs.declared.Tour.{Tour}
+use Rattle.tour_sums.specs.declared.WindowTour.{WindowTour}
 
 -- a move from window a to window b costs row a, place b
 abbrev pub moveCost : List (List ℕ) → ℕ → ℕ → ℕ

@@ -17,8 +17,8 @@ use Rattle.tour_orders.specs.Orders.{otherWindows, withoutPlace}
 use Rattle.tour_orders.specs.Told.{times, IsOrder}
 use Rattle.tour_orders.proofs.Times.{here, stands, times-without}
 use Rattle.tour_orders.proofs.Orders.{Apart, apart}
-use Rattle.tours.specs.Tours.{moveCost, sumFrom, tourSum, cheapestEntry, summed, leastFigure}
-use Rattle.tours.specs.Promise.{TourSquare, CheapestEntry}
+use Rattle.tour_sums.specs.Tours.{moveCost, sumFrom, tourSum, cheapestEntry, summed, leastFigure}
+use Rattle.tour_sums.specs.Promise.{TourSquare, CheapestEntry}
 
 -- ---- the cheapest entry
 

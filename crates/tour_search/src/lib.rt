@@ -1,15 +1,15 @@
 // A tour of 2 to 8 windows: from the first window, each other once, no way back, with the smallest sum of the orders tried. Each order is made from
 // the one before, and the sums of its moves are kept place by place, so that they are made anew only from the first place that changed on.
-use tours::Tour;
-use tours::WindowTour;
+use tour_sums::Tour;
+use tour_sums::WindowTour;
 ghost use mathlib.Core.Path.{_≡_};
 ghost use Prim.Native.Nat.{_-_, _<_, _≤_};
 ghost use lib.ListN.{getD, take};
 ghost use Rattle.tour_orders.specs.Orders.{orders, factorial};
 ghost use Rattle.tour_orders.specs.Told.{AllOrders};
-ghost use Rattle.tours.specs.Tours.{moveCost, noTour, bestTour, triedCount, windowTour};
-ghost use Rattle.tours.specs.Promise.{TourSquare, BestAnswer, LeastAnswer};
-ghost use Rattle.window_tour.specs.Inner.{WindowNumbers, MovesReady, weight, weighed, SumsKept, heldTour};
+ghost use Rattle.tour_sums.specs.Tours.{moveCost, noTour, bestTour, triedCount, windowTour};
+ghost use Rattle.tour_sums.specs.Promise.{TourSquare, BestAnswer, LeastAnswer};
+ghost use Rattle.tour_search.specs.Inner.{WindowNumbers, MovesReady, weight, weighed, SumsKept, heldTour};
 
 // What a move of 65535 weighs, and the lowest sum while no order is found: more than the moves of any order that counts.
 const NO_ORDER: u32 = 524288;

@@ -1,4 +1,4 @@
--- `window_tour::best_tour` meets its contract. The loop's invariant: the best of the first `place` orders is known; and where there is an order at
+-- `tour_search::best_tour` meets its contract. The loop's invariant: the best of the first `place` orders is known; and where there is an order at
 -- `place`, it is the one made, and its sums are kept for the places before `changed`.
 -- Assumes nothing.
 use mathlib.Core.Path.{_≡_, refl, ap, _∙_}
@@ -10,14 +10,14 @@ use native.Mathlib.Numerals.{add-one}
 use borrow.Author.Needs.{needs}
 use lib.ListN.{take}
 use Rattle.tour_orders.specs.Orders.{orders, factorial}
-use Rattle.tours.specs.declared.Tour.{Tour}
-use Rattle.tours.specs.Tours.{noTour, bestTour}
+use Rattle.tour_sums.specs.declared.Tour.{Tour}
+use Rattle.tour_sums.specs.Tours.{noTour, bestTour}
 use Rattle.tour_ranking.specs.Inner.{orderAt}
-use Rattle.window_tour.specs.Inner.{SumsKept, heldTour}
-use Rattle.window_tour.proofs.Loops.{sums-start, sums-front, order-numbers}
-use Rattle.window_tour.proofs.Answers.{held-same, tried-taken, tried-kept}
-use Rattle.window_tour.proofs.best_tour.Statement.{statement}
-use Rattle.window_tour.proofs.best_tour.Tie as tie
+use Rattle.tour_search.specs.Inner.{SumsKept, heldTour}
+use Rattle.tour_search.proofs.Loops.{sums-start, sums-front, order-numbers}
+use Rattle.tour_search.proofs.Answers.{held-same, tried-taken, tried-kept}
+use Rattle.tour_search.proofs.best_tour.Statement.{statement}
+use Rattle.tour_search.proofs.best_tour.Tie as tie
 
 -- the order at a place is made, and the sums of its first places are kept
 pub record Made (square : List (List ℕ)) (n : ℕ) (order : List ℕ) (changed : ℕ) (sums : List ℕ) (place : ℕ) : Type 0 where

@@ -1,8 +1,8 @@
--- `window_tour::found_tour` meets its contract.
+-- `tour_search::found_tour` meets its contract.
 -- Assumes nothing.
 use borrow.Author.Tests.{lt-ltb, le-ltb}
-use Rattle.window_tour.proofs.found_tour.Statement.{statement}
-use Rattle.window_tour.proofs.found_tour.Tie as tie
+use Rattle.tour_search.proofs.found_tour.Statement.{statement}
+use Rattle.tour_search.proofs.found_tour.Tie as tie
 
 returns : tie.Need-returns
 returns c = rw (lt-ltb (c .before .args .lowest) 524288 (c .if1 .taken))

@@ -8,8 +8,8 @@ use lib.ListN.{length, getD, replicate}
 use Rattle.utilities.specs.Padded.{padded}
 use Rattle.tour_orders.specs.Orders.{orders, factorial}
 use Rattle.tour_orders.specs.Told.{IsOrder}
-use Rattle.tours.specs.declared.WindowTour.{WindowTour}
-use Rattle.tours.specs.Tours.{moveCost, tourSum}
+use Rattle.tour_sums.specs.declared.WindowTour.{WindowTour}
+use Rattle.tour_sums.specs.Tours.{moveCost, tourSum}
 
 -- the square of 2 to 8 windows as Job 13 fills it: no cost above 65535
 pub record TourSquare (square : List (List ℕ)) (n : ℕ) : Type 0 where

@@ -1,10 +1,10 @@
--- `window_tour::tried_count` meets its contract.
+-- `tour_search::tried_count` meets its contract.
 -- Assumes nothing.
 use native.Mathlib.Omega.{arith}
-use Rattle.tours.proofs.Promised.{tried-is}
+use Rattle.tour_sums.proofs.Promised.{tried-is}
 use borrow.Author.Needs.{needs}
-use Rattle.window_tour.proofs.tried_count.Statement.{statement}
-use Rattle.window_tour.proofs.tried_count.Tie as tie
+use Rattle.tour_search.proofs.tried_count.Statement.{statement}
+use Rattle.tour_search.proofs.tried_count.Tie as tie
 
 sub-factorial : tie.Need-sub-factorial
 sub-factorial c = search needs

@@ -1,13 +1,13 @@
--- `window_tour::add_moves` meets its contract. The loop's invariant: the sums of the places before `at` are kept, and the last of them is `sum`.
+-- `tour_search::add_moves` meets its contract. The loop's invariant: the sums of the places before `at` are kept, and the last of them is `sum`.
 -- Assumes nothing.
 use mathlib.Core.Path.{_≡_, ap, _∙_}
 use mathlib.Core.List.{List}
 use Prim.Native.Nat.{ℕ, _+_, _-_, _<_, _≤_}
 use native.Mathlib.Omega.{arith}
-use Rattle.window_tour.specs.Inner.{weighed, SumsKept}
-use Rattle.window_tour.proofs.Loops.{weighed-more, weighed-small, sums-more}
-use Rattle.window_tour.proofs.add_moves.Statement.{statement}
-use Rattle.window_tour.proofs.add_moves.Tie as tie
+use Rattle.tour_search.specs.Inner.{weighed, SumsKept}
+use Rattle.tour_search.proofs.Loops.{weighed-more, weighed-small, sums-more}
+use Rattle.tour_search.proofs.add_moves.Statement.{statement}
+use Rattle.tour_search.proofs.add_moves.Tie as tie
 
 pub record Holds (square : List (List ℕ)) (order : List ℕ) (n : ℕ) (sums : List ℕ) (sum at : ℕ) : Type 0 where
   pub some : 1 ≤ at

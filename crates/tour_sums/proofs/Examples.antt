@@ -5,8 +5,8 @@ use mathlib.Core.Bool.{Bool, true, false}
 use mathlib.Core.List.{List, [], _∷_}
 use Prim.Native.Nat.{ℕ}
 use Rattle.tour_orders.specs.Orders.{ordersOf, orders}
-use Rattle.tours.specs.declared.WindowTour.{WindowTour}
-use Rattle.tours.specs.Tours.{betterTour, leastFigure, triedCount, windowTour}
+use Rattle.tour_sums.specs.declared.WindowTour.{WindowTour}
+use Rattle.tour_sums.specs.Tours.{betterTour, leastFigure, triedCount, windowTour}
 
 -- three windows that cost another way there than back: 0, 1, 2 takes 5 and 2; 0, 2, 1 takes 9 and 1; the cheapest entries are 1 and 2
 abbrev oneWay : List (List ℕ)

@@ -1,14 +1,14 @@
--- `window_tour::window_tour` meets its contract.
+-- `tour_search::window_tour` meets its contract.
 -- Assumes nothing.
 use Prim.Native.Nat.{_-_, _≤_}
 use native.Mathlib.Omega.{arith}
 use Rattle.tour_orders.specs.Orders.{factorial}
-use Rattle.tours.proofs.Promised.{tried-is}
+use Rattle.tour_sums.proofs.Promised.{tried-is}
 use Rattle.tour_ranking.proofs.Loops.{factorial-few}
-use Rattle.window_tour.proofs.Answers.{answered, promised}
+use Rattle.tour_search.proofs.Answers.{answered, promised}
 use borrow.Author.Needs.{needs}
-use Rattle.window_tour.proofs.window_tour.Statement.{statement}
-use Rattle.window_tour.proofs.window_tour.Tie as tie
+use Rattle.tour_search.proofs.window_tour.Statement.{statement}
+use Rattle.tour_search.proofs.window_tour.Tie as tie
 
 -- the number tried is at most that of all orders, and so at most 5040
 at-most-all : (m : tie.After-tried-count) → m .tried-count .result ≤ factorial (m .before .args .n - 1)

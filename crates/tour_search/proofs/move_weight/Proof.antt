@@ -1,14 +1,14 @@
--- `window_tour::move_weight` meets its contract.
+-- `tour_search::move_weight` meets its contract.
 -- Assumes nothing.
 use mathlib.Core.Path.{sym}
 use Prim.Native.Nat.{ℕ, _-_, _<_}
 use native.Mathlib.Omega.{arith}
 use borrow.Author.Needs.{needs}
 use borrow.Author.Tests.{eq-eqb, ne-eqb}
-use Rattle.tours.specs.Tours.{moveCost}
-use Rattle.window_tour.proofs.Loops.{weight-counts, weight-dear}
-use Rattle.window_tour.proofs.move_weight.Statement.{statement}
-use Rattle.window_tour.proofs.move_weight.Tie as tie
+use Rattle.tour_sums.specs.Tours.{moveCost}
+use Rattle.tour_search.proofs.Loops.{weight-counts, weight-dear}
+use Rattle.tour_search.proofs.move_weight.Statement.{statement}
+use Rattle.tour_search.proofs.move_weight.Tie as tie
 
 -- the two windows are window numbers
 from-small : (m : tie.After-wide) → m .wide .result < 8

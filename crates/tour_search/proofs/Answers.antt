@@ -16,16 +16,16 @@ use Rattle.utilities.specs.Padded.{padded}
 use Rattle.tour_orders.specs.Orders.{orders, factorial}
 use Rattle.tour_orders.specs.Told.{AllOrders}
 use Rattle.tour_orders.proofs.Orders.{count, all-orders, order-long}
-use Rattle.tours.specs.declared.Tour.{Tour}
-use Rattle.tours.specs.declared.WindowTour.{WindowTour}
-use Rattle.tours.specs.Tours.{moveCost, tourSum, tourCounts, noTour, tourOf, betterTour, bestTour, leastFigure, triedCount, windowTour}
-use Rattle.tours.specs.Promise.{TourSquare, BestAnswer, LeastAnswer}
-use Rattle.tours.proofs.Best.{passed-over, first-found, not-lower, lower-taken, best-more}
-use Rattle.tours.proofs.Promised.{best-answer, least-answer}
+use Rattle.tour_sums.specs.declared.Tour.{Tour}
+use Rattle.tour_sums.specs.declared.WindowTour.{WindowTour}
+use Rattle.tour_sums.specs.Tours.{moveCost, tourSum, tourCounts, noTour, tourOf, betterTour, bestTour, leastFigure, triedCount, windowTour}
+use Rattle.tour_sums.specs.Promise.{TourSquare, BestAnswer, LeastAnswer}
+use Rattle.tour_sums.proofs.Best.{passed-over, first-found, not-lower, lower-taken, best-more}
+use Rattle.tour_sums.proofs.Promised.{best-answer, least-answer}
 use Rattle.tour_ranking.specs.Inner.{orderAt}
 use Rattle.tour_ranking.proofs.Places.{padded-at}
-use Rattle.window_tour.specs.Inner.{weighed, heldTour}
-use Rattle.window_tour.proofs.Loops.{weighed-same, weighed-counts, weighed-dear, sum-small}
+use Rattle.tour_search.specs.Inner.{weighed, heldTour}
+use Rattle.tour_search.proofs.Loops.{weighed-same, weighed-counts, weighed-dear, sum-small}
 
 -- ---- the best so far, by its sum
 

@@ -14,13 +14,13 @@ use lib.ListN.{length, getD, take}
 use Rattle.tour_orders.specs.Orders.{numbersFrom, orders, factorial}
 use Rattle.tour_orders.specs.Told.{IsOrder}
 use Rattle.tour_orders.proofs.Orders.{count, all-orders}
-use Rattle.tours.specs.declared.Tour.{Tour}
-use Rattle.tours.specs.declared.WindowTour.{WindowTour}
-use Rattle.tours.specs.Tours.{tourSum, noTour, bestTour, cheapestEntry, summed, leastFigure, triedCount, windowTour}
-use Rattle.tours.specs.Promise.{TourSquare, CountingOrder, Tried, BestTried, NoneTried, BestAnswer, overOthers, LeastAnswer}
-use Rattle.tours.proofs.Counting.{counts-told, told-counts}
-use Rattle.tours.proofs.Best.{None, At, Best, best-first, never}
-use Rattle.tours.proofs.Least.{cheapest-entry, under}
+use Rattle.tour_sums.specs.declared.Tour.{Tour}
+use Rattle.tour_sums.specs.declared.WindowTour.{WindowTour}
+use Rattle.tour_sums.specs.Tours.{tourSum, noTour, bestTour, cheapestEntry, summed, leastFigure, triedCount, windowTour}
+use Rattle.tour_sums.specs.Promise.{TourSquare, CountingOrder, Tried, BestTried, NoneTried, BestAnswer, overOthers, LeastAnswer}
+use Rattle.tour_sums.proofs.Counting.{counts-told, told-counts}
+use Rattle.tour_sums.proofs.Best.{None, At, Best, best-first, never}
+use Rattle.tour_sums.proofs.Least.{cheapest-entry, under}
 
 pub tried-is : (n limit : ℕ) → triedCount n limit ≡ min limit (factorial (n - 1))
 unfolding triedCount
