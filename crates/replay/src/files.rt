@@ -1,8 +1,8 @@
 // The records of a leg's files.
-use records::byte_at;
-use records::front;
-use records::part;
-use records::size_at;
+use replay_records::byte_at;
+use replay_records::front;
+use replay_records::part;
+use replay_records::size_at;
 
 // A record: lengths of list and buffer, the byte that fills the buffer; number; 150 bytes of list; 160 of the buffer.
 pub fn write_agrees(record: &[u8]) -> bool {

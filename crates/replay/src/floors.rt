@@ -1,8 +1,8 @@
 // The records of bounds: two floors and a step.
-use records::byte_at;
-use records::part;
-use records::size_at;
-use records::word_at;
+use replay_records::byte_at;
+use replay_records::part;
+use replay_records::size_at;
+use replay_records::word_at;
 
 // Whether a hundred costs are those that stand in 32 bits each.
 fn same_costs(costs: [u32; 100], bytes: &[u8]) -> bool {

@@ -1,9 +1,9 @@
 // The records of the flow calls, of the byte readers and of arrivals. The flow calls do not look at a field's list, so none is
 // recorded.
-use records::byte_at;
-use records::field_of;
-use records::part;
-use records::size_at;
+use replay_records::byte_at;
+use replay_records::field_of;
+use replay_records::part;
+use replay_records::size_at;
 
 // A record: 8 bytes of step, cells, has_previous, 100 previous numbers; number, sheet.
 pub fn new_agrees(record: &[u8]) -> bool {

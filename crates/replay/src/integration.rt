@@ -1,11 +1,11 @@
 // The records of init, build and the sector calls.
 use integration_field::BuildAnswer;
 use integration_started::InitAnswer;
-use records::byte_at;
-use records::field_of;
-use records::part;
-use records::same_field;
-use records::size_at;
+use replay_records::byte_at;
+use replay_records::field_of;
+use replay_records::part;
+use replay_records::same_field;
+use replay_records::size_at;
 
 // Number, field.
 pub fn same_init(answer: InitAnswer, bytes: &[u8]) -> bool {

@@ -1,11 +1,11 @@
 // The records of legs.
 use crate::integration::same_build;
 use integration_field::BuildAnswer;
-use records::byte_at;
-use records::front;
-use records::part;
-use records::short_at;
-use records::size_at;
+use replay_records::byte_at;
+use replay_records::front;
+use replay_records::part;
+use replay_records::short_at;
+use replay_records::size_at;
 ghost use Prim.Native.Nat.{_≤_};
 ghost use lib.ListN.{length};
 

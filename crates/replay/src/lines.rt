@@ -2,9 +2,9 @@
 use fields::FieldCell;
 use line_end::LineEnd;
 use line_nearest::Line;
-use records::byte_at;
-use records::part;
-use records::size_at;
+use replay_records::byte_at;
+use replay_records::part;
+use replay_records::size_at;
 
 // The cell whose column and row stand at these places.
 fn cell_at(bytes: &[u8], column: usize, row: usize) -> FieldCell {

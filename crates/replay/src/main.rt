@@ -65,7 +65,7 @@ fn compare(section: u8, file: i32, record: &mut [u8]) -> Tally {
         if read != record.len() {
             break;
         }
-        sum = records::summed(sum, record);
+        sum = replay_records::summed(sum, record);
         if !agrees(section, record) {
             break;
         }
@@ -95,7 +95,7 @@ fn print_tally(name: &[u8], counted: Tally) {
 fn replay(section: u8, name: &[u8], length: usize) {
     let mut longest = [0u8; 7171];
     let file = os::open_read(name);
-    let counted = compare(section, file, records::front(&mut longest, length));
+    let counted = compare(section, file, replay_records::front(&mut longest, length));
     libc::close(file);
     print_tally(name, counted);
 }

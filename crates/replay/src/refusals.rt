@@ -8,11 +8,11 @@ use crate::lines::same_end;
 use crate::lines::same_line;
 use integration_field::BuildAnswer;
 use integration_field::IntegrationField;
-use records::byte_at;
-use records::front;
-use records::part;
-use records::short_at;
-use records::size_at;
+use replay_records::byte_at;
+use replay_records::front;
+use replay_records::part;
+use replay_records::short_at;
+use replay_records::size_at;
 
 // A call's number; 255, which none has, where it is refused and answers anything but the recorded number and zeros.
 fn settled(number: u8, same: bool) -> u8 {

@@ -1,8 +1,8 @@
 // The records of practice floors, and of what the practice printer prints.
-use records::byte_at;
-use records::part;
-use records::size_at;
-use records::word_at;
+use replay_records::byte_at;
+use replay_records::part;
+use replay_records::size_at;
+use replay_records::word_at;
 
 // A record: seed; 100 costs, goal.
 pub fn floor_agrees(record: &[u8]) -> bool {

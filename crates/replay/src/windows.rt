@@ -1,9 +1,9 @@
 // The records of window costs and of tours: the costs of a sector and the steps of its windows.
-use records::byte_at;
-use records::part;
-use records::short_at;
-use records::size_at;
-use records::word_at;
+use replay_records::byte_at;
+use replay_records::part;
+use replay_records::short_at;
+use replay_records::size_at;
+use replay_records::word_at;
 use window_square::WindowRow;
 
 // Whether the eight costs of a row are those that stand in 32 bits each.

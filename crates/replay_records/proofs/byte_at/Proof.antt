@@ -1,10 +1,10 @@
--- `records::byte_at` meets its contract: the byte at a place, and 0 past the end.
+-- `replay_records::byte_at` meets its contract: the byte at a place, and 0 past the end.
 -- Assumes nothing.
 use mathlib.Core.Path.{sym}
 use lib.ListN.{List·getD-eq-default}
 use borrow.Author.Needs.{needs}
-use Rattle.records.proofs.byte_at.Statement.{statement}
-use Rattle.records.proofs.byte_at.Tie as tie
+use Rattle.replay_records.proofs.byte_at.Statement.{statement}
+use Rattle.replay_records.proofs.byte_at.Tie as tie
 
 shared-slice-read-result : tie.Need-shared-slice-read-result
 shared-slice-read-result c = search needs

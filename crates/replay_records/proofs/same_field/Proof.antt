@@ -1,13 +1,13 @@
--- `records::same_field` meets its contract. The loop's invariant: the cells before place i are the same.
+-- `replay_records::same_field` meets its contract. The loop's invariant: the cells before place i are the same.
 -- Assumes nothing.
 use native.Mathlib.Omega.{arith}
 use Prim.Native.Nat.{_≤_, _-_}
 use mathlib.Core.Path.{_≡_, sym, _∙_}
 use mathlib.Core.Bool.{true≢false}
 use borrow.Author.Count.{below-none, below-more}
-use Rattle.records.specs.Same.{SameFirst}
-use Rattle.records.proofs.same_field.Statement.{statement}
-use Rattle.records.proofs.same_field.Tie as tie
+use Rattle.replay_records.specs.Same.{SameFirst}
+use Rattle.replay_records.proofs.same_field.Statement.{statement}
+use Rattle.replay_records.proofs.same_field.Tie as tie
 
 abbrev Inv-loop : tie.InvT-loop
 Inv-loop bytes count positions los-corners cells i₀ i = (i ≤ 100) × SameFirst i positions los-corners cells bytes

@@ -1,11 +1,11 @@
--- `records::field_of` meets its contract: its place counts up to 100, and the field keeps its 100 cells.
+-- `replay_records::field_of` meets its contract: its place counts up to 100, and the field keeps its 100 cells.
 -- Assumes nothing.
 use native.Mathlib.Omega.{arith}
 use Prim.Native.Nat.{_≤_, _-_}
 use mathlib.Core.Path.{_≡_, refl}
 use lib.ListN.{length, length-set}
-use Rattle.records.proofs.field_of.Statement.{statement}
-use Rattle.records.proofs.field_of.Tie as tie
+use Rattle.replay_records.proofs.field_of.Statement.{statement}
+use Rattle.replay_records.proofs.field_of.Tie as tie
 
 abbrev Inv-loop : tie.InvT-loop
 Inv-loop bytes field₀ positions₀ los-corners₀ i₀ field positions los-corners i = (i ≤ 100) × (length field ≡ 100)

@@ -1,10 +1,10 @@
--- `records::summed` is safe and ends: the sum stays below the modulus.
+-- `replay_records::summed` is safe and ends: the sum stays below the modulus.
 -- Assumes nothing.
 use native.Mathlib.Omega.{arith}
 use Prim.Native.Nat.{_≤_, _<_, _-_}
 use lib.ListN.{length}
-use Rattle.records.proofs.summed.Statement.{statement}
-use Rattle.records.proofs.summed.Tie as tie
+use Rattle.replay_records.proofs.summed.Statement.{statement}
+use Rattle.replay_records.proofs.summed.Tie as tie
 
 abbrev Inv-loop : tie.InvT-loop
 Inv-loop before bytes sum₀ i₀ sum i = (i ≤ length bytes) × (sum < 4294967291)

@@ -3,7 +3,7 @@ ghost use Prim.Native.Nat.{_-_, _≤_, _<_};
 ghost use mathlib.Core.Path.{_≡_};
 ghost use mathlib.Core.Bool.{true};
 ghost use lib.ListN.{length, getD};
-ghost use Rattle.records.specs.Same.{wordAt, SameField};
+ghost use Rattle.replay_records.specs.Same.{wordAt, SameField};
 use integration_field::IntegrationField;
 
 // The bytes from one place up to another; no bytes where there are not so many.
