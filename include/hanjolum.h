@@ -100,34 +100,34 @@
  * 10,016 bytes. Give a thread that makes those four calls 32 KB, and one that makes only others 16 KB, beside what the thread
  * itself needs. That is the compiler's doing and not proved.
  * Below, for each call, its bytes of stack in all, beside what memcpy and memset need, read off the archive
- * (tools/stack/frames); and its nanoseconds, the median on practice floors (tools/time/header) on one core of an Intel Xeon that
+ * (tools/stack/frames); and its nanoseconds, the median on practice floors (tools/time/header) on one core of an AMD EPYC that
  * did nothing else. Neither is proved, and times belong to the machine. Readers of a byte are alike.
- *     hanjolum_sector, a goal                              19264      4528
- *     hanjolum_sector, a window                            19264      2878
- *     hanjolum_sector_without_sight, a goal                 9192      2672
- *     hanjolum_arrivals                                     640     12459
- *     hanjolum_bounds                                      7520      7714
- *     hanjolum_window_costs, eight windows                  5264     11650
- *     hanjolum_window_tour, eight windows, all orders       4800    735534
- *     hanjolum_leg, sixteen steps                          19008     55023
- *     hanjolum_leg_without_sight, sixteen steps             8936     52192
- *     hanjolum_leg_field, the last of sixteen steps        20016     42308
- *     hanjolum_leg_field_without_sight, the same            9944     40263
+ *     hanjolum_sector, a goal                             19264      3386
+ *     hanjolum_sector, a window                           19264      2409
+ *     hanjolum_sector_without_sight, a goal                9168      2186
+ *     hanjolum_arrivals                                     640       992
+ *     hanjolum_bounds                                      7520      6866
+ *     hanjolum_window_costs, eight windows                 5264      9476
+ *     hanjolum_window_tour, eight windows, all orders      4800     41718
+ *     hanjolum_leg, sixteen steps                         19008     45733
+ *     hanjolum_leg_without_sight, sixteen steps            8792     43014
+ *     hanjolum_leg_field, the last of sixteen steps       20016     35944
+ *     hanjolum_leg_field_without_sight, the same           9920     33915
  *     hanjolum_move                                           8        10
- *     hanjolum_way, over sixteen sectors                         56      1920
- *     hanjolum_way, the longest                                  56     66595
- *     hanjolum_leg_file_write, sixteen steps                       8         4
- *     hanjolum_leg_file_read, sixteen steps                        8         3
- *     hanjolum_practice_floor                               752       189
- *     hanjolum_init, a goal                                16272      1801
- *     hanjolum_build, a goal                                7376      1936
- *     hanjolum_flow_new, a goal                              1088       138
- *     hanjolum_flow_build, a goal                            1344       680
- *     hanjolum_line                                         664        39
- *     hanjolum_walk_bresenham_shallow                       848        53
- *     hanjolum_walk_bresenham_steep                         848        52
- *     hanjolum_line_end                                      56        12
- *     hanjolum_is_goal                                        8         3
+ *     hanjolum_way, over sixteen sectors                     56      2369
+ *     hanjolum_way, the longest                              56     47366
+ *     hanjolum_leg_file_write, sixteen steps                  8         5
+ *     hanjolum_leg_file_read, sixteen steps                   8         4
+ *     hanjolum_practice_floor                               752       206
+ *     hanjolum_init, a goal                               16272      1571
+ *     hanjolum_build, a goal                               7376      1790
+ *     hanjolum_flow_new, a goal                            1088       259
+ *     hanjolum_flow_build, a goal                          1344       545
+ *     hanjolum_line                                         664        38
+ *     hanjolum_walk_bresenham_shallow                       848        51
+ *     hanjolum_walk_bresenham_steep                         848        51
+ *     hanjolum_line_end                                      56        10
+ *     hanjolum_is_goal                                        8         4
  */
 #ifndef HANJOLUM_H
 #define HANJOLUM_H
