@@ -106,10 +106,3 @@ pub fn index_beside(index: usize, dir: CompassDir) -> usize
     let added = dir.differences();
     (index as i64 + added.row * 10 + added.column) as usize
 }
-
-// A cell's index that is kept in a byte, as a number of an index's width.
-pub fn index_of(entry: u8) -> usize
-    ensures { λ r. ⌜ r ≡ entry ⌝ }
-{
-    entry as usize
-}

@@ -139,7 +139,7 @@ fn offer_wave(
     let mut found = 0;
     let mut i = 0;
     while i < count {
-        let from = fields::index_of(wave[i]);
+        let from = utilities::index_of(wave[i]);
         let value = integration_bits::low_bits(before[from]);
         found = offer_around(cells, costs, before, next, found, value, from);
         i += 1;

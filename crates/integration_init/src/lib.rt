@@ -148,7 +148,7 @@ fn extend_los_corner(
         (now (cells .entry)) (now (corners .entry)) count (now (cells .exit)) (now (corners .exit)) r ⌝ }
 {
     let from = FieldCell::from_index(corner);
-    let end = FieldCell::from_index(fields::index_of(ends[corner]));
+    let end = FieldCell::from_index(utilities::index_of(ends[corner]));
     let mut drawn: [usize; 10] = [0; 10];
     let size = bresenham::draw_cells_between_points(from, end, &mut drawn);
     mark_line(cells, corners, count, corner, &drawn, size, wavefront_cost)
@@ -375,7 +375,7 @@ fn look_wave(
     };
     let mut i = 0;
     while i < size {
-        let from = fields::index_of(wavefront[i]);
+        let from = utilities::index_of(wavefront[i]);
         counts = look_around(
             cells,
             corners,

@@ -150,7 +150,7 @@ fn spread(
     let mut count = queued;
     let mut i = gone;
     while i < count {
-        let from = fields::index_of(queue[i]);
+        let from = utilities::index_of(queue[i]);
         let value = integration_bits::low_bits(built[from]);
         positions[from] = position;
         count = place_around(entered, queue, count, value, from);

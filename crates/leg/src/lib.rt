@@ -6,6 +6,7 @@ use route::RouteStep;
 use route::Target;
 use sectors::Across;
 use utilities::CompassDir;
+use utilities::index_of;
 ghost use mathlib.Core.Path.{_≡_};
 ghost use mathlib.Core.Bool.{true, false};
 ghost use mathlib.Core.Logic.{_↔_};
@@ -28,13 +29,6 @@ ghost use Rattle.leg_plan.specs.Promise.{LegPlanned, LegPlannedBy};
 ghost use Rattle.leg_journey.specs.Journey.{LegArrives, LegArrivesAtGoal, Arrives};
 ghost use Rattle.leg.specs.Inner.{StepReady, StepTarget};
 
-// A byte as a number of an index's width.
-fn wide(byte: u8) -> usize
-    ensures { λ r. ⌜ r ≡ byte ⌝ }
-{
-    byte as usize
-}
-
 // 4 to 8, or 16, for a step that is refused on its own sector's costs, else 0. A sector that is off the floor has no costs to cut.
 fn floor_number(floor: &[u8], step: &[u8]) -> u8
     requires { ⌜ (length (now floor) ≡ 6400) × (length (now step) ≡ 8) ⌝ }
@@ -44,7 +38,7 @@ fn floor_number(floor: &[u8], step: &[u8]) -> u8
     if 63 < sector {
         return 4;
     }
-    let at = wide(sector) * 100;
+    let at = index_of(sector) * 100;
     step_numbers::step_number_on(&floor[at..at + 100], step)
 }
 
@@ -132,10 +126,10 @@ fn faces(sector: u8, boundary: u8, other: u8) -> bool
     ensures { λ r. ⌜ r ≡ isSector other (across sector (sideOf boundary)) ⌝ }
 {
     let side = CompassDir::from_boundary(boundary);
-    let Across::Sector(found) = sectors::get_in_compass_direction(wide(sector), side) else {
+    let Across::Sector(found) = sectors::get_in_compass_direction(index_of(sector), side) else {
         return false;
     };
-    found == wide(other)
+    found == index_of(other)
 }
 
 // Number 10's condition: across the boundary of a later step lies another sector than that of the step before, or none.
@@ -194,7 +188,7 @@ pub fn build_step(floor: &[u8], step: &[u8], target: Target) -> IntegrationField
     requires { ⌜ StepReady (now floor) (now step) × TargetHeld target ⌝ }
     ensures { λ r. ⌜ r .field ≡ sectorField (part (now (floor .entry)) (sectorOf (now (step .entry)))) (heldTarget target) .field ⌝ }
 {
-    let at = wide(step[0]) * 100;
+    let at = index_of(step[0]) * 100;
     let end = at + 100;
     integration_target::build_target(&floor[at..end], target)
 }
@@ -242,7 +236,7 @@ fn write_step(
     let target = target_of(step, sight, has_previous, previous);
     let built = build_step(floor, step, target);
     let portal = RouteStep::new(step).portal;
-    let at = wide(step[0]) * 100;
+    let at = index_of(step[0]) * 100;
     let end = at + 100;
     sector::write(
         portal,

@@ -1,6 +1,7 @@
 // The field behind a leg: the built field of one of its steps, as the leg plans it.
 use integration_field::BuildAnswer;
 use route::Target;
+use utilities::index_of;
 ghost use mathlib.Core.Path.{_≡_};
 ghost use mathlib.Core.Bool.{true, false};
 ghost use mathlib.Core.Logic.{_↔_};
@@ -19,13 +20,6 @@ ghost use Rattle.leg.specs.Inner.{StepReady};
 ghost use Rattle.leg_field.specs.Field.{fieldRows, fieldNumberBy, fieldAnswerBy};
 ghost use Rattle.leg_field.specs.Promise.{FieldPlanned, AsLeg, BeyondList};
 ghost use Rattle.leg_field.specs.Inner.{Handed};
-
-// A byte as an index.
-fn wide(byte: u8) -> usize
-    ensures { λ r. ⌜ r ≡ byte ⌝ }
-{
-    byte as usize
-}
 
 // The table's number before a step is planned: 1, 3, 21, 4 to 10, or 16.
 fn field_number(floor: &[u8], steps: &[u8], place: usize) -> u8
@@ -67,7 +61,7 @@ fn field_of(floor: &[u8], step: &[u8], target: Target) -> BuildAnswer
     ensures { λ r. ⌜ r ≡ answerOf 0 (part (now (floor .entry)) (sectorOf (now (step .entry))))
         (started (part (now (floor .entry)) (sectorOf (now (step .entry)))) (heldTarget target)) ⌝ }
 {
-    let at = wide(step[0]) * 100;
+    let at = index_of(step[0]) * 100;
     let end = at + 100;
     let costs = &floor[at..end];
     let field = integration_init::start(costs, target);

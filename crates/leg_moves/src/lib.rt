@@ -1,4 +1,5 @@
 // A cart's moves over a floor, by the bytes of its sheet: one move, and the moves until the cart stands still.
+use utilities::index_of;
 ghost use mathlib.Core.Path.{_≡_};
 ghost use mathlib.Core.List.{List};
 ghost use Prim.Native.Nat.{ℕ, _+_, _*_, _%_, _<_};
@@ -51,20 +52,13 @@ enum Onward {
     Nowhere,
 }
 
-// A byte as a number of an index's width.
-fn wide(byte: u8) -> usize
-    ensures { λ r. ⌜ r ≡ byte ⌝ }
-{
-    byte as usize
-}
-
 // The place of a sector's cell.
 fn place_of(sector: u8, cell: u8) -> Spot
     requires { ⌜ (sector < 64) × (cell < 100) ⌝ }
     ensures { λ r. ⌜ (placeAt r ≡ placeOf sector cell) × OnFloor (placeAt r) ⌝ }
 {
-    let s = wide(sector);
-    let c = wide(cell);
+    let s = index_of(sector);
+    let c = index_of(cell);
     Spot {
         column: s % 8 * 10 + c % 10,
         row: s / 8 * 10 + c / 10,

@@ -1,17 +1,11 @@
 // Reads a file of steps: its number, and the part of it that holds the steps.
 use leg_file::LegFile;
+use utilities::index_of;
 ghost use mathlib.Core.Path.{_≡_};
-ghost use Prim.Native.Nat.{_<_, _≤_};
+ghost use Prim.Native.Nat.{_≤_};
 ghost use lib.ListN.{length, take, drop};
 ghost use Rattle.leg_file.specs.File.{isMarked, versionOf, fileNumber, fileSteps, fileAnswer};
 ghost use Rattle.leg_file.specs.Promise.{WrittenSame, PartOf, FileRefused};
-
-// A byte as a number of an index's width.
-fn wide(byte: u8) -> usize
-    ensures { λ r. ⌜ (r ≡ byte) × (r < 256) ⌝ }
-{
-    byte as usize
-}
 
 // Whether the file begins with `LEG`.
 fn is_marked(file: &[u8]) -> bool
@@ -32,8 +26,8 @@ fn version(file: &[u8]) -> usize
     requires { ⌜ 6 ≤ length (now file) ⌝ }
     ensures { λ r. ⌜ r ≡ versionOf (now (file .entry)) ⌝ }
 {
-    let low = wide(file[3]);
-    let high = wide(file[4]);
+    let low = index_of(file[3]);
+    let high = index_of(file[4]);
     low + 256 * high
 }
 
@@ -50,7 +44,7 @@ pub fn number(file: &[u8]) -> u8
     if version(file) != 1 {
         return 14;
     }
-    let count = wide(file[5]);
+    let count = index_of(file[5]);
     if count == 0 {
         return 14;
     }

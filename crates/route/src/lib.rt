@@ -1,5 +1,6 @@
 // A step of a route taken apart: its window's cells, and the target that a sector's field starts from.
 use utilities::CompassDir;
+use utilities::index_of;
 use utilities::rises;
 ghost use mathlib.Core.Path.{_≡_};
 ghost use Prim.Native.Nat.{_+_, _*_, _%_, _<_};
@@ -46,13 +47,6 @@ pub fn byte_at(bytes: &[u8], place: usize) -> u8
         return bytes[place];
     }
     0
-}
-
-// A byte as a number of an index's width.
-fn wide(byte: u8) -> usize
-    ensures { λ r. ⌜ r ≡ byte ⌝ }
-{
-    byte as usize
 }
 
 // How far apart the indexes of two neighbours on a side's edge are: 1 along a row, 10 down a column.
@@ -105,11 +99,11 @@ impl RouteStep {
     pub fn new(step: &[u8]) -> RouteStep
         ensures { λ r. ⌜ r ≡ routeStep (now (step .entry)) ⌝ }
     {
-        let sector = wide(byte_at(step, 0));
-        let goal = wide(byte_at(step, 1));
+        let sector = index_of(byte_at(step, 0));
+        let goal = index_of(byte_at(step, 1));
         let mark = byte_at(step, 2);
-        let start = wide(byte_at(step, 3));
-        let end = wide(byte_at(step, 4));
+        let start = index_of(byte_at(step, 3));
+        let end = index_of(byte_at(step, 4));
         let boundary = CompassDir::from_boundary(byte_at(step, 5));
         RouteStep {
             sector,

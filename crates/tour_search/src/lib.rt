@@ -2,6 +2,7 @@
 // the one before, and the sums of its moves are kept place by place, so that they are made anew only from the first place that changed on.
 use tour_sums::Tour;
 use tour_sums::WindowTour;
+use utilities::index_of;
 ghost use mathlib.Core.Path.{_≡_};
 ghost use Prim.Native.Nat.{_-_, _<_, _≤_};
 ghost use lib.ListN.{getD, take};
@@ -14,21 +15,14 @@ ghost use Rattle.tour_search.specs.Inner.{WindowNumbers, MovesReady, wei
 // What a move of 65535 weighs, and the lowest sum while no order is found: more than the moves of any order that counts.
 const NO_ORDER: u32 = 524288;
 
-// A byte as an index.
-fn wide(x: u8) -> usize
-    ensures { λ r. ⌜ r ≡ x ⌝ }
-{
-    x as usize
-}
-
 // What the move into the window at a place of an order weighs: its cost, from window a to window b in row a at place b. A 65535 weighs so much
 // that one sum tells both what an order comes to and whether it counts.
 fn move_weight(square: &[[u32; 8]; 8], order: &[u8; 8], at: usize) -> u32
     requires { ⌜ (1 ≤ at) × (at < 8) × WindowNumbers (now order) ⌝ }
     ensures { λ r. ⌜ r ≡ weight (moveCost (now (square .entry)) (getD (now (order .entry)) (at - 1) 0) (getD (now (order .entry)) at 0)) ⌝ }
 {
-    let from = wide(order[at - 1]);
-    let to = wide(order[at]);
+    let from = index_of(order[at - 1]);
+    let to = index_of(order[at]);
     let cost = square[from][to];
     if cost == 65535 {
         return NO_ORDER;

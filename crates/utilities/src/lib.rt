@@ -1,4 +1,4 @@
-// The eight directions: what each adds to a column and a row, its opposite, its number and its sides.
+// The eight directions: what each adds to a column and a row, its opposite, its number and its sides. And a byte as an index.
 ghost use mathlib.Core.Path.{_≡_};
 ghost use Rattle.utilities.specs.Compass.{differences, rises, opposite, numberOf, points, lowerSide, sideOf};
 
@@ -36,6 +36,13 @@ pub fn rises(difference: i64) -> usize
         return difference as usize;
     }
     0
+}
+
+// A byte as an index.
+pub fn index_of(byte: u8) -> usize
+    ensures { λ r. ⌜ r ≡ byte ⌝ }
+{
+    byte as usize
 }
 
 impl CompassDir {

@@ -17,10 +17,10 @@ use Rattle.leg.proofs.build_step.Statement.{statement}
 use Rattle.leg.proofs.build_step.Tie as tie
 
 -- where the sector's number is read, and the call
-abbrev start : tie.After-wide → tie.Start
+abbrev start : tie.After-index-of → tie.Start
 start w = w .before .before .before .before
 
-on-floor : (w : tie.After-wide) → sectorOf (now (start w .args .step)) < 64
+on-floor : (w : tie.After-index-of) → sectorOf (now (start w .args .step)) < 64
 on-floor w = in-floor _ (start w .pre .0 .accepted)
 
 build-target-requires : tie.Need-build-target-requires
@@ -33,10 +33,10 @@ returns : tie.Need-returns
 returns c =
     let w = c .before .before in
     let a = start w .args in
-    let n = w .wide .result in
+    let n = w .index-of .result in
     ap (λ (f : IntegrationField). f .field) (c .build-target .ensures)
     ∙ ap (λ (l : List ℕ). sectorField l (heldTarget (a .target)) .field)
-    (lent-part (now (a .floor)) (sectorOf (now (a .step))) n (w .wide .ensures) (n * 100 + 100 - n * 100) (omega arith))
+    (lent-part (now (a .floor)) (sectorOf (now (a .step))) n (w .index-of .ensures) (n * 100 + 100 - n * 100) (omega arith))
 
 pub build-step-spec : {M : Type 1} → statement M
 build-step-spec = tie.close (tie.spec

@@ -8,8 +8,8 @@ use Rattle.leg.proofs.faces.Tie as tie
 from-boundary-requires : tie.Need-from-boundary-requires
 from-boundary-requires c κs = search needs
 
-wide-requires : tie.Need-wide-requires
-wide-requires c κs = search needs
+index-of-requires : tie.Need-index-of-requires
+index-of-requires c κs = search needs
 
 get-in-compass-direction-requires : tie.Need-get-in-compass-direction-requires
 get-in-compass-direction-requires c κs = search needs
@@ -24,27 +24,27 @@ returns : tie.Need-returns
 returns c =
     let asked = c .before .before in
     let found = sym (asked .get-in-compass-direction .ensures) ∙ c .enum-told .given .1 in
-    search (found, sym (asked .before .wide .ensures), sym (asked .before .before .from-boundary .ensures))
+    search (found, sym (asked .before .index-of .ensures), sym (asked .before .before .from-boundary .ensures))
 
-wide-requires-2 : tie.Need-wide-requires-2
-wide-requires-2 c κs = search needs
+index-of-requires-2 : tie.Need-index-of-requires-2
+index-of-requires-2 c κs = search needs
 
 returns-2 : tie.Need-returns-2
 returns-2 c =
     let told = c .before .before in
     let asked = told .before .before in
     let found = sym (asked .get-in-compass-direction .ensures) ∙ told .found .given .1 in
-    search (found, sym (asked .before .wide .ensures), sym (asked .before .before .from-boundary .ensures), c .wide2 .ensures)
+    search (found, sym (asked .before .index-of .ensures), sym (asked .before .before .from-boundary .ensures), c .index-of2 .ensures)
 
 pub faces-spec : {M : Type 1} → statement M
 faces-spec =
     tie.close
     (tie.spec
     from-boundary-requires
-    wide-requires
+    index-of-requires
     get-in-compass-direction-requires
     enum-known-found
     enum-told
     returns
-    wide-requires-2
+    index-of-requires-2
     returns-2)

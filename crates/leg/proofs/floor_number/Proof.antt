@@ -20,7 +20,7 @@ cut : (floor step : List ℕ) (at : ℕ) → at ≡ sectorOf step * 100 → leng
 cut floor step at e h = let n : at + 100 - at ≡ 100 = omega arith in rw (n, e) (each-step-on _ step h)
 
 -- from where the sector is read: the call
-abbrev start : tie.After-wide → tie.Start
+abbrev start : tie.After-index-of → tie.Start
 start w = w .before .before .before .before .before
 
 shared-slice-read-sector : tie.Need-shared-slice-read-sector
@@ -30,8 +30,8 @@ returns : tie.Need-returns
 unfolding eachStepOn
 returns c = search tests
 
-wide-requires : tie.Need-wide-requires
-wide-requires c κs = search needs
+index-of-requires : tie.Need-index-of-requires
+index-of-requires c κs = search needs
 
 mul-at : tie.Need-mul-at
 mul-at c = search needs
@@ -46,7 +46,7 @@ part-step-number-on-start : tie.Need-part-step-number-on-start
 part-step-number-on-start c = search needs
 
 part-step-number-on-end : tie.Need-part-step-number-on-end
-part-step-number-on-end c = omega (arith, start c .pre .0, c .before .if1 .left, c .wide .ensures)
+part-step-number-on-end c = omega (arith, start c .pre .0, c .before .if1 .left, c .index-of .ensures)
 
 step-number-on-requires : tie.Need-step-number-on-requires
 step-number-on-requires c κs = search needs
@@ -55,7 +55,7 @@ returns-2 : tie.Need-returns-2
 returns-2 c =
     let w = c .before .before in
     let a = start w .args in
-    c .step-number-on .ensures ∙ cut (now (a .floor)) (now (a .step)) _ (ap (λ (n : ℕ). n * 100) (w .wide .ensures)) (start w .pre .1)
+    c .step-number-on .ensures ∙ cut (now (a .floor)) (now (a .step)) _ (ap (λ (n : ℕ). n * 100) (w .index-of .ensures)) (start w .pre .1)
 
 pub floor-number-spec : {M : Type 1} → statement M
 floor-number-spec =
@@ -63,7 +63,7 @@ floor-number-spec =
     (tie.spec
     shared-slice-read-sector
     returns
-    wide-requires
+    index-of-requires
     mul-at
     add-step-number-on
     sub-step-number-on

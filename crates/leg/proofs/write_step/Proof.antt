@@ -17,7 +17,7 @@ use Rattle.leg.proofs.write_step.Tie as tie
 
 -- where the sector's number is read, the field is built, the target made; and the call
 abbrev Read : Type 0
-Read = tie.After-wide
+Read = tie.After-index-of
 
 abbrev built : Read → tie.After-build-step
 built w = w .before .before .before .before
@@ -49,11 +49,11 @@ returns c =
     let floor = now (a .floor) in
     let step = now (a .step) in
     let t = targeted w .target-of .ensures in
-    let n = w .wide .result in (
+    let n = w .index-of .result in (
       built w .build-step .ensures ∙ ap (λ (u : Target). sectorField (part floor (sectorOf step)) u .field) (t .is),
       wrote-step (a .sight) floor step (a .has-previous) (now (a .previous)) (now (a .sheet)) t (w .before .before .before .new .ensures)
           (built w .build-step .result .field) _ (built w .build-step .ensures) (wrote .write .ensures)
-          n (w .wide .ensures) (n * 100 + 100 - n * 100) (omega arith),
+          n (w .index-of .ensures) (n * 100 + 100 - n * 100) (omega arith),
     )
 
 pub write-step-spec : {M : Type 1} → statement M

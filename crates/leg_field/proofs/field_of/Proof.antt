@@ -19,17 +19,17 @@ use Rattle.leg_field.proofs.field_of.Statement.{statement}
 use Rattle.leg_field.proofs.field_of.Tie as tie
 
 -- where the sector's number is read: the call, and the costs that are lent
-abbrev start : tie.After-wide → tie.Start
+abbrev start : tie.After-index-of → tie.Start
 start w = w .before .before .before .before
 
-on-floor : (w : tie.After-wide) → sectorOf (now (start w .args .step)) < 64
+on-floor : (w : tie.After-index-of) → sectorOf (now (start w .args .step)) < 64
 on-floor w = in-floor _ (start w .pre .0 .accepted)
 
-abbrev costs : tie.After-wide → List ℕ
-costs w = let n = w .wide .result in take (n * 100 + 100 - n * 100) (drop (n * 100) (now (start w .args .floor)))
+abbrev costs : tie.After-index-of → List ℕ
+costs w = let n = w .index-of .result in take (n * 100 + 100 - n * 100) (drop (n * 100) (now (start w .args .floor)))
 
-hundred : (w : tie.After-wide) → length (costs w) ≡ 100
-hundred w = simp (length-take, length-drop) (omega (arith, on-floor w, start w .pre .0 .floor-full, w .wide .ensures))
+hundred : (w : tie.After-index-of) → length (costs w) ≡ 100
+hundred w = simp (length-take, length-drop) (omega (arith, on-floor w, start w .pre .0 .floor-full, w .index-of .ensures))
 
 built-requires : tie.Need-built-requires
 built-requires c κs =
@@ -42,10 +42,10 @@ returns c =
     let begun = c .before in
     let w = begun .before .before in
     let a = start w .args in
-    let n = w .wide .result in
+    let n = w .index-of .result in
     c .built .ensures ∙ ap (answerOf 0 (costs w)) (begun .start .ensures)
     ∙ ap (λ (l : List ℕ). answerOf 0 l (started l (heldTarget (a .target))))
-    (lent-part (now (a .floor)) (sectorOf (now (a .step))) n (w .wide .ensures) (n * 100 + 100 - n * 100) (omega arith))
+    (lent-part (now (a .floor)) (sectorOf (now (a .step))) n (w .index-of .ensures) (n * 100 + 100 - n * 100) (omega arith))
 
 pub field-of-spec : {M : Type 1} → statement M
 field-of-spec = tie.close (tie.spec

@@ -7,11 +7,11 @@ use borrow.Author.Needs.{needs}
 use Rattle.leg_moves.proofs.place_of.Statement.{statement}
 use Rattle.leg_moves.proofs.place_of.Tie as tie
 
-wide-requires : tie.Need-wide-requires
-wide-requires c κs = search needs
+index-of-requires : tie.Need-index-of-requires
+index-of-requires c κs = search needs
 
-wide-requires-2 : tie.Need-wide-requires-2
-wide-requires-2 c κs = search needs
+index-of-requires-2 : tie.Need-index-of-requires-2
+index-of-requires-2 c κs = search needs
 
 mul-t6 : tie.Need-mul-t6
 mul-t6 c = search needs
@@ -26,8 +26,8 @@ add-t12 : tie.Need-add-t12
 add-t12 c = search needs
 
 returns : tie.Need-returns
-returns c = (ap₂ placeOf (c .before .wide .ensures) (c .wide2 .ensures), record { column-on = omega arith; row-on = omega arith })
+returns c = (ap₂ placeOf (c .before .index-of .ensures) (c .index-of2 .ensures), record { column-on = omega arith; row-on = omega arith })
 
 pub place-of-spec : {M : Type 1} → statement M
 place-of-spec =
-    tie.close (tie.spec wide-requires wide-requires-2 mul-t6 add-t8 mul-t10 add-t12 returns)
+    tie.close (tie.spec index-of-requires index-of-requires-2 mul-t6 add-t8 mul-t10 add-t12 returns)

@@ -24,17 +24,17 @@ version-requires c κs = search needs
 returns-3 : tie.Need-returns-3
 returns-3 c = sym (wrong _ (λ p. omega (arith, p .version, c .before .version .ensures)))
 
-shared-slice-read-wide : tie.Need-shared-slice-read-wide
-shared-slice-read-wide c = search needs
+shared-slice-read-index-of : tie.Need-shared-slice-read-index-of
+shared-slice-read-index-of c = search needs
 
-wide-requires : tie.Need-wide-requires
-wide-requires c κs = search needs
+index-of-requires : tie.Need-index-of-requires
+index-of-requires c κs = search needs
 
 returns-4 : tie.Need-returns-4
-returns-4 c = sym (wrong _ (λ p. omega (arith, p .some, c .before .wide .ensures .0)))
+returns-4 c = sym (wrong _ (λ p. omega (arith, p .some, c .before .index-of .ensures)))
 
 returns-5 : tie.Need-returns-5
-returns-5 c = sym (wrong _ (λ p. omega (arith, p .few, c .before .before .wide .ensures .0)))
+returns-5 c = sym (wrong _ (λ p. omega (arith, p .few, c .before .before .index-of .ensures)))
 
 mul-if6 : tie.Need-mul-if6
 mul-if6 c = search needs
@@ -43,14 +43,14 @@ add-if6 : tie.Need-add-if6
 add-if6 c = search needs
 
 returns-6 : tie.Need-returns-6
-returns-6 c = sym (wrong _ (λ p. omega (arith, p .long, c .before .before .before .wide .ensures .0)))
+returns-6 c = sym (wrong _ (λ p. omega (arith, p .long, c .before .before .before .index-of .ensures)))
 
 returns-7 : tie.Need-returns-7
 returns-7 c =
     let counted = c .before .before .before in
     let versioned = counted .before .before in
     let marked = versioned .before .before in
-    let count = counted .wide .ensures .0 in
+    let count = counted .index-of .ensures in
     sym
     (right _
     (record {
@@ -70,8 +70,8 @@ number-spec =
     returns-2
     version-requires
     returns-3
-    shared-slice-read-wide
-    wide-requires
+    shared-slice-read-index-of
+    index-of-requires
     returns-4
     returns-5
     mul-if6

@@ -11,15 +11,15 @@ use Rattle.tour_search.proofs.move_weight.Statement.{statement}
 use Rattle.tour_search.proofs.move_weight.Tie as tie
 
 -- the two windows are window numbers
-from-small : (m : tie.After-wide) → m .wide .result < 8
-from-small m = let s = m .before .before in omega (arith, m .wide .ensures, s .pre .2 (s .args .at - 1))
+from-small : (m : tie.After-index-of) → m .index-of .result < 8
+from-small m = let s = m .before .before in omega (arith, m .index-of .ensures, s .pre .2 (s .args .at - 1))
 
-to-small : (m : tie.After-wide2) → m .wide2 .result < 8
-to-small m = let s = m .before .before .before .before in omega (arith, m .wide2 .ensures, s .pre .2 (s .args .at))
+to-small : (m : tie.After-index-of2) → m .index-of2 .result < 8
+to-small m = let s = m .before .before .before .before in omega (arith, m .index-of2 .ensures, s .pre .2 (s .args .at))
 
 -- what the move costs
-abbrev cost : tie.After-wide2 → ℕ
-cost m = moveCost (m .before .before .before .before .args .square .now) (m .before .before .wide .result) (m .wide2 .result)
+abbrev cost : tie.After-index-of2 → ℕ
+cost m = moveCost (m .before .before .before .before .args .square .now) (m .before .before .index-of .result) (m .index-of2 .result)
 
 mul-cost : tie.Need-mul-cost
 mul-cost c = omega (arith, from-small (c .before .before), to-small c)
@@ -37,13 +37,13 @@ returns : tie.Need-returns
 returns c =
     let to = c .before .before in
     let from = to .before .before in
-    rw (← from .wide .ensures, ← to .wide2 .ensures) (sym (weight-dear (cost to) (eq-eqb (cost to) 65535 (c .if1 .taken))))
+    rw (← from .index-of .ensures, ← to .index-of2 .ensures) (sym (weight-dear (cost to) (eq-eqb (cost to) 65535 (c .if1 .taken))))
 
 returns-2 : tie.Need-returns-2
 returns-2 c =
     let to = c .before .before in
     let from = to .before .before in
-    rw (← from .wide .ensures, ← to .wide2 .ensures) (sym (weight-counts (cost to) (ne-eqb (cost to) 65535 (c .if1 .left))))
+    rw (← from .index-of .ensures, ← to .index-of2 .ensures) (sym (weight-counts (cost to) (ne-eqb (cost to) 65535 (c .if1 .left))))
 
 pub move-weight-spec : {M : Type 1} → statement M
 move-weight-spec =

@@ -16,14 +16,14 @@ returns c =
     let second = goal .before in
     let sector = second .before in
     rw (
-      sector .wide .ensures,
+      sector .index-of .ensures,
       sector .before .byte-at .ensures,
-      goal .wide2 .ensures,
+      goal .index-of2 .ensures,
       second .byte-at2 .ensures,
       third .byte-at3 .ensures,
-      first .wide3 .ensures,
+      first .index-of3 .ensures,
       fourth .byte-at4 .ensures,
-      last .wide4 .ensures,
+      last .index-of4 .ensures,
       fifth .byte-at5 .ensures,
       c .from-boundary .ensures,
       sixth .byte-at6 .ensures,
