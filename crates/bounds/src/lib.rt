@@ -62,7 +62,7 @@ fn bounds_number(low: &[u8], high: &[u8], step: &[u8]) -> u8
     if on_high != 0 {
         return on_high;
     }
-    if route::byte_at(step, 2) != 1 {
+    if route::byte_at(step, route::STEP_MARK) != 1 {
         return 18;
     }
     if has_no_range(low, high) {

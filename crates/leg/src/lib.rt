@@ -3,6 +3,10 @@
 // sector's part of the lent sheet.
 use integration_field::IntegrationField;
 use route::RouteStep;
+use route::STEP_BOUNDARY;
+use route::STEP_LENGTH;
+use route::STEP_MARK;
+use route::STEP_SECTOR;
 use route::Target;
 use sectors::Across;
 use utilities::CompassDir;
@@ -34,7 +38,7 @@ fn floor_number(floor: &[u8], step: &[u8]) -> u8
     requires { ⌜ (length (now floor) ≡ 6400) × (length (now step) ≡ 8) ⌝ }
     ensures { λ r. ⌜ r ≡ floorNumber (now (floor .entry)) (now (step .entry)) ⌝ }
 {
-    let sector = step[0];
+    let sector = step[STEP_SECTOR];
     if 63 < sector {
         return 4;
     }
@@ -47,11 +51,11 @@ fn each_step(floor: &[u8], steps: &[u8]) -> u8
     requires { ⌜ length (now floor) ≡ 6400 ⌝ }
     ensures { λ r. ⌜ r ≡ firstNumber (eachRows (now (floor .entry)) (stepsOf (now (steps .entry)))) ⌝ }
 {
-    let count = steps.len() / 8;
+    let count = steps.len() / STEP_LENGTH;
     let mut k = 0;
     while k < count {
-        let at = k * 8;
-        let number = floor_number(floor, &steps[at..at + 8]);
+        let at = k * STEP_LENGTH;
+        let number = floor_number(floor, &steps[at..at + STEP_LENGTH]);
         if number != 0 {
             return number;
         }
@@ -64,10 +68,10 @@ fn each_step(floor: &[u8], steps: &[u8]) -> u8
 fn is_named(steps: &[u8], sector: u8) -> bool
     ensures { λ r. ⌜ r ≡ names sector (stepsOf (now (steps .entry))) ⌝ }
 {
-    let count = steps.len() / 8;
+    let count = steps.len() / STEP_LENGTH;
     let mut k = 0;
     while k < count {
-        if steps[k * 8] == sector {
+        if steps[k * STEP_LENGTH + STEP_SECTOR] == sector {
             return true;
         }
         k += 1;
@@ -79,12 +83,12 @@ fn is_named(steps: &[u8], sector: u8) -> bool
 fn is_named_twice(steps: &[u8]) -> bool
     ensures { λ r. ⌜ r ≡ namesTwice (stepsOf (now (steps .entry))) ⌝ }
 {
-    let count = steps.len() / 8;
+    let count = steps.len() / STEP_LENGTH;
     let mut k = 0;
     while k < count {
-        let at = k * 8;
-        let after = at + 8;
-        if is_named(&steps[after..], steps[at]) {
+        let at = k * STEP_LENGTH;
+        let after = at + STEP_LENGTH;
+        if is_named(&steps[after..], steps[at + STEP_SECTOR]) {
             return true;
         }
         k += 1;
@@ -96,10 +100,10 @@ fn is_named_twice(steps: &[u8]) -> bool
 fn has_goal(steps: &[u8]) -> bool
     ensures { λ r. ⌜ r ≡ someGoal (stepsOf (now (steps .entry))) ⌝ }
 {
-    let count = steps.len() / 8;
+    let count = steps.len() / STEP_LENGTH;
     let mut k = 0;
     while k < count {
-        if steps[k * 8 + 2] != 1 {
+        if steps[k * STEP_LENGTH + STEP_MARK] != 1 {
             return true;
         }
         k += 1;
@@ -112,10 +116,10 @@ fn is_out_of_order(steps: &[u8]) -> bool
     requires { ⌜ 8 ≤ length (now steps) ⌝ }
     ensures { λ r. ⌜ r ≡ outOfOrder (stepsOf (now (steps .entry))) ⌝ }
 {
-    if steps[2] == 1 {
+    if steps[STEP_MARK] == 1 {
         return true;
     }
-    if has_goal(&steps[8..]) {
+    if has_goal(&steps[STEP_LENGTH..]) {
         return true;
     }
     is_named_twice(steps)
@@ -137,11 +141,16 @@ fn is_apart(steps: &[u8]) -> bool
     requires { ⌜ 8 ≤ length (now steps) ⌝ }
     ensures { λ r. ⌜ r ≡ apart (stepsOf (now (steps .entry))) ⌝ }
 {
-    let count = steps.len() / 8;
+    let count = steps.len() / STEP_LENGTH;
     let mut k = 1;
     while k < count {
-        let at = k * 8;
-        if !faces(steps[at], steps[at + 5], steps[at - 8]) {
+        let at = k * STEP_LENGTH;
+        let before = at - STEP_LENGTH;
+        if !faces(
+            steps[at + STEP_SECTOR],
+            steps[at + STEP_BOUNDARY],
+            steps[before + STEP_SECTOR],
+        ) {
             return true;
         }
         k += 1;
@@ -188,7 +197,7 @@ pub fn build_step(floor: &[u8], step: &[u8], target: Target) -> IntegrationField
     requires { ⌜ StepReady (now floor) (now step) × TargetHeld target ⌝ }
     ensures { λ r. ⌜ r .field ≡ sectorField (part (now (floor .entry)) (sectorOf (now (step .entry)))) (heldTarget target) .field ⌝ }
 {
-    let at = index_of(step[0]) * 100;
+    let at = index_of(step[STEP_SECTOR]) * 100;
     let end = at + 100;
     integration_target::build_target(&floor[at..end], target)
 }
@@ -199,12 +208,12 @@ pub fn is_some_closed(floor: &[u8], steps: &[u8], sight: bool) -> bool
     requires { ⌜ LegReady (now floor) (now steps) ⌝ }
     ensures { λ r. ⌜ r ≡ someClosed sight (now (floor .entry)) (stepsOf (now (steps .entry))) ⌝ }
 {
-    let count = steps.len() / 8;
+    let count = steps.len() / STEP_LENGTH;
     let mut previous = [0u32; 100];
     let mut k = 0;
     while k < count {
-        let at = k * 8;
-        let step = &steps[at..at + 8];
+        let at = k * STEP_LENGTH;
+        let step = &steps[at..at + STEP_LENGTH];
         let target = target_of(step, sight, 0 < k, &previous);
         if leg_counting::is_closed(target) {
             return true;
@@ -236,7 +245,7 @@ fn write_step(
     let target = target_of(step, sight, has_previous, previous);
     let built = build_step(floor, step, target);
     let portal = RouteStep::new(step).portal;
-    let at = index_of(step[0]) * 100;
+    let at = index_of(step[STEP_SECTOR]) * 100;
     let end = at + 100;
     sector::write(
         portal,
@@ -254,12 +263,19 @@ fn write_steps(floor: &[u8], steps: &[u8], sight: bool, sheet: &mut [u8])
     requires { ⌜ (LegReady (now floor) (now steps)) × (length (now sheet) ≡ 6400) ⌝ }
     ensures { λ _. ⌜ now (sheet .exit) ≡ planned sight (now (floor .entry)) (stepsOf (now (steps .entry))) (now (sheet .entry)) ⌝ }
 {
-    let count = steps.len() / 8;
+    let count = steps.len() / STEP_LENGTH;
     let mut previous = [0u32; 100];
     let mut k = 0;
     while k < count {
-        let at = k * 8;
-        let cells = write_step(floor, &steps[at..at + 8], sight, 0 < k, &previous, sheet);
+        let at = k * STEP_LENGTH;
+        let cells = write_step(
+            floor,
+            &steps[at..at + STEP_LENGTH],
+            sight,
+            0 < k,
+            &previous,
+            sheet,
+        );
         previous = cells;
         k += 1;
     }

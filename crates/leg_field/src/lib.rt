@@ -1,5 +1,7 @@
 // The field behind a leg: the built field of one of its steps, as the leg plans it.
 use integration_field::BuildAnswer;
+use route::STEP_LENGTH;
+use route::STEP_SECTOR;
 use route::Target;
 use utilities::index_of;
 ghost use mathlib.Core.Path.{_≡_};
@@ -31,7 +33,7 @@ fn field_number(floor: &[u8], steps: &[u8], place: usize) -> u8
     if step_list::is_no_step_list(steps) {
         return 3;
     }
-    if steps.len() / 8 <= place {
+    if steps.len() / STEP_LENGTH <= place {
         return 21;
     }
     leg::leg_number(floor, steps, 6400)
@@ -45,8 +47,8 @@ fn cells_before(floor: &[u8], steps: &[u8], sight: bool, place: usize) -> [u32; 
     let mut previous = [0u32; 100];
     let mut k = 0;
     while k < place {
-        let at = k * 8;
-        let step = &steps[at..at + 8];
+        let at = k * STEP_LENGTH;
+        let step = &steps[at..at + STEP_LENGTH];
         let target = leg::target_of(step, sight, 0 < k, &previous);
         let built = leg::build_step(floor, step, target);
         previous = built.field;
@@ -61,7 +63,7 @@ fn field_of(floor: &[u8], step: &[u8], target: Target) -> BuildAnswer
     ensures { λ r. ⌜ r ≡ answerOf 0 (part (now (floor .entry)) (sectorOf (now (step .entry))))
         (started (part (now (floor .entry)) (sectorOf (now (step .entry)))) (heldTarget target)) ⌝ }
 {
-    let at = index_of(step[0]) * 100;
+    let at = index_of(step[STEP_SECTOR]) * 100;
     let end = at + 100;
     let costs = &floor[at..end];
     let field = integration_init::start(costs, target);
@@ -95,8 +97,8 @@ fn field_by_sight(number: u8, floor: &[u8], steps: &[u8], sight: bool, place: us
         return integration_field::refused(number);
     }
     let previous = cells_before(floor, steps, sight, place);
-    let at = place * 8;
-    let step = &steps[at..at + 8];
+    let at = place * STEP_LENGTH;
+    let step = &steps[at..at + STEP_LENGTH];
     let target = leg::target_of(step, sight, 0 < place, &previous);
     field_of(floor, step, target)
 }

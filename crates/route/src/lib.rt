@@ -9,6 +9,25 @@ ghost use Rattle.route.specs.Window.{edge, stride, between, cellsBetween
 ghost use Rattle.route.specs.Step.{routeStep};
 ghost use Rattle.route.specs.Inner.{routeTarget, listedTarget, unsighted, sightedBy};
 
+// How many bytes a step has, and the place of each; the last two are zero.
+pub const STEP_LENGTH: usize = 8;
+
+pub const STEP_SECTOR: usize = 0;
+
+pub const STEP_GOAL: usize = 1;
+
+pub const STEP_MARK: usize = 2;
+
+pub const STEP_FIRST: usize = 3;
+
+pub const STEP_LAST: usize = 4;
+
+pub const STEP_BOUNDARY: usize = 5;
+
+pub const STEP_ZERO: usize = 6;
+
+pub const STEP_OTHER_ZERO: usize = 7;
+
 // The start and end index of a portal, and the side of the sector that it sits on.
 pub struct PortalWindow {
     pub start: usize,
@@ -99,12 +118,12 @@ impl RouteStep {
     pub fn new(step: &[u8]) -> RouteStep
         ensures { λ r. ⌜ r ≡ routeStep (now (step .entry)) ⌝ }
     {
-        let sector = index_of(byte_at(step, 0));
-        let goal = index_of(byte_at(step, 1));
-        let mark = byte_at(step, 2);
-        let start = index_of(byte_at(step, 3));
-        let end = index_of(byte_at(step, 4));
-        let boundary = CompassDir::from_boundary(byte_at(step, 5));
+        let sector = index_of(byte_at(step, STEP_SECTOR));
+        let goal = index_of(byte_at(step, STEP_GOAL));
+        let mark = byte_at(step, STEP_MARK);
+        let start = index_of(byte_at(step, STEP_FIRST));
+        let end = index_of(byte_at(step, STEP_LAST));
+        let boundary = CompassDir::from_boundary(byte_at(step, STEP_BOUNDARY));
         RouteStep {
             sector,
             goal,

@@ -31,7 +31,7 @@ fn lacks_previous(step: &[u8], has_previous: bool) -> bool
     if has_previous {
         return false;
     }
-    route::byte_at(step, 2) == 1
+    route::byte_at(step, route::STEP_MARK) == 1
 }
 
 // The table's number for a call with a sheet of so many bytes: 0 where it is not refused.

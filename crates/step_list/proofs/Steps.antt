@@ -8,7 +8,6 @@ use mathlib.Core.Path.{_≡_, refl, sym, ap, _∙_}
 use mathlib.Core.Bool.{Bool, true, false, true≢false, _||_}
 use mathlib.Core.List.{List, [], _∷_}
 use Prim.Native.Nat.{ℕ, zero, suc, _+_, _-_, _*_, _/_, _<_, _≤_}
-use native.Mathlib.Nat.{add-zero}
 use native.Mathlib.Omega.{arith}
 use lib.ListN.{length, getD, take, drop, length-take, length-drop}
 use lib.Seq.{drop-drop, take-all, getD-take, getD-drop}
@@ -81,8 +80,8 @@ module _ (steps : List ℕ) where
   byte-at : (k j : ℕ) → j < 8 → getD (stepAt steps k) j 0 ≡ getD steps (k * 8 + j) 0
   byte-at k j h = rw (getD-take, getD-drop)
 
-  pub sector-at : (k : ℕ) → sectorOf (stepAt steps k) ≡ getD steps (k * 8) 0
-  sector-at k = byte-at k 0 (omega arith) ∙ rw (add-zero (k * 8))
+  pub sector-at : (k : ℕ) → sectorOf (stepAt steps k) ≡ getD steps (k * 8 + 0) 0
+  sector-at k = byte-at k 0 (omega arith)
 
   pub mark-at : (k : ℕ) → markOf (stepAt steps k) ≡ getD steps (k * 8 + 2) 0
   mark-at k = byte-at k 2 (omega arith)
@@ -90,5 +89,5 @@ module _ (steps : List ℕ) where
   pub boundary-at : (k : ℕ) → boundaryByte (stepAt steps k) ≡ getD steps (k * 8 + 5) 0
   boundary-at k = byte-at k 5 (omega arith)
 
-  pub before-at : (k : ℕ) → 1 ≤ k → sectorOf (stepAt steps (k - 1)) ≡ getD steps (k * 8 - 8) 0
+  pub before-at : (k : ℕ) → 1 ≤ k → sectorOf (stepAt steps (k - 1)) ≡ getD steps (k * 8 - 8 + 0) 0
   before-at k h = let e : (k - 1) * 8 ≡ k * 8 - 8 = omega arith in sector-at (k - 1) ∙ rw e

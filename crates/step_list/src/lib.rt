@@ -13,5 +13,5 @@ pub fn is_no_step_list(steps: &[u8]) -> bool
     if 128 < length {
         return true;
     }
-    length % 8 != 0
+    length % route::STEP_LENGTH != 0
 }

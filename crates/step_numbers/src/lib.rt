@@ -88,18 +88,18 @@ fn each_step(
 pub fn step_number(step: &[u8]) -> u8
     ensures { λ r. ⌜ r ≡ stepNumber (now (step .entry)) ⌝ }
 {
-    if step.len() != 8 {
+    if step.len() != route::STEP_LENGTH {
         return 3;
     }
     each_step(
-        step[0],
-        step[1],
-        step[2],
-        step[3],
-        step[4],
-        step[5],
-        step[6],
-        step[7],
+        step[route::STEP_SECTOR],
+        step[route::STEP_GOAL],
+        step[route::STEP_MARK],
+        step[route::STEP_FIRST],
+        step[route::STEP_LAST],
+        step[route::STEP_BOUNDARY],
+        step[route::STEP_ZERO],
+        step[route::STEP_OTHER_ZERO],
     )
 }
 

@@ -1,5 +1,6 @@
 // Window costs, column by column: the least costs of each window's cells in one built field; and columns turned into the rows of a square.
 use route::RouteStep;
+use route::STEP_LENGTH;
 use route::Target;
 use route::WindowCells;
 use window_square::WindowRow;
@@ -45,8 +46,8 @@ pub fn target_at(steps: &[u8], k: usize) -> Target
     requires { ⌜ WindowSteps (now steps) × (k < length (now steps) / 8) ⌝ }
     ensures { λ r. ⌜ TargetHeld r × (heldTarget r ≡ targetOf (stepAt (now (steps .entry)) k)) ⌝ }
 {
-    let at = k * 8;
-    RouteStep::new(&steps[at..at + 8]).as_target()
+    let at = k * STEP_LENGTH;
+    RouteStep::new(&steps[at..at + STEP_LENGTH]).as_target()
 }
 
 // The least built cost of the cells of the window at a place of the list; 65535 where the list has none there.
@@ -54,7 +55,7 @@ fn least_from(cells: &[u32; 100], steps: &[u8], i: usize) -> u32
     requires { ⌜ WindowSteps (now steps) ⌝ }
     ensures { λ r. ⌜ r ≡ leastFrom (now (cells .entry)) (stepsOf (now (steps .entry))) i ⌝ }
 {
-    if i >= steps.len() / 8 {
+    if i >= steps.len() / STEP_LENGTH {
         return 65535;
     }
     let target = target_at(steps, i);

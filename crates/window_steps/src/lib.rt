@@ -1,4 +1,7 @@
 // The number with which a list of windows is refused: 1, 3, 19, then 4 to 8, 16 and 20 of one step before the next.
+use route::STEP_LENGTH;
+use route::STEP_MARK;
+use route::STEP_SECTOR;
 ghost use mathlib.Core.Path.{_≡_};
 ghost use lib.ListN.{length};
 ghost use Rattle.route.specs.Table.{firstNumber};
@@ -14,10 +17,10 @@ fn window_step_number(costs: &[u8], sector: u8, step: &[u8]) -> u8
     if number != 0 {
         return number;
     }
-    if step[2] != 1 {
+    if step[STEP_MARK] != 1 {
         return 20;
     }
-    if step[0] != sector {
+    if step[STEP_SECTOR] != sector {
         return 20;
     }
     0
@@ -27,11 +30,11 @@ fn window_step_number(costs: &[u8], sector: u8, step: &[u8]) -> u8
 fn each_window_step(costs: &[u8], sector: u8, steps: &[u8]) -> u8
     ensures { λ r. ⌜ r ≡ firstNumber (windowStepRows (now (costs .entry)) sector (stepsOf (now (steps .entry)))) ⌝ }
 {
-    let count = steps.len() / 8;
+    let count = steps.len() / STEP_LENGTH;
     let mut k = 0;
     while k < count {
-        let at = k * 8;
-        let number = window_step_number(costs, sector, &steps[at..at + 8]);
+        let at = k * STEP_LENGTH;
+        let number = window_step_number(costs, sector, &steps[at..at + STEP_LENGTH]);
         if number != 0 {
             return number;
         }
@@ -48,15 +51,15 @@ pub fn window_costs_number(costs: &[u8], steps: &[u8]) -> u8
         return 1;
     }
     let length = steps.len();
-    if length % 8 != 0 {
+    if length % STEP_LENGTH != 0 {
         return 3;
     }
-    let count = length / 8;
+    let count = length / STEP_LENGTH;
     if count < 2 {
         return 19;
     }
     if 8 < count {
         return 19;
     }
-    each_window_step(costs, steps[0], steps)
+    each_window_step(costs, steps[STEP_SECTOR], steps)
 }

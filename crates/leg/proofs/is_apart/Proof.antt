@@ -27,17 +27,23 @@ loop-holds c = (omega arith, (omega arith, ap apart (first-step (now (c .before 
 mul-at : tie.Need-mul-at Inv-loop μ-loop
 mul-at c = omega arith
 
-shared-slice-read-faces : tie.Need-shared-slice-read-faces Inv-loop μ-loop
-shared-slice-read-faces c = omega arith
+sub-before : tie.Need-sub-before Inv-loop μ-loop
+sub-before c = omega arith
 
 add-faces : tie.Need-add-faces Inv-loop μ-loop
 add-faces c = omega arith
 
+shared-slice-read-faces : tie.Need-shared-slice-read-faces Inv-loop μ-loop
+shared-slice-read-faces c = omega arith
+
+add-faces-2 : tie.Need-add-faces-2 Inv-loop μ-loop
+add-faces-2 c = omega arith
+
 shared-slice-read-faces-2 : tie.Need-shared-slice-read-faces-2 Inv-loop μ-loop
 shared-slice-read-faces-2 c = omega arith
 
-sub-faces : tie.Need-sub-faces Inv-loop μ-loop
-sub-faces c = omega arith
+add-faces-3 : tie.Need-add-faces-3 Inv-loop μ-loop
+add-faces-3 c = omega arith
 
 shared-slice-read-faces-3 : tie.Need-shared-slice-read-faces-3 Inv-loop μ-loop
 shared-slice-read-faces-3 c = omega arith
@@ -75,10 +81,12 @@ is-apart-spec =
     μ-loop
     loop-holds
     mul-at
-    shared-slice-read-faces
+    sub-before
     add-faces
+    shared-slice-read-faces
+    add-faces-2
     shared-slice-read-faces-2
-    sub-faces
+    add-faces-3
     shared-slice-read-faces-3
     faces-requires
     returns

@@ -23,6 +23,9 @@ loop-holds c = (omega arith, search from-start)
 mul-if1 : tie.Need-mul-if1 Inv-loop μ-loop
 mul-if1 c = omega arith
 
+add-if1 : tie.Need-add-if1 Inv-loop μ-loop
+add-if1 c = omega arith
+
 shared-slice-read-if1 : tie.Need-shared-slice-read-if1 Inv-loop μ-loop
 shared-slice-read-if1 c = omega arith
 
@@ -49,6 +52,7 @@ is-named-spec =
     μ-loop
     loop-holds
     mul-if1
+    add-if1
     shared-slice-read-if1
     returns
     add-k

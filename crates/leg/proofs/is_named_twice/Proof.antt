@@ -36,6 +36,9 @@ part-is-named-start c = omega arith
 part-is-named-end : tie.Need-part-is-named-end Inv-loop μ-loop
 part-is-named-end c = omega arith
 
+add-is-named : tie.Need-add-is-named Inv-loop μ-loop
+add-is-named c = omega arith
+
 shared-slice-read-is-named : tie.Need-shared-slice-read-is-named Inv-loop μ-loop
 shared-slice-read-is-named c = omega arith
 
@@ -77,6 +80,7 @@ is-named-twice-spec =
     sub-is-named
     part-is-named-start
     part-is-named-end
+    add-is-named
     shared-slice-read-is-named
     is-named-requires
     returns
