@@ -9,8 +9,9 @@ ghost use mathlib.Core.Bool.{not, _&&_, _||_};
 ghost use lib.Dec.{ltb, eqb};
 ghost use lib.ListN.{length};
 ghost use Rattle.utilities.specs.Lists.{below};
+ghost use Rattle.route.specs.Step.{routeStep};
 ghost use Rattle.route.specs.Target.{targetOf};
-ghost use Rattle.route.specs.Inner.{heldTarget};
+ghost use Rattle.route.specs.Inner.{routeTarget, listedTarget, heldTarget};
 ghost use Rattle.bounds_told.specs.Bounds.{someOf, noRange, boundsNumber, refusedBounds, acceptedBounds, boundsAnswer};
 ghost use Rattle.bounds_told.specs.Promise.{CostBounds, SureMarks, BoundsRefused, NoBounds};
 ghost use Rattle.bounds.specs.Inner.{FloorsReady};
@@ -44,8 +45,9 @@ fn has_no_range(low: &[u8], high: &[u8]) -> bool
     false
 }
 
-// The number of the table: 1 for either floor, 3 to 8, 16 on either floor, then 18.
-fn bounds_number(low: &[u8], high: &[u8], step: &[u8]) -> u8
+// The number of the table: 1 for either floor, 3 to 8, 16 on either floor, then 18. `target` is the step's own.
+fn bounds_number(low: &[u8], high: &[u8], step: &[u8], target: Target) -> u8
+    requires { ⌜ target ≡ listedTarget (routeTarget (routeStep (now step))) ⌝ }
     ensures { λ r. ⌜ r ≡ boundsNumber (now (low .entry)) (now (high .entry)) (now (step .entry)) ⌝ }
 {
     if low.len() != 100 {
@@ -54,15 +56,15 @@ fn bounds_number(low: &[u8], high: &[u8], step: &[u8]) -> u8
     if high.len() != 100 {
         return 1;
     }
-    let on_low = step_numbers::step_number_on(low, step);
+    let on_low = step_numbers::number_with_target(low, step, target);
     if on_low != 0 {
         return on_low;
     }
-    let on_high = step_numbers::step_number_on(high, step);
+    let on_high = step_numbers::number_with_target(high, step, target);
     if on_high != 0 {
         return on_high;
     }
-    if route::byte_at(step, route::STEP_MARK) != 1 {
+    if !target.has_window {
         return 18;
     }
     if has_no_range(low, high) {
@@ -112,10 +114,10 @@ pub fn bounds(low: &[u8], high: &[u8], step: &[u8]) -> Bounds
     ensures refused { λ r. ⌜ ((r .number ≡ 0 → ⊥) → BoundsRefused r) ⌝ }
     ensures eighteen { λ r. ⌜ (r .number ≡ 18) ↔ NoBounds (now (low .entry)) (now (high .entry)) (now (step .entry)) ⌝ }
 {
-    let number = bounds_number(low, high, step);
+    let target = RouteStep::new(step).as_target();
+    let number = bounds_number(low, high, step, target);
     if number != 0 {
         return refused(number);
     }
-    let target = RouteStep::new(step).as_target();
     run(low, high, target)
 }

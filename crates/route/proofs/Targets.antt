@@ -10,7 +10,7 @@
 --     held-in .. held-inside        what the program holds stands for one inside the sector, cell by cell
 -- Assumes nothing.
 use mathlib.Core.Path.{_≡_, refl, sym, ap, subst, _∙_}
-use mathlib.Core.Bool.{Bool, true, false, true≢false}
+use mathlib.Core.Bool.{Bool, true, false, cond, true≢false}
 use mathlib.Core.Logic.{_↔_, ⊎-elim}
 use mathlib.Core.List.{List, [], _∷_, List·Memᴰ, List·Memᴰ·head, List·Memᴰ·tail, List·Memᴰ·cases-cons, List·Memᴰ·not-nil}
 use Prim.Native.Nat.{ℕ, zero, suc, _/_, _%_, _<_}
@@ -219,6 +219,14 @@ module _ (step : List ℕ) (s : RouteStep) (t : program.Target) (apart : s ≡ r
 
   pub made-target : heldTarget t ≡ targetOf step
   made-target = ap heldTarget is ∙ held-listed (targetOf step)
+
+  -- it has a window exactly if the step is marked so
+  pub made-marked : t .«has_window» ≡ isWindow step
+  made-marked = ap (λ (u : program.Target). u .«has_window») (made ∙ ap (λ (r : RouteStep). listedTarget (routeTarget r)) apart) ∙ go (isWindow step)
+    where
+      go : (b : Bool) → listedTarget (cond b (to-window (windowCells step)) (to-goal (goalOf step))) .«has_window» ≡ b
+      go true = refl
+      go false = refl
 
   -- with sight or without
   module _ (sight : Bool) (u : program.Target) (seen : u ≡ sightedBy sight t) where

@@ -8,40 +8,42 @@ use route::Target;
 use route::WindowCells;
 ghost use mathlib.Core.Path.{_≡_};
 ghost use mathlib.Core.Logic.{_↔_};
-ghost use mathlib.Core.Bool.{true, false};
+ghost use mathlib.Core.Bool.{true, false, not, _&&_};
 ghost use mathlib.Core.List.{List};
 ghost use Prim.Native.Nat.{ℕ};
 ghost use lib.ListN.{length};
-ghost use Rattle.route.specs.Step.{isWindow};
+ghost use Rattle.route.specs.Step.{isWindow, routeStep};
 ghost use Rattle.route.specs.Target.{targetOf, withoutSight, bySight, TargetTold};
-ghost use Rattle.route.specs.Inner.{heldCells, heldTarget, WindowHeld};
+ghost use Rattle.route.specs.Inner.{routeTarget, listedTarget, heldCells, heldTarget, WindowHeld};
 ghost use Rattle.integration_field.specs.Promise.{BuildRefused};
 ghost use Rattle.integration_field.specs.Answer.{answerOf};
 ghost use Rattle.integration_started.specs.Started.{started};
 ghost use Rattle.integration_walks.specs.Promise.{StartedPositions};
 ghost use Rattle.sector.specs.Previous.{WithoutPrevious, TargetOnWall};
-ghost use Rattle.sector.specs.Sector.{lacksPrevious, sectorNumber, sectorBytes, sectorAnswer, sectorSheet, sectorAnswerBy, sectorSheetBy};
+ghost use Rattle.sector.specs.Sector.{sectorNumber, sectorBytes, sectorAnswer, sectorSheet, sectorAnswerBy, sectorSheetBy};
 ghost use Rattle.sector.specs.Inner.{flowBytes, RunReady};
 ghost use Rattle.sector.specs.Promise.{Planned, PlannedWithout};
 
-// Number 17's condition: a window without a previous field.
-fn lacks_previous(step: &[u8], has_previous: bool) -> bool
-    ensures { λ r. ⌜ r ≡ lacksPrevious (now (step .entry)) «has_previous» ⌝ }
+// Number 17's condition: a window without a previous field. `target` is the step's own.
+fn lacks_previous(target: Target, has_previous: bool) -> bool
+    ensures { λ r. ⌜ r ≡ (target .«has_window» && not «has_previous») ⌝ }
 {
     if has_previous {
         return false;
     }
-    route::byte_at(step, route::STEP_MARK) == 1
+    target.has_window
 }
 
-// The table's number for a call with a sheet of so many bytes: 0 where it is not refused.
+// The table's number for a call with a sheet of so many bytes, 0 where it is not refused. `target` is the step's own.
 fn sector_number(
     costs: &[u8],
     step: &[u8],
+    target: Target,
     has_previous: bool,
     previous: &[u32],
     sheet_length: usize,
 ) -> u8
+    requires { ⌜ target ≡ listedTarget (routeTarget (routeStep (now step))) ⌝ }
     ensures { λ r. ⌜ ((sheet : List ℕ) → length sheet ≡ «sheet_length»
         → r ≡ sectorNumber (now (costs .entry)) (now (step .entry)) «has_previous» (now (previous .entry)) sheet) ⌝ }
 {
@@ -51,11 +53,11 @@ fn sector_number(
     if sheet_length != 100 {
         return 2;
     }
-    let number = step_numbers::step_number_on(costs, step);
+    let number = step_numbers::number_with_target(costs, step, target);
     if number != 0 {
         return number;
     }
-    if lacks_previous(step, has_previous) {
+    if lacks_previous(target, has_previous) {
         return 17;
     }
     if has_previous {
@@ -124,16 +126,15 @@ fn plan_by_sight(
     ensures sixteen { λ r. ⌜ (r .number ≡ 16) ↔ TargetOnWall (now (costs .entry)) (now (step .entry)) (now (sheet .entry)) ⌝ }
     ensures seventeen { λ r. ⌜ (r .number ≡ 17) ↔ WithoutPrevious (now (costs .entry)) (now (step .entry)) «has_previous» (now (sheet .entry)) ⌝ }
 {
-    let number = sector_number(costs, step, has_previous, previous, sheet.len());
+    let route_step = RouteStep::new(step);
+    let target = route_step.as_target();
+    let number = sector_number(costs, step, target, has_previous, previous, sheet.len());
     if number != 0 {
         return integration_field::refused(number);
     }
-    let route_step = RouteStep::new(step);
-    let whole = route_step.as_target();
-    let target = whole.by_sight(sight);
     run(
         costs,
-        target,
+        target.by_sight(sight),
         route_step.portal,
         has_previous,
         previous,

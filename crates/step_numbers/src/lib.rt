@@ -7,8 +7,8 @@ use utilities::rises;
 ghost use mathlib.Core.Path.{_≡_};
 ghost use mathlib.Core.List.{[], _∷_};
 ghost use Rattle.route.specs.Window.{onEdge};
-ghost use Rattle.route.specs.Step.{eachStep, stepNumber, someWallCost, stepNumberOn};
-ghost use Rattle.route.specs.Inner.{heldCells, heldTarget, isWallTarget, WindowHeld, TargetHeld};
+ghost use Rattle.route.specs.Step.{routeStep, eachStep, stepNumber, someWallCost, stepNumberOn};
+ghost use Rattle.route.specs.Inner.{routeTarget, listedTarget, heldCells, heldTarget, isWallTarget, WindowHeld, TargetHeld};
 
 // Whether a cell lies on a side's edge.
 fn on_edge(boundary: CompassDir, index: usize) -> bool
@@ -131,17 +131,25 @@ fn is_wall_target(costs: &[u8], target: Target) -> bool
     route::byte_at(costs, target.goal) == 255
 }
 
-// 3 to 8, or 16, for a step that is refused on its sector's costs, else 0.
-pub fn step_number_on(costs: &[u8], step: &[u8]) -> u8
+// 3 to 8, or 16, for a step that is refused on its sector's costs, else 0. `target` is the step's own, made before the step is judged.
+pub fn number_with_target(costs: &[u8], step: &[u8], target: Target) -> u8
+    requires { ⌜ target ≡ listedTarget (routeTarget (routeStep (now step))) ⌝ }
     ensures { λ r. ⌜ r ≡ stepNumberOn (now (costs .entry)) (now (step .entry)) ⌝ }
 {
     let number = step_number(step);
     if number != 0 {
         return number;
     }
-    let target = RouteStep::new(step).as_target();
     if is_wall_target(costs, target) {
         return 16;
     }
     0
+}
+
+// The number of a step on its sector's costs, where no target is made yet.
+pub fn step_number_on(costs: &[u8], step: &[u8]) -> u8
+    ensures { λ r. ⌜ r ≡ stepNumberOn (now (costs .entry)) (now (step .entry)) ⌝ }
+{
+    let target = RouteStep::new(step).as_target();
+    number_with_target(costs, step, target)
 }

@@ -1,15 +1,16 @@
 -- `bounds::bounds_number` meets its contract: a line of the table at each return.
 -- Assumes nothing.
-use mathlib.Core.Path.{_≡_, sym, _∙_}
+use mathlib.Core.Path.{_≡_, refl, sym, _∙_}
 use mathlib.Core.Bool.{true, false}
 use mathlib.Core.List.{List}
 use Prim.Native.Nat.{ℕ}
 use denote.Ref.{now}
 use lib.Dec.{eqb}
 use lib.ListN.{length}
-use borrow.Author.Tests.{eq-eqb, ne-eqb}
+use borrow.Author.Tests.{eq-eqb, ne-eqb, not-true, not-false}
 use borrow.Author.Needs.{needs}
-use Rattle.route.specs.Step.{isWindow, stepNumberOn}
+use Rattle.route.specs.Step.{isWindow, routeStep, stepNumberOn}
+use Rattle.route.proofs.Targets.{made-marked}
 use Rattle.bounds_told.specs.Bounds.{boundsNumber}
 use Rattle.bounds.proofs.bounds_number.Statement.{statement}
 use Rattle.bounds.proofs.bounds_number.Tie as tie
@@ -28,18 +29,24 @@ module _ (m : tie.Else2) where
   abbrev step : List ℕ
   step = now (start .args .step)
 
+  marked : start .args .target .«has_window» ≡ isWindow step
+  marked = made-marked step (routeStep step) (start .args .target) refl (start .pre)
+
   low-full : eqb (length low) 100 ≡ true
   low-full = eq-eqb (length low) 100 (m .before .if1 .left)
 
   high-full : eqb (length high) 100 ≡ true
   high-full = eq-eqb (length high) 100 (m .if2 .left)
 
--- and the step is not refused on the low one; on either
+-- and the step is not refused on the low one; on either, from where what is lent is known
 low-good : (m : tie.Else3) → eqb (stepNumberOn (low (m .before .before)) (step (m .before .before))) 0 ≡ true
-low-good m = eq-eqb _ 0 (sym (m .before .step-number-on .ensures) ∙ m .if3 .left)
+low-good m = eq-eqb _ 0 (sym (m .before .number-with-target .ensures) ∙ m .if3 .left)
 
-high-good : (m : tie.Else4) → let e = m .before .before .before .before in eqb (stepNumberOn (high e) (step e)) 0 ≡ true
-high-good m = eq-eqb _ 0 (sym (m .before .step-number-on2 .ensures) ∙ m .if4 .left)
+abbrev lent : tie.Else4 → tie.Else2
+lent m = m .before .before .before .before
+
+high-good : (m : tie.Else4) → let e = lent m in eqb (stepNumberOn (high e) (step e)) 0 ≡ true
+high-good m = eq-eqb _ 0 (sym (m .before .number-with-target2 .ensures) ∙ m .if4 .left)
 
 returns : tie.Need-returns
 unfolding boundsNumber
@@ -49,47 +56,44 @@ returns-2 : tie.Need-returns-2
 unfolding boundsNumber
 returns-2 c = rw (eq-eqb _ 100 (c .before .if1 .left), ne-eqb _ 100 (c .if2 .taken))
 
-step-number-on-requires : tie.Need-step-number-on-requires
-step-number-on-requires c κs = search needs
+number-with-target-requires : tie.Need-number-with-target-requires
+number-with-target-requires c κs = start c .pre
 
 returns-3 : tie.Need-returns-3
 unfolding boundsNumber
 returns-3 c =
     let asked = c .before in
     let e = asked .before in
-    let refused : eqb (stepNumberOn (low e) (step e)) 0 ≡ false = ne-eqb _ 0 (λ z. c .if3 .taken (asked .step-number-on .ensures ∙ z)) in
-    rw (low-full e, high-full e, refused) (asked .step-number-on .ensures)
+    let refused : eqb (stepNumberOn (low e) (step e)) 0 ≡ false = ne-eqb _ 0 (λ z. c .if3 .taken (asked .number-with-target .ensures ∙ z)) in
+    rw (low-full e, high-full e, refused) (asked .number-with-target .ensures)
 
-step-number-on-requires-2 : tie.Need-step-number-on-requires-2
-step-number-on-requires-2 c κs = search needs
+number-with-target-requires-2 : tie.Need-number-with-target-requires-2
+number-with-target-requires-2 c κs = start (c .before .before) .pre
 
 returns-4 : tie.Need-returns-4
 unfolding boundsNumber
 returns-4 c =
     let asked = c .before in
     let e = asked .before .before .before in
-    let refused : eqb (stepNumberOn (high e) (step e)) 0 ≡ false = ne-eqb _ 0 (λ z. c .if4 .taken (asked .step-number-on2 .ensures ∙ z)) in
-    rw (low-full e, high-full e, low-good (asked .before), refused) (asked .step-number-on2 .ensures)
-
-byte-at-requires : tie.Need-byte-at-requires
-byte-at-requires c κs = search needs
+    let refused : eqb (stepNumberOn (high e) (step e)) 0 ≡ false = ne-eqb _ 0 (λ z. c .if4 .taken (asked .number-with-target2 .ensures ∙ z)) in
+    rw (low-full e, high-full e, low-good (asked .before), refused) (asked .number-with-target2 .ensures)
 
 returns-5 : tie.Need-returns-5
 unfolding boundsNumber
 returns-5 c =
     let good = c .before .before in
-    let e = good .before .before .before .before in
-    let goal : isWindow (step e) ≡ false = ne-eqb _ 1 (λ z. c .if5 .taken (c .before .byte-at .ensures ∙ z)) in
+    let e = lent good in
+    let goal : isWindow (step e) ≡ false = sym (marked e) ∙ not-true _ (c .if5 .taken) in
     rw (low-full e, high-full e, low-good (good .before .before), high-good good, goal)
 
 has-no-range-requires : tie.Need-has-no-range-requires
 has-no-range-requires c κs =
-    let e = c .before .before .before .before .before .before in
+    let e = lent (c .before .before) in
     (e .before .if1 .left, e .if2 .left)
 
 -- the step has a window
-window : (m : tie.Else5) → isWindow (step (m .before .before .before .before .before .before)) ≡ true
-window m = eq-eqb _ 1 (sym (m .before .byte-at .ensures) ∙ m .if5 .left)
+window : (m : tie.Else5) → isWindow (step (lent (m .before .before))) ≡ true
+window m = sym (marked (lent (m .before .before))) ∙ not-false _ (m .if5 .left)
 
 returns-6 : tie.Need-returns-6
 unfolding boundsNumber
@@ -97,7 +101,7 @@ returns-6 c =
     let asked = c .before in
     let seen = asked .before in
     let good = seen .before .before in
-    let e = good .before .before .before .before in
+    let e = lent good in
     rw (low-full e, high-full e, low-good (good .before .before), high-good good, window seen, sym (asked .has-no-range .ensures) ∙ c .if6 .taken)
 
 returns-7 : tie.Need-returns-7
@@ -106,7 +110,7 @@ returns-7 c =
     let asked = c .before in
     let seen = asked .before in
     let good = seen .before .before in
-    let e = good .before .before .before .before in
+    let e = lent good in
     rw (low-full e, high-full e, low-good (good .before .before), high-good good, window seen, sym (asked .has-no-range .ensures) ∙ c .if6 .left)
 
 pub bounds-number-spec : {M : Type 1} → statement M
@@ -115,11 +119,10 @@ bounds-number-spec =
     (tie.spec
     returns
     returns-2
-    step-number-on-requires
+    number-with-target-requires
     returns-3
-    step-number-on-requires-2
+    number-with-target-requires-2
     returns-4
-    byte-at-requires
     returns-5
     has-no-range-requires
     returns-6

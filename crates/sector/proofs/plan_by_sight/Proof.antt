@@ -8,6 +8,7 @@ use lib.ListN.{getD}
 use Rattle.route.specs.declared.PortalWindow.{PortalWindow}
 use Rattle.route.specs.declared.RouteStep.{RouteStep}
 use Rattle.route.specs.Target.{Target}
+use Rattle.route.specs.Inner.{routeTarget, listedTarget}
 use Rattle.route.proofs.Targets.{seen-target, seen-held}
 use Rattle.integration_field.specs.Answer.{refusal, answerOf}
 use Rattle.integration_started.specs.Started.{started}
@@ -19,15 +20,24 @@ use borrow.Author.Needs.{needs}
 use Rattle.sector.proofs.plan_by_sight.Statement.{statement}
 use Rattle.sector.proofs.plan_by_sight.Tie as tie
 
+new-requires : tie.Need-new-requires
+new-requires c κs = search needs
+
+as-target-requires : tie.Need-as-target-requires
+as-target-requires c κs = search needs
+
 sector-number-requires : tie.Need-sector-number-requires
-sector-number-requires c κs = search needs
+sector-number-requires c κs = c .as-target .ensures ∙ ap (λ (s : RouteStep). listedTarget (routeTarget s)) (c .before .new .ensures)
 
 refused-requires : tie.Need-refused-requires
 refused-requires c κs = search needs
 
--- where the number is known: from there all that is lent is known, the costs first, which are bytes; and the call
+-- where the number is known: from there the step's target is made, and before it all that is lent is known, the costs first, which are bytes; and the call
+abbrev made : tie.After-sector-number → tie.After-as-target
+made n = n .before
+
 abbrev bytes-known : tie.After-sector-number → tie.After-shared-slice-known
-bytes-known n = n .before .before .before .before
+bytes-known n = made n .before .before .before .before .before
 
 abbrev called : tie.After-sector-number → tie.Start
 called n = bytes-known n .before
@@ -48,37 +58,29 @@ returns c =
     let answer : c .refused .result ≡ refusal (numbered .sector-number .result) = search needs in
     refuses (a .sight) costs step has previous sheet _ number (c .before .if1 .taken) _ answer
 
-new-requires : tie.Need-new-requires
-new-requires c κs = search needs
+-- from where the call is not refused: the number, and the call
+abbrev start : tie.Else1 → tie.Start
+start c = called (c .before)
 
-as-target-requires : tie.Need-as-target-requires
-as-target-requires c κs = search needs
-
--- from where the step's target is made: the number, the call, which is not refused, and the target
-abbrev numbered : tie.After-as-target → tie.After-sector-number
-numbered c = c .before .before .before
-
-abbrev start : tie.After-as-target → tie.Start
-start c = called (numbered c)
-
-number : (c : tie.After-as-target) → let a = start c .args in
+number : (c : tie.Else1) → let a = start c .args in
     sectorNumber (now (a .costs)) (now (a .step)) (a .has-previous) (now (a .previous)) (now (a .sheet)) ≡ 0
-number c = sym (numbered c .sector-number .ensures (now (start c .args .sheet)) refl) ∙ c .before .before .if1 .left
+number c = sym (c .before .sector-number .ensures (now (start c .args .sheet)) refl) ∙ c .if1 .left
 
-ok : (c : tie.After-as-target) → let a = start c .args in Accepted (now (a .costs)) (now (a .step)) (a .has-previous) (now (a .previous)) (now (a .sheet))
+ok : (c : tie.Else1) → let a = start c .args in Accepted (now (a .costs)) (now (a .step)) (a .has-previous) (now (a .previous)) (now (a .sheet))
 ok c = let a = start c .args in accepted (now (a .costs)) (now (a .step)) (a .has-previous) (now (a .previous)) (now (a .sheet)) (number c)
 
 run-requires : tie.Need-run-requires
 run-requires c κs =
     let u = c .before in
-    let t = u .before in
-    let a = start t .args in
+    let g = u .before in
+    let t = made (g .before) in
+    let a = start g .args in
     record {
-      costs-hundred = ok t .costs-hundred;
-      sheet-hundred = ok t .sheet-hundred;
+      costs-hundred = ok g .costs-hundred;
+      sheet-hundred = ok g .sheet-hundred;
       target-held = seen-held (now (a .step)) (t .before .new .result) (t .as-target .result)
-          (t .before .new .ensures) (t .as-target .ensures) (a .sight) (u .by-sight .result) (u .by-sight .ensures) (ok t .step-good);
-      previous-fits = fits (a .has-previous) (now (a .previous)) (ok t .previous-fits);
+          (t .before .new .ensures) (t .as-target .ensures) (a .sight) (u .by-sight .result) (u .by-sight .ensures) (ok g .step-good);
+      previous-fits = fits (a .has-previous) (now (a .previous)) (ok g .previous-fits);
     }
 
 same-length : tie.Need-same-length
@@ -88,13 +90,14 @@ returns-2 : tie.Need-returns-2
 returns-2 c =
     let ran = c .before .before in
     let u = ran .before .before in
-    let t = u .before in
-    let a = start t .args in
+    let g = u .before in
+    let t = made (g .before) in
+    let a = start g .args in
     let costs = now (a .costs) in
     let target = seen-target (now (a .step)) (t .before .new .result) (t .as-target .result) (t .before .new .ensures) (t .as-target .ensures)
     (a .sight) (u .by-sight .result) (u .by-sight .ensures) in
     let portal = ap (λ (s : RouteStep). s .portal) (t .before .new .ensures) in
-    accepts (a .sight) costs (now (a .step)) (a .has-previous) (now (a .previous)) (now (a .sheet)) (byte (numbered t)) (number t) _ _
+    accepts (a .sight) costs (now (a .step)) (a .has-previous) (now (a .previous)) (now (a .sheet)) (byte (g .before)) (number g) _ _
     (ran .run .ensures .0 ∙ ap (λ (u : Target). answerOf 0 costs (started costs u)) target)
     (ran .run .ensures .1 ∙ ap₂ (λ (u : Target) (p : PortalWindow). sectorBytes costs u p (a .has-previous) (now (a .previous))) target portal)
 
@@ -102,11 +105,11 @@ pub plan-by-sight-spec : {M : Type 1} → statement M
 plan-by-sight-spec =
     tie.close
     (tie.spec
+    new-requires
+    as-target-requires
     sector-number-requires
     refused-requires
     returns
-    new-requires
-    as-target-requires
     (λ c κs. search needs)
     run-requires
     same-length

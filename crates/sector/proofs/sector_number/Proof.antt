@@ -1,6 +1,6 @@
 -- `sector::sector_number` meets its contract: a line of the table at each return.
 -- Assumes nothing.
-use mathlib.Core.Path.{_≡_, refl, sym, _∙_}
+use mathlib.Core.Path.{_≡_, refl, sym, ap, _∙_}
 use mathlib.Core.Bool.{Bool, true, false, cond, not, _&&_}
 use mathlib.Core.List.{List}
 use Prim.Native.Nat.{ℕ}
@@ -10,7 +10,9 @@ use lib.Dec.{eqb}
 use lib.ListN.{length}
 use borrow.Author.Tests.{eq-eqb, ne-eqb}
 use borrow.Author.Needs.{needs}
+use Rattle.route.specs.Step.{routeStep}
 use Rattle.route.proofs.Rows.{tests}
+use Rattle.route.proofs.Targets.{made-marked}
 use Rattle.sector.specs.Sector.{sectorNumber}
 use Rattle.sector.proofs.Numbers.{last-two}
 use Rattle.sector.proofs.sector_number.Statement.{statement}
@@ -26,13 +28,13 @@ returns-2 c sheet e =
     let other : length sheet ≡ 100 → ⊥ = λ h. omega (arith, c .if2 .taken) in
     search (tests, other)
 
-step-number-on-requires : tie.Need-step-number-on-requires
-step-number-on-requires c κs = search needs
+number-with-target-requires : tie.Need-number-with-target-requires
+number-with-target-requires c κs = c .before .before .before .before .before .pre
 
 returns-3 : tie.Need-returns-3
 unfolding sectorNumber
 returns-3 c sheet e =
-    let n = c .before .step-number-on .ensures in
+    let n = c .before .number-with-target .ensures in
     let lent : length sheet ≡ 100 = omega arith in
     rw n (search (tests, lent, ne-eqb _ 0 (λ z. c .if3 .taken (n ∙ z))))
 
@@ -40,7 +42,7 @@ lacks-previous-requires : tie.Need-lacks-previous-requires
 lacks-previous-requires c κs = search needs
 
 -- from where 17's condition is known: the step's number, which is 0, and the call; and so what 17 and 12 decide
-abbrev stepped : tie.After-lacks-previous → tie.After-step-number-on
+abbrev stepped : tie.After-lacks-previous → tie.After-number-with-target
 stepped c = c .before .before
 
 abbrev start : tie.After-lacks-previous → tie.Start
@@ -51,8 +53,9 @@ last : (c : tie.After-lacks-previous) (sheet : List ℕ) → length sheet ≡ st
     → cond l 17 (cond (h && not f) 12 0) ≡ sectorNumber (now (a .costs)) (now (a .step)) (a .has-previous) (now (a .previous)) sheet
 last c sheet e l h f p q r =
     let a = start c .args in
-    let taken = sym (stepped c .step-number-on .ensures) ∙ c .before .if3 .left in
-    let lacks = sym (c .lacks-previous .ensures) ∙ p in
+    let taken = sym (stepped c .number-with-target .ensures) ∙ c .before .if3 .left in
+    let marked = made-marked (now (a .step)) (routeStep (now (a .step))) (a .target) refl (start c .pre) in
+    let lacks = ap (λ (w : Bool). w && not (a .has-previous)) (sym marked) ∙ sym (c .lacks-previous .ensures) ∙ p in
     sym (last-two (now (a .costs)) (now (a .step)) (a .has-previous) (now (a .previous)) sheet (omega arith) (omega arith) taken l h f lacks q r)
 
 returns-4 : tie.Need-returns-4
@@ -81,7 +84,7 @@ sector-number-spec =
     (tie.spec
     returns
     returns-2
-    step-number-on-requires
+    number-with-target-requires
     returns-3
     lacks-previous-requires
     returns-4
