@@ -102,11 +102,11 @@
  * Below, for each call, its bytes of stack in all, beside what memcpy and memset need, read off the archive
  * (tools/stack/frames); and its nanoseconds, the median on practice floors (tools/time/header) on one core of an AMD EPYC that
  * did nothing else. Neither is proved, and times belong to the machine. Readers of a byte are alike.
- *     hanjolum_sector, a goal                             19264      3386
- *     hanjolum_sector, a window                           19264      2409
- *     hanjolum_sector_without_sight, a goal                9168      2186
+ *     hanjolum_sector, a goal                             19296      3386
+ *     hanjolum_sector, a window                           19296      2409
+ *     hanjolum_sector_without_sight, a goal                9200      2186
  *     hanjolum_arrivals                                     640       992
- *     hanjolum_bounds                                      7520      6866
+ *     hanjolum_bounds                                      7616      6866
  *     hanjolum_window_costs, eight windows                 5264      9476
  *     hanjolum_window_tour, eight windows, all orders      4800     41718
  *     hanjolum_leg, sixteen steps                         19008     45733
