@@ -17,7 +17,7 @@ use Rattle.fields.specs.declared.FieldCell.{FieldCell}
 use Rattle.fields.specs.Cell.{cell, Inside, indexOf, cellAt}
 use Rattle.fields.proofs.Steps.{cell-of-index}
 use Rattle.line_nearest.specs.Table.{table}
-use Rattle.line_nearest.specs.Line.{placed, minorAt, walkAt, walkCells, answered}
+use Rattle.line_nearest.specs.Line.{cellOnAxes, minorAt, walkAt, walkCells, answered}
 use Rattle.line_nearest.proofs.Lists.{length-table, getD-table}
 use Rattle.line_nearest.proofs.Offset.{minor-between}
 use Rattle.bresenham.specs.Inner.{listed, DrawnIn}
@@ -78,9 +78,9 @@ module _ {l : List FieldCell} {drawn : List ℕ} {count : ℕ} (d : DrawnIn l dr
 
 -- a walk between coordinates of the sector
 module _ (a₀ b₀ a₁ b₁ : ℕ) (up : a₀ ≤ a₁) (major : a₁ < 10) (low : b₀ < 10) (high : b₁ < 10) where
-  placed-inside : (steep : Bool) (a b : ℕ) → a < 10 → b < 10 → Inside (placed steep a b)
-  placed-inside true a b h i = record { column-in = i; row-in = h }
-  placed-inside false a b h i = record { column-in = h; row-in = i }
+  on-axes-inside : (steep : Bool) (a b : ℕ) → a < 10 → b < 10 → Inside (cellOnAxes steep a b)
+  on-axes-inside true a b h i = record { column-in = i; row-in = h }
+  on-axes-inside false a b h i = record { column-in = h; row-in = i }
 
   pub walk-few : (steep : Bool) → length (walkCells steep a₀ b₀ a₁ b₁) ≤ 10
   walk-few steep = omega (arith, length-table (a₁ + 1 - a₀) (walkAt steep a₀ b₀ a₁ b₁))
@@ -91,4 +91,4 @@ module _ (a₀ b₀ a₁ b₁ : ℕ) (up : a₀ ≤ a₁) (major : a₁ < 10) (l
       let f = walkAt steep a₀ b₀ a₁ b₁ in
       let i : k < n = omega (arith, length-table n f) in
       let m = minor-between b₀ b₁ (a₁ - a₀) k .to in
-      rw (getD-table n f k (cell 0 0) i) (placed-inside steep (a₀ + k) (minorAt b₀ b₁ (a₁ - a₀) k) (omega arith) (omega (arith, m)))
+      rw (getD-table n f k (cell 0 0) i) (on-axes-inside steep (a₀ + k) (minorAt b₀ b₁ (a₁ - a₀) k) (omega arith) (omega (arith, m)))

@@ -10,7 +10,7 @@ use lib.ListN.{length, set, replicate, replicate-append-replicate, length-replic
 use lib.Seq.{set-at}
 use Rattle.utilities.specs.Padded.{padded}
 use Rattle.line_nearest.specs.Table.{table}
-use Rattle.bresenham.specs.Inner.{listed, placeOf, blank}
+use Rattle.bresenham.specs.Inner.{listed, listPlace, blank}
 use Rattle.line_nearest.proofs.Lists.{length-table, table-suc, table-set}
 
 abbrev zeros : ℕ → List ℕ
@@ -43,11 +43,11 @@ module _ (m : ℕ) (f : ℕ → ℕ) (room : m < 10) where
       rw (e, g, add-one k, table-suc k f, reverse-append (table k f) (f k ∷ []), ← replicate-append-replicate {A = ℕ} (m - k) 1 0, append-assoc)
       (set-at (zeros (m - k)) 0 (reverse (table k f) ++ zeros (9 - m)) (f k) (m - k) (length-replicate (m - k) 0))
 
-  pub one-written : (back : Bool) (k : ℕ) → k ≤ m → set (written back m k f) (placeOf back m k) (f k) ≡ written back m (k + 1) f
+  pub one-written : (back : Bool) (k : ℕ) → k ≤ m → set (written back m k f) (listPlace back m k) (f k) ≡ written back m (k + 1) f
   one-written true k h = before-last k h
   one-written false k h = rw (add-one k) (table-set 10 k f 0 (omega arith))
 
   -- the same of an array that holds them
-  pub one-more : (back : Bool) (k : ℕ) (drawn : List ℕ) → drawn ≡ written back m k f → (place x : ℕ) → k ≤ m → place ≡ placeOf back m k → x ≡ f k
+  pub one-more : (back : Bool) (k : ℕ) (drawn : List ℕ) → drawn ≡ written back m k f → (place x : ℕ) → k ≤ m → place ≡ listPlace back m k → x ≡ f k
       → set drawn place x ≡ written back m (k + 1) f
   one-more back k drawn held place x h p q = rw (held, p, q) (one-written back k h)

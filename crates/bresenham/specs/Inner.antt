@@ -15,9 +15,9 @@ listed true l = reverse l
 listed false l = l
 
 -- where step k of a walk of m steps stands in that list
-abbrev pub placeOf : Bool → ℕ → ℕ → ℕ
-placeOf true m k = m - k
-placeOf false m k = k
+abbrev pub listPlace : Bool → ℕ → ℕ → ℕ
+listPlace true m k = m - k
+listPlace false m k = k
 
 -- ten lent places, before a line is drawn
 abbrev pub blank : List ℕ

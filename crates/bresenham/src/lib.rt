@@ -7,8 +7,8 @@ ghost use mathlib.Core.List.{map};
 ghost use Prim.Native.Nat.{_≤_, _<_};
 ghost use lib.ListN.{length, take};
 ghost use Rattle.fields.specs.Cell.{cell, inside, Inside, indexOf, cellAt};
-ghost use Rattle.line_nearest.specs.Line.{apart, toward, placed, walkCells, line, answered, refused, called, lineCall, shallowCall, steepCall};
-ghost use Rattle.bresenham.specs.Inner.{placeOf, listed, blank, DrawnIn};
+ghost use Rattle.line_nearest.specs.Line.{distance, toward, cellOnAxes, walkCells, line, answered, refused, called, lineCall, shallowCall, steepCall};
+ghost use Rattle.bresenham.specs.Inner.{listPlace, listed, blank, DrawnIn};
 ghost use Rattle.line_nearest.specs.Nearest.{columnOf, rowOf, HoldsNearestLine, HoldsNearestWalk, CellsBeyond, LineRefused};
 
 // An answer without cells.
@@ -34,15 +34,15 @@ fn both_inside(source: FieldCell, target: FieldCell) -> bool
 
 // The coordinate that is `offset` from `a` on the way to `b`.
 fn moved(a: usize, b: usize, offset: usize) -> usize
-    requires { ⌜ (a < 10) × (b < 10) × (offset ≤ apart a b) ⌝ }
+    requires { ⌜ (a < 10) × (b < 10) × (offset ≤ distance a b) ⌝ }
     ensures { λ r. ⌜ (r ≡ toward a b offset) × (r < 10) ⌝ }
 {
     if a <= b { a + offset } else { a - offset }
 }
 
 // The cell at a walk's major and minor coordinate: of a steep walk the rows are the major one.
-fn placed_cell(steep: bool, major: usize, minor: usize) -> FieldCell
-    ensures { λ r. ⌜ r ≡ placed steep major minor ⌝ }
+fn cell_on_axes(steep: bool, major: usize, minor: usize) -> FieldCell
+    ensures { λ r. ⌜ r ≡ cellOnAxes steep major minor ⌝ }
 {
     if steep {
         return FieldCell {
@@ -57,9 +57,9 @@ fn placed_cell(steep: bool, major: usize, minor: usize) -> FieldCell
 }
 
 // The index of the cell at a walk's major and minor coordinate.
-fn placed_index(steep: bool, major: usize, minor: usize) -> usize
+fn index_on_axes(steep: bool, major: usize, minor: usize) -> usize
     requires { ⌜ (major < 10) × (minor < 10) ⌝ }
-    ensures { λ r. ⌜ r ≡ indexOf (placed steep major minor) ⌝ }
+    ensures { λ r. ⌜ r ≡ indexOf (cellOnAxes steep major minor) ⌝ }
 {
     if steep {
         return major * 10 + minor;
@@ -68,9 +68,9 @@ fn placed_index(steep: bool, major: usize, minor: usize) -> usize
 }
 
 // Where step k of a walk of `span` steps stands in the list: at place k, or as many places before the last where the walk is listed backwards.
-fn place_of(back: bool, span: usize, k: usize) -> usize
+fn list_place(back: bool, span: usize, k: usize) -> usize
     requires { ⌜ k ≤ span ⌝ }
-    ensures { λ r. ⌜ (r ≡ placeOf back span k) × (r ≤ span) ⌝ }
+    ensures { λ r. ⌜ (r ≡ listPlace back span k) × (r ≤ span) ⌝ }
 {
     if back {
         return span - k;
@@ -100,8 +100,8 @@ fn walk(
     let mut k = 0usize;
     while k <= span {
         let minor = moved(minor_0, minor_1, offset);
-        let place = place_of(back, span, k);
-        drawn[place] = placed_index(steep, major_0 + k, minor);
+        let place = list_place(back, span, k);
+        drawn[place] = index_on_axes(steep, major_0 + k, minor);
         if difference > 2 * span {
             offset += 1;
             difference = difference + 2 * rise - 2 * span;
@@ -130,10 +130,10 @@ fn answered_line(drawn: &[usize; 10], count: usize) -> Line
 
 // The walk between any two cells, by itself; no cells where the target's major coordinate is lower, and 13 where a cell lies outside the sector.
 fn walk_alone(steep: bool, major_0: usize, minor_0: usize, major_1: usize, minor_1: usize) -> Line
-    ensures { λ r. ⌜ r ≡ called (placed steep major_0 minor_0) (placed steep major_1 minor_1) (walkCells steep major_0 minor_0 major_1 minor_1) ⌝ }
+    ensures { λ r. ⌜ r ≡ called (cellOnAxes steep major_0 minor_0) (cellOnAxes steep major_1 minor_1) (walkCells steep major_0 minor_0 major_1 minor_1) ⌝ }
 {
-    let source = placed_cell(steep, major_0, minor_0);
-    let target = placed_cell(steep, major_1, minor_1);
+    let source = cell_on_axes(steep, major_0, minor_0);
+    let target = cell_on_axes(steep, major_1, minor_1);
     if !both_inside(source, target) {
         return empty(13);
     }

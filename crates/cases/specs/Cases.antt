@@ -32,9 +32,9 @@ use Rattle.integration_started.specs.Sight.{
   extended,
   sideTried,
   wallMet,
-  neighbourLooked,
-  lookedAround,
-  waveLooked,
+  spreadTo,
+  spreadAround,
+  waveSpread,
   sightAfter,
 }
 use Rattle.integration_started.specs.CornerLine.{cornerLine}
@@ -89,8 +89,8 @@ abbrev waves : List ℕ → List ℕ → List ℕ
 waves costs step = let f = started costs (targetOf step) in build costs (f .field) (listOf f) .waves ∷ []
 
 -- cells' positions in the built field
-abbrev placed : List ℕ → List ℕ → List ℕ → List ℕ
-placed costs step is =
+abbrev positionsAt : List ℕ → List ℕ → List ℕ → List ℕ
+positionsAt costs step is =
     let f = started costs (targetOf step) in
     map (positionAt costs (f .field) (listOf f)) is
 
@@ -132,7 +132,7 @@ cases =
     (9 ∷ 9 ∷ 0x12 ∷ 0x92 ∷ [])
     -- Two window cells, the second's walk the shorter, both as dear at cells 64 and 65: these belong to the first, though cell 74 on the way to
     -- them is the second's. A wall has no position.
-    ∷ case (placed twoWays (window 93 94 2) (65 ∷ 64 ∷ 63 ∷ 74 ∷ 84 ∷ 93 ∷ 94 ∷ 50 ∷ [])) (0 ∷ 0 ∷ 0 ∷ 1 ∷ 1 ∷ 0 ∷ 1 ∷ 255 ∷ [])
+    ∷ case (positionsAt twoWays (window 93 94 2) (65 ∷ 64 ∷ 63 ∷ 74 ∷ 84 ∷ 93 ∷ 94 ∷ 50 ∷ [])) (0 ∷ 0 ∷ 0 ∷ 1 ∷ 1 ∷ 0 ∷ 1 ∷ 255 ∷ [])
     -- North window 3 to 5, facing 9, 5, 9: 0x93, 0x91, 0x99; facing 7, 7, 7: 0x91 each.
     ∷ case (facing 9 5 9 ++ facing 7 7 7) (0x93 ∷ 0x91 ∷ 0x99 ∷ 0x91 ∷ 0x91 ∷ 0x91 ∷ [])
     -- (0,0) to (2,1): middle (1,0); from (2,1) back: also (1,0).
@@ -163,7 +163,7 @@ cases =
 pub as-expected : map (λ (c : Case). c .given) cases ≡ map (λ (c : Case). c .expected) cases
 unfolding onEdge indexOr stepped table toward nearest shallow steep line firstEnding slantedEnd endBy lineEnd edge cellsBetween targetOf
     passesWall relaxed offeredAround offeredBy changedFrom next total isEmpty settle build firstPosition arrivesFrom
-    walls withPortals withGoal marked lineMarked seen extended sideTried wallMet neighbourLooked lookedAround waveLooked sightAfter
+    walls withPortals withGoal marked lineMarked seen extended sideTried wallMet spreadTo spreadAround waveSpread sightAfter
     cornerLine sightFrom startedFrom startedAt started initNumber stepNumberOn sectorNumber
     startOf facingBits facingChoice windowBits newByte newBytes look.seen lookAround pointed builtByte flowBuild sectorBytes
 as-expected = refl

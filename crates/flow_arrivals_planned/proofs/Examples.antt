@@ -16,7 +16,7 @@ use Rattle.integration_field.specs.Wave.{relaxed, offeredAround, offeredBy, cha
 use Rattle.integration_field.specs.Rest.{total}
 use Rattle.integration_field.specs.Build.{isEmpty, settle, build}
 use Rattle.integration_started.specs.Sight.{walls, withGoal, marked, lineMarked, seen, extended, sideTried, wallMet}
-use Rattle.integration_started.specs.Sight.{neighbourLooked, lookedAround, waveLooked, sightAfter}
+use Rattle.integration_started.specs.Sight.{spreadTo, spreadAround, waveSpread, sightAfter}
 use Rattle.integration_started.specs.CornerLine.{cornerLine}
 use Rattle.integration_started.specs.Started.{sightFrom, startedFrom, startedWithout, started}
 use Rattle.flow_byte.specs.New.{startOf, newByte, newBytes}
@@ -48,7 +48,7 @@ moves-without = refl
 pub circle-with : map (movesFrom (bytes true)) (2 ∷ 3 ∷ 9 ∷ []) ≡ 255 ∷ 255 ∷ 255 ∷ []
 unfolding stepped table toward nearest shallow steep line firstEnding slantedEnd endBy lineEnd targetOf
     passesWall relaxed offeredAround offeredBy changedFrom next total isEmpty settle build
-    walls withGoal marked lineMarked seen extended sideTried wallMet neighbourLooked lookedAround waveLooked sightAfter
+    walls withGoal marked lineMarked seen extended sideTried wallMet spreadTo spreadAround waveSpread sightAfter
     cornerLine sightFrom startedFrom started startOf newByte newBytes look.seen lookAround pointed builtByte flowBuild sectorBytes
     movesFrom nextMoveIf nextMove searchedOn searchedFrom searched decided arrival
 circle-with = refl

@@ -11,7 +11,7 @@ use leg_moves::CartWay;
 use line_end::LineEnd;
 use line_nearest::Line;
 use practice::PracticeFloor;
-use tour_plan::PlannedTour;
+use tour_plan::WindowTour;
 use window_square::WindowCosts;
 ghost use mathlib.Core.Bool.{true, false};
 ghost use mathlib.Core.Path.{_≡_};
@@ -146,14 +146,14 @@ pub extern "C" fn hanjolum_window_costs(costs: &[u8], steps: &[u8]) -> WindowCos
 
 // A tour of the windows of one sector: the best of as many orders as the limit says, and the least figure, or the numbers of window costs.
 #[no_mangle]
-pub extern "C" fn hanjolum_window_tour(costs: &[u8], steps: &[u8], limit: u16) -> PlannedTour
+pub extern "C" fn hanjolum_window_tour(costs: &[u8], steps: &[u8], limit: u16) -> WindowTour
     ensures answer { λ r. ⌜ r ≡ tourAnswer (now (costs .entry)) (now (steps .entry)) limit ⌝ }
     ensures planned { λ r. ⌜ (r .number ≡ 0 → TourPlanned (now (costs .entry)) (stepsOf (now (steps .entry))) limit (tourIn r)) ⌝ }
     ensures refused { λ r. ⌜ ((r .number ≡ 0 → ⊥) → TourRefused r) ⌝ }
     ensures nineteen { λ r. ⌜ (r .number ≡ 19) ↔ WrongCount (now (costs .entry)) (now (steps .entry)) ⌝ }
     ensures twenty { λ r. ⌜ (r .number ≡ 20) ↔ NotAmong (now (costs .entry)) (now (steps .entry)) ⌝ }
 {
-    tour::plan_tour(costs, steps, limit)
+    tour::window_tour(costs, steps, limit)
 }
 
 // A leg of one to sixteen steps, planned onto the sheet of a floor: 0, or number 1 to 10, 15, or 16.

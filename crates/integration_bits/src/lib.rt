@@ -71,7 +71,8 @@ pub fn low_bits(word: u32) -> u32
 
 // Whether a move between two cells is diagonal and passes a wall: the cell beside it in the row that it leaves, or the one in the column.
 pub fn passes_wall(from: FieldCell, to: FieldCell, in_row: u32, in_column: u32) -> bool
-    ensures { λ r. ⌜ r ≡ ((not (eqb (from .row) (to .row)) && not (eqb (from .column) (to .column))) && (isImpassable «in_row» || isImpassable «in_column»)) ⌝ }
+    ensures { λ r. ⌜ r ≡ ((not (eqb (from .row) (to .row)) && not (eqb (from .column) (to .column)))
+        && (isImpassable «in_row» || isImpassable «in_column»)) ⌝ }
 {
     let from_column = from.column;
     let from_row = from.row;

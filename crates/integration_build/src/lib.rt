@@ -286,7 +286,7 @@ pub fn build_without_positions(costs: &[u8], given: IntegrationField) -> Integra
 
 // Builds a field whose corners are cells of the sector, with its positions: for callers that answer the field. It is built inside the record that is
 // answered, so that it lies on the stack once.
-pub fn built(costs: &[u8], given: IntegrationField) -> BuildAnswer
+pub fn build_with_positions(costs: &[u8], given: IntegrationField) -> BuildAnswer
     requires { ⌜ Accepted (now costs) given ⌝ }
     ensures { λ r. ⌜ r ≡ answerOf 0 (now (costs .entry)) given ⌝ }
 {
@@ -331,7 +331,7 @@ pub fn build(costs: &[u8], field: IntegrationField) -> BuildAnswer
         return integration_field::refused(11);
     }
     if corners_inside(&field.los_corners, count) {
-        return built(costs, field);
+        return build_with_positions(costs, field);
     }
     integration_field::refused(11)
 }

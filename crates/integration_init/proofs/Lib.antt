@@ -1,7 +1,7 @@
 pub mod Held
 pub mod Marks
 pub mod Masks
-pub mod Looks
+pub mod Spreads
 pub mod Waves
 pub mod Lines
 pub mod Walls

@@ -1,7 +1,7 @@
 -- One mask of three flags: LOS, GOAL and BLOCKED (bits 16, 17, 18).
 --     three-mask    the mask finds something in a word exactly where one of the three is set
 --     none-set      of three flags of which none is set, each is false
---     one-set       a word with one of them set is left as it is by a look: BLOCKED or GOAL, or in sight and no wall
+--     one-set       a word with one of them set is left as it is by sight: BLOCKED or GOAL, or in sight and no wall
 -- Assumes nothing.
 use mathlib.Core.Path.{_≡_, refl, sym, ap, _∙_}
 use mathlib.Core.Bool.{Bool, true, false, not, cond, _||_, true≢false}

@@ -17,14 +17,14 @@ use Rattle.utilities.specs.declared.CompassDir.the-variants.{Zero}
 use Rattle.utilities.specs.Compass.{orthogonal, sideOf}
 use Rattle.fields.specs.Cell.{cellAt, stepped}
 use Rattle.integration_field.specs.Listed.{Indexes, noPositions, withCorners}
-use Rattle.integration_started.specs.Sight.{Sight, begun, looked, lookedAround, waveLooked, sightAfter}
+use Rattle.integration_started.specs.Sight.{Sight, begun, spreadTowards, spreadAround, waveSpread, sightAfter}
 use Rattle.integration_started.proofs.Room.{room-queued}
 use Rattle.integration_init.specs.Held.{sightOf, Holds, Ready, ReadyAll}
 
 pub wave-next : (line : ℕ → List ℕ) (cells : List ℕ) (goal k wave : ℕ) (s : Sight) → wave ≡ suc k → s ≡ sightAfter line cells goal k
-    → waveLooked line wave (s .queue) (begun s) ≡ sightAfter line cells goal (suc k)
+    → waveSpread line wave (s .queue) (begun s) ≡ sightAfter line cells goal (suc k)
 unfolding sightAfter
-wave-next line cells goal k wave s e f = ap₂ (λ (w : ℕ) (t : Sight). waveLooked line w (t .queue) (begun t)) e f
+wave-next line cells goal k wave s e f = ap₂ (λ (w : ℕ) (t : Sight). waveSpread line w (t .queue) (begun t)) e f
 
 -- the queue is no part of what is held
 pub held-as : {s : Sight} {cells corners : List ℕ} {count : ℕ} (queue : List ℕ) → Ready cells corners count
@@ -52,14 +52,14 @@ held-wavefront {cells} {corners} {count} {queue} {queued} h = record {
 -- neighbours in order, from the k-th on
 module _ (line : ℕ → List ℕ) (wave from : ℕ) where
   pub around-step : (k : ℕ) (s : Sight) → k < 4
-      → lookedAround line wave from (drop k orthogonal) s
-      ≡ lookedAround line wave from (drop (k + 1) orthogonal) (looked line wave from (sideOf k) (stepped (cellAt from) (sideOf k)) s)
-  unfolding lookedAround
+      → spreadAround line wave from (drop k orthogonal) s
+      ≡ spreadAround line wave from (drop (k + 1) orthogonal) (spreadTowards line wave from (sideOf k) (stepped (cellAt from) (sideOf k)) s)
+  unfolding spreadAround
   around-step k s h =
-      ap (λ (l : List CompassDir). lookedAround line wave from l s) (drop-cons orthogonal k Zero h)
-      ∙ ap (λ (n : ℕ). lookedAround line wave from (drop n orthogonal) (looked line wave from (sideOf k) (stepped (cellAt from) (sideOf k)) s))
+      ap (λ (l : List CompassDir). spreadAround line wave from l s) (drop-cons orthogonal k Zero h)
+      ∙ ap (λ (n : ℕ). spreadAround line wave from (drop n orthogonal) (spreadTowards line wave from (sideOf k) (stepped (cellAt from) (sideOf k)) s))
       (sym (add-one k))
 
-  pub around-end : (s : Sight) → lookedAround line wave from (drop 4 orthogonal) s ≡ s
-  unfolding lookedAround
+  pub around-end : (s : Sight) → spreadAround line wave from (drop 4 orthogonal) s ≡ s
+  unfolding spreadAround
   around-end s = refl

@@ -46,7 +46,7 @@ pub record HoldsAll (s : Sight) (cells corners : List ℕ) (count : ℕ) (queue 
   pub queue-held : take queued queue ≡ s .queue
   pub queued-held : queued ≡ length (s .queue)
 
--- what a look is given
+-- what sight is given where it comes to a neighbour
 abbrev pub ReadyAll : List ℕ → List ℕ → ℕ → List ℕ → ℕ → Type 0
 ReadyAll cells corners count queue queued = HoldsAll (sightOf cells corners count (take queued queue)) cells corners count queue queued
 

@@ -30,13 +30,13 @@ ghost use Rattle.route.specs.Inner.{heldCells, heldTarget, WindowHeld, TargetHe
 ghost use Rattle.integration_started.specs.Started.{startedAt, startedFrom, startedWithout, started, initRefused, initAnswer, StartedField};
 ghost use Rattle.integration_started.specs.CornerLine.{cornerLine};
 ghost use Rattle.integration_started.specs.Sight.{wallOr, walls, marked, stopped, lineMarked, extended, unlessWall, sideTried, wallMet};
-ghost use Rattle.integration_started.specs.Sight.{neighbourLooked, looked, lookedAround, waveLooked, sightAfter};
+ghost use Rattle.integration_started.specs.Sight.{spreadTo, spreadTowards, spreadAround, waveSpread, sightAfter};
 ghost use Rattle.integration_walks.specs.Promise.{OnceBuilt};
 ghost use Rattle.flow_arrows.specs.Promise.{OnceBuiltArrows};
 ghost use Rattle.integration_init.specs.Held.{sightOf, Holds, Ready, Applied, AppliedAll, HoldsAll, ReadyAll, NoWall, Lent, InWave};
 
 // How many corners are listed, and how many cells the wave has queued.
-struct Counts {
+struct Lengths {
     corners: usize,
     queued: usize,
 }
@@ -108,18 +108,18 @@ fn mark_line(
     count: usize,
     corner: usize,
     drawn: &[usize; 10],
-    size: usize,
+    drawn_count: usize,
     wavefront_cost: u32,
 ) -> usize
-    requires { ⌜ (Ready (now cells) (now corners) count) × ((Indexes 10 (now drawn) size) × ((corner < 100) × («wavefront_cost» ≤ 100))) ⌝ }
-    ensures { λ r. ⌜ Applied (lineMarked «wavefront_cost» 0 corner (take size (now (drawn .entry))))
+    requires { ⌜ (Ready (now cells) (now corners) count) × ((Indexes 10 (now drawn) «drawn_count») × ((corner < 100) × («wavefront_cost» ≤ 100))) ⌝ }
+    ensures { λ r. ⌜ Applied (lineMarked «wavefront_cost» 0 corner (take «drawn_count» (now (drawn .entry))))
         (now (cells .entry)) (now (corners .entry)) count (now (cells .exit)) (now (corners .exit)) r ⌝ }
 {
     let mut listed = count;
     let mut previous = corner;
     let mut value = wavefront_cost + 1;
     let mut i = 0;
-    while i < size {
+    while i < drawn_count {
         let n = drawn[i];
         if is_stopped(cells, previous, n) {
             return listed;
@@ -150,8 +150,16 @@ fn extend_los_corner(
     let from = FieldCell::from_index(corner);
     let end = FieldCell::from_index(utilities::index_of(ends[corner]));
     let mut drawn: [usize; 10] = [0; 10];
-    let size = bresenham::draw_cells_between_points(from, end, &mut drawn);
-    mark_line(cells, corners, count, corner, &drawn, size, wavefront_cost)
+    let drawn_count = bresenham::draw_cells_between_points(from, end, &mut drawn);
+    mark_line(
+        cells,
+        corners,
+        count,
+        corner,
+        &drawn,
+        drawn_count,
+        wavefront_cost,
+    )
 }
 
 // Where a wall ends, sight goes past it: if the cells beside the wall and beside `from`, which met it, lie in the sector and are no walls, the one
@@ -231,29 +239,29 @@ fn is_left_alone(word: u32) -> bool
 
 // Sight comes to cell n from its neighbour `from`: n is left as it is, or is a wall and met, or comes into sight and is queued for the next wave. Most
 // often it is in sight already, and no cell in sight is a wall: so that is asked first, with one test.
-fn look_at(
+fn spread_to(
     cells: &mut [u32; 100],
     corners: &mut [usize; 100],
     queue: &mut [u8; 100],
-    counts: Counts,
+    lengths: Lengths,
     from: usize,
     dir: CompassDir,
     n: usize,
     goal: usize,
     wavefront_cost: u32,
     ends: &[u8; 100],
-) -> Counts
-    requires { ⌜ (ReadyAll (now cells) (now corners) (counts .corners) (now queue) (counts .queued))
+) -> Lengths
+    requires { ⌜ (ReadyAll (now cells) (now corners) (lengths .corners) (now queue) (lengths .queued))
         × ((InWave (Lent goal (now ends) (now cells)) «wavefront_cost» goal from) × (n < 100)) ⌝ }
-    ensures { λ r. ⌜ AppliedAll (neighbourLooked (cornerLine goal) «wavefront_cost» from dir n)
-        (now (cells .entry)) (now (corners .entry)) (counts .corners) (now (queue .entry)) (counts .queued)
+    ensures { λ r. ⌜ AppliedAll (spreadTo (cornerLine goal) «wavefront_cost» from dir n)
+        (now (cells .entry)) (now (corners .entry)) (lengths .corners) (now (queue .entry)) (lengths .queued)
         (now (cells .exit)) (now (corners .exit)) (r .corners) (now (queue .exit)) (r .queued) ⌝ }
 {
-    let listed = counts.corners;
-    let queued = counts.queued;
+    let listed = lengths.corners;
+    let queued = lengths.queued;
     let word = cells[n];
     if is_left_alone(word) {
-        return counts;
+        return lengths;
     }
     if integration_bits::is_impassable(word) {
         let corners = meet_wall(
@@ -267,11 +275,11 @@ fn look_at(
             wavefront_cost,
             ends,
         );
-        return Counts { corners, queued };
+        return Lengths { corners, queued };
     }
     cells[n] = wavefront_cost + INT_BITS_LOS;
     queue[queued] = n as u8;
-    Counts {
+    Lengths {
         corners: listed,
         queued: queued + 1,
     }
@@ -279,32 +287,32 @@ fn look_at(
 
 // Sight goes on from cell `from` in one direction, if there is a neighbour. The step says whether there is one; its index is worked out from that of
 // `from`.
-fn look(
+fn spread_towards(
     cells: &mut [u32; 100],
     corners: &mut [usize; 100],
     queue: &mut [u8; 100],
-    counts: Counts,
+    lengths: Lengths,
     from: usize,
     dir: CompassDir,
     goal: usize,
     wavefront_cost: u32,
     ends: &[u8; 100],
-) -> Counts
-    requires { ⌜ (ReadyAll (now cells) (now corners) (counts .corners) (now queue) (counts .queued))
+) -> Lengths
+    requires { ⌜ (ReadyAll (now cells) (now corners) (lengths .corners) (now queue) (lengths .queued))
         × (InWave (Lent goal (now ends) (now cells)) «wavefront_cost» goal from) ⌝ }
-    ensures { λ r. ⌜ AppliedAll (looked (cornerLine goal) «wavefront_cost» from dir (stepped (cellAt from) dir))
-        (now (cells .entry)) (now (corners .entry)) (counts .corners) (now (queue .entry)) (counts .queued)
+    ensures { λ r. ⌜ AppliedAll (spreadTowards (cornerLine goal) «wavefront_cost» from dir (stepped (cellAt from) dir))
+        (now (cells .entry)) (now (corners .entry)) (lengths .corners) (now (queue .entry)) (lengths .queued)
         (now (cells .exit)) (now (corners .exit)) (r .corners) (now (queue .exit)) (r .queued) ⌝ }
 {
     let Stepped::Cell(neighbour) = FieldCell::from_index(from).get_in_compass_direction(dir) else {
-        return counts;
+        return lengths;
     };
     let n = fields::index_beside(from, dir);
-    look_at(
+    spread_to(
         cells,
         corners,
         queue,
-        counts,
+        lengths,
         from,
         dir,
         n,
@@ -315,31 +323,31 @@ fn look(
 }
 
 // Sight goes on from cell `from` to its neighbours, in the order N, E, S, W.
-fn look_around(
+fn spread_around(
     cells: &mut [u32; 100],
     corners: &mut [usize; 100],
     queue: &mut [u8; 100],
-    counts: Counts,
+    lengths: Lengths,
     from: usize,
     goal: usize,
     wavefront_cost: u32,
     ends: &[u8; 100],
-) -> Counts
-    requires { ⌜ (ReadyAll (now cells) (now corners) (counts .corners) (now queue) (counts .queued))
+) -> Lengths
+    requires { ⌜ (ReadyAll (now cells) (now corners) (lengths .corners) (now queue) (lengths .queued))
         × (InWave (Lent goal (now ends) (now cells)) «wavefront_cost» goal from) ⌝ }
-    ensures { λ r. ⌜ AppliedAll (lookedAround (cornerLine goal) «wavefront_cost» from orthogonal)
-        (now (cells .entry)) (now (corners .entry)) (counts .corners) (now (queue .entry)) (counts .queued)
+    ensures { λ r. ⌜ AppliedAll (spreadAround (cornerLine goal) «wavefront_cost» from orthogonal)
+        (now (cells .entry)) (now (corners .entry)) (lengths .corners) (now (queue .entry)) (lengths .queued)
         (now (cells .exit)) (now (corners .exit)) (r .corners) (now (queue .exit)) (r .queued) ⌝ }
 {
-    let mut counted = counts;
+    let mut so_far = lengths;
     let mut side: u8 = 0;
     while side < 4 {
         let dir = CompassDir::from_boundary(side);
-        counted = look(
+        so_far = spread_towards(
             cells,
             corners,
             queue,
-            counted,
+            so_far,
             from,
             dir,
             goal,
@@ -348,39 +356,40 @@ fn look_around(
         );
         side += 1;
     }
-    counted
+    so_far
 }
 
 // One wave of sight: it goes on from each cell of the wave, and the cells that come into sight are queued as the next wave.
-fn look_wave(
+fn spread_wave(
     cells: &mut [u32; 100],
     corners: &mut [usize; 100],
     count: usize,
     wavefront: &[u8; 100],
-    size: usize,
+    wavefront_count: usize,
     next: &mut [u8; 100],
     goal: usize,
     wavefront_cost: u32,
     ends: &[u8; 100],
-) -> Counts
+) -> Lengths
     requires { ⌜ (Ready (now cells) (now corners) count)
-        × ((Indexes 100 (now wavefront) size) × ((length (now next) ≡ 100) × (InWave (Lent goal (now ends) (now cells)) «wavefront_cost» goal goal))) ⌝ }
-    ensures { λ r. ⌜ HoldsAll (waveLooked (cornerLine goal) «wavefront_cost» (take size (now (wavefront .entry)))
+        × ((Indexes 100 (now wavefront) «wavefront_count») × ((length (now next) ≡ 100)
+        × (InWave (Lent goal (now ends) (now cells)) «wavefront_cost» goal goal))) ⌝ }
+    ensures { λ r. ⌜ HoldsAll (waveSpread (cornerLine goal) «wavefront_cost» (take «wavefront_count» (now (wavefront .entry)))
         (sightOf (now (cells .entry)) (now (corners .entry)) count []))
         (now (cells .exit)) (now (corners .exit)) (r .corners) (now (next .exit)) (r .queued) ⌝ }
 {
-    let mut counts = Counts {
+    let mut lengths = Lengths {
         corners: count,
         queued: 0,
     };
     let mut i = 0;
-    while i < size {
+    while i < wavefront_count {
         let from = utilities::index_of(wavefront[i]);
-        counts = look_around(
+        lengths = spread_around(
             cells,
             corners,
             next,
-            counts,
+            lengths,
             from,
             goal,
             wavefront_cost,
@@ -388,7 +397,7 @@ fn look_wave(
         );
         i += 1;
     }
-    counts
+    lengths
 }
 
 // Spreads sight, one wave a call, until a wave is empty or the falling number is 0. The wave and the places for the next one are lent from above, and
@@ -398,38 +407,39 @@ fn propagate_los(
     corners: &mut [usize; 100],
     count: usize,
     wavefront: &mut [u8; 100],
-    size: usize,
+    wavefront_count: usize,
     next: &mut [u8; 100],
     goal: usize,
     wavefront_cost: u32,
     falling: usize,
     ends: &[u8; 100],
 ) -> usize
-    requires { ⌜ (Ready (now cells) (now corners) count) × ((Indexes 100 (now wavefront) size) × ((length (now next) ≡ 100)
+    requires { ⌜ (Ready (now cells) (now corners) count) × ((Indexes 100 (now wavefront) «wavefront_count») × ((length (now next) ≡ 100)
         × ((goal < 100) × ((«wavefront_cost» + falling ≤ 101) × (Lent goal (now ends) (now cells)))))) ⌝ }
     ensures { λ r. ⌜ ((before : List ℕ) (k : ℕ) → «wavefront_cost» ≡ suc k
-        → sightOf (now (cells .entry)) (now (corners .entry)) count (take size (now (wavefront .entry))) ≡ sightAfter (cornerLine goal) before goal k
+        → sightOf (now (cells .entry)) (now (corners .entry)) count (take «wavefront_count» (now (wavefront .entry)))
+        ≡ sightAfter (cornerLine goal) before goal k
         → Holds (sightAfter (cornerLine goal) before goal (k + falling)) (now (cells .exit)) (now (corners .exit)) r) ⌝ }
 {
     if falling == 0 {
         return count;
     }
-    if size == 0 {
+    if wavefront_count == 0 {
         return count;
     }
-    let counts = look_wave(
+    let lengths = spread_wave(
         cells,
         corners,
         count,
         wavefront,
-        size,
+        wavefront_count,
         next,
         goal,
         wavefront_cost,
         ends,
     );
-    let listed = counts.corners;
-    let queued = counts.queued;
+    let listed = lengths.corners;
+    let queued = lengths.queued;
     propagate_los(
         cells,
         corners,

@@ -1,4 +1,4 @@
--- Small computed cases of how positions spread (02, "Job 10").
+-- Small computed cases of how positions are handed on (02, "Job 10").
 -- Assumes nothing.
 use mathlib.Core.Path.{_≡_, refl}
 use mathlib.Core.List.{[], _∷_}

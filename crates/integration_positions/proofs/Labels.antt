@@ -29,7 +29,7 @@ use Rattle.integration_field.specs.Promise.{Walked, Placed, Position}
 use Rattle.integration_field.specs.Promise.Position.{earliest, none, unplaced}
 use Rattle.integration_field.proofs.Position.{listed-at, walk-on, positions-told, position-one}
 use Rattle.integration_positions.specs.Inner.{enteredFrom, keptOf, Lowered, BuiltOn, Decided}
-use Rattle.integration_positions.proofs.Spreading.{least, lowered, entered-at, exact-back}
+use Rattle.integration_positions.proofs.Flooding.{least, lowered, entered-at, exact-back}
 
 module _ (costs before corners built entered : List ℕ) (f : BuiltOn costs before corners built entered) where
   abbrev Now : ℕ → ℕ

@@ -1,6 +1,6 @@
 pub mod Examples
 pub mod Room
-pub mod Spreading
+pub mod Flooding
 pub mod Starting
 pub mod Standing
 pub mod Labels

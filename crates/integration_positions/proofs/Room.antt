@@ -26,7 +26,7 @@ pub data Tried (entered : List ℕ) (value p x : ℕ) (s t : Placing) : Type 0 w
   taken : t ≡ placing (set (s .places) x p) (set (s .queue) (s .queued) x) (suc (s .queued)) → getD (s .places) x 0 ≡ 255 → getD entered x 0 ≡ value
       → Tried entered value p x s t
   held : t ≡ placing (s .places) (set (s .queue) (s .queued) x) (s .queued) → (getD (s .places) x 0 ≡ 255 → ⊥) → Tried entered value p x s t
-  apart : t ≡ placing (s .places) (set (s .queue) (s .queued) x) (s .queued) → (getD entered x 0 ≡ value → ⊥) → Tried entered value p x s t
+  passed-by : t ≡ placing (s .places) (set (s .queue) (s .queued) x) (s .queued) → (getD entered x 0 ≡ value → ⊥) → Tried entered value p x s t
 
 pub tried : (entered : List ℕ) (value p x : ℕ) (s : Placing) → Tried entered value p x s (placedAt entered value p x s)
 unfolding placedAt
@@ -34,7 +34,7 @@ tried entered value p x s = go (ℕ-discrete (getD (s .places) x 0) 255) (ℕ-di
   where
     go : Dec (getD (s .places) x 0 ≡ 255) → Dec (getD entered x 0 ≡ value) → Tried entered value p x s (placedAt entered value p x s)
     go (yes a) (yes b) = taken (rw (eq-eqb _ _ a, eq-eqb _ _ b)) a b
-    go (yes a) (no b) = apart (rw (eq-eqb _ _ a, ne-eqb _ _ b)) b
+    go (yes a) (no b) = passed-by (rw (eq-eqb _ _ a, ne-eqb _ _ b)) b
     go (no a) b = held (rw (ne-eqb _ _ a)) a
 
 pub grown-none : (s : Placing) → Grown s s
@@ -75,7 +75,7 @@ room-behind s x l r = record {
 module _ (entered : List ℕ) (value p : ℕ) where
   pub grown-at : (x : ℕ) (s : Placing) {t : Placing} → Tried entered value p x s t → Grown s t
   grown-at x s (held e h) = rw e (grown-behind s x)
-  grown-at x s (apart e h) = rw e (grown-behind s x)
+  grown-at x s (passed-by e h) = rw e (grown-behind s x)
   grown-at x s (taken e h v) = rw e (record {
     more = omega arith;
     queue-kept = λ j l. behind-queue s x j l;
@@ -88,7 +88,7 @@ module _ (entered : List ℕ) (value p : ℕ) where
 
     pub room-at : (x : ℕ) (s : Placing) {t : Placing} → x < 100 → QueueRoom s → Tried entered value p x s t → QueueRoom t
     room-at x s l r (held e n) = rw e (room-behind s x l r)
-    room-at x s l r (apart e n) = rw e (room-behind s x l r)
+    room-at x s l r (passed-by e n) = rw e (room-behind s x l r)
     room-at x s l r (taken e v w) =
         let free : s .queued < 100 = has-room s x r l v in
         let none : bit (isPlaced (getD (s .places) x 0)) ≡ 0 = rw v in

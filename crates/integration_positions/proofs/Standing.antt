@@ -16,7 +16,7 @@ use lib.Seq.{getD-set-same, getD-set-other, ext-getD}
 use Rattle.utilities.proofs.Count.{at-set}
 use Rattle.integration_field.specs.Listed.{noPositions}
 use Rattle.integration_positions.specs.Inner.{Placing, placing, QueueRoom, Grown, entryOf, StandsFor, HasRoom, StepsTo, Written}
-use Rattle.integration_positions.proofs.Room.{Tried, taken, held, apart, queued-few, room-at}
+use Rattle.integration_positions.proofs.Room.{Tried, taken, held, passed-by, queued-few, room-at}
 use Rattle.integration_positions.proofs.Starting.{room-none}
 
 -- ---- one cell tried
@@ -43,7 +43,7 @@ module _ (entered : List ℕ) (value p x : ℕ) (entering : value ≤ 65536) (sm
     pub stands-taken : {t : Placing} → getD entries x 0 ≡ value → Tried entered value p x s t
         → StandsFor entered (set entries x 65537) (set queue queued x) (suc queued) t
     stands-taken v (held e n) = absurd (not-placed v n)
-    stands-taken v (apart e n) = absurd (not-placed v (λ a. n (sym (free a) ∙ v)))
+    stands-taken v (passed-by e n) = absurd (not-placed v (λ a. n (sym (free a) ∙ v)))
     stands-taken v (taken e a b) = record {
       room = room-at entered value p small x s inside (m .room) (taken e a b);
       full = length-set entries x 65537 ∙ m .full;
@@ -70,7 +70,7 @@ module _ (entered : List ℕ) (value p x : ℕ) (entering : value ≤ 65536) (sm
     pub stands-left : {t : Placing} → (getD entries x 0 ≡ value → ⊥) → Tried entered value p x s t → StandsFor entered entries (set queue queued x) queued t
     stands-left v (taken e a b) = absurd (v (free a ∙ b))
     stands-left v (held e n) = stays (held e n) e
-    stands-left v (apart e n) = stays (apart e n) e
+    stands-left v (passed-by e n) = stays (passed-by e n) e
 
 -- ---- room
 

@@ -1,7 +1,7 @@
--- The corners, in list order: one that building left alone takes its own position, unless it has an earlier one, and the position spreads.
+-- The corners, in list order: one that building left alone takes its own position, unless it has an earlier one, and the position is handed on.
 --     gone-none        before the first corner
---     corner-spread    a corner tried, before its position spreads
---     gone-next        after its position has spread
+--     corner-flood    a corner tried, before its position is handed on
+--     gone-next        after its position was handed on
 --     decided          after the last
 -- Assumes nothing.
 use mathlib.Core.Path.{_≡_, refl, sym, ap, _∙_}
@@ -26,13 +26,13 @@ use Rattle.integration_positions.specs.Inner.{
   placedAt,
   BuiltOn,
   Mine,
-  Spread,
+  Flood,
   Sources,
   Gone,
   Decided,
 }
 use Rattle.integration_positions.proofs.Room.{Tried, tried, grown-at}
-use Rattle.integration_positions.proofs.Spreading.{least, lowered, entered-at, spread-at, tried-least}
+use Rattle.integration_positions.proofs.Flooding.{least, lowered, entered-at, flood-at, tried-least}
 
 module _ (costs before corners built entered : List ℕ) (f : BuiltOn costs before corners built entered) where
   -- what is entered from 65536 was left alone by building: a walk that stays put arrives at its built cost
@@ -59,15 +59,15 @@ module _ (costs before corners built entered : List ℕ) (f : BuiltOn costs befo
       abbrev attempt : Tried entered 65536 i corner s after
       attempt = tried entered 65536 i corner s
 
-      pub corner-spread : Spread costs before corners built entered i (s .queued) after
-      corner-spread =
-          spread-at costs before corners built entered f i (s .queued) 65536 small corner s inside r (stays-put i corner h refl inside) (d .spread) attempt
+      pub corner-flood : Flood costs before corners built entered i (s .queued) after
+      corner-flood =
+          flood-at costs before corners built entered f i (s .queued) 65536 small corner s inside r (stays-put i corner h refl inside) (d .flood) attempt
 
-      -- t is what the spreading leaves
-      pub gone-next : (t : Placing) → Grown after t → Spread costs before corners built entered i (t .queued) t
+      -- t is what the flood leaves
+      pub gone-next : (t : Placing) → Grown after t → Flood costs before corners built entered i (t .queued) t
           → Gone costs before corners built entered (i + 1) t
       gone-next t g u = record {
-        spread = record {
+        flood = record {
           behind = u .behind;
           listed = u .listed;
           queued-placed = u .queued-placed;
@@ -78,7 +78,7 @@ module _ (costs before corners built entered : List ℕ) (f : BuiltOn costs befo
         };
         sources = λ j l e. elim (ℕ-discrete j i) [
           | yes q ↦
-              (let least = tried-least costs before corners built entered f i (s .queued) 65536 small corner s inside r (d .spread) attempt (rw q at e) in
+              (let least = tried-least costs before corners built entered f i (s .queued) 65536 small corner s inside r (d .flood) attempt (rw q at e) in
               rw q (kept corner least))
           | no q ↦ (let old = d .sources j (omega arith) e in kept-from j (omega arith) old)
         ];
@@ -97,14 +97,14 @@ module _ (costs before corners built entered : List ℕ) (f : BuiltOn costs befo
       → Decided costs before corners built entered (s .places)
   decided s r d = record {
     decided-full = r .full;
-    decided-mine = d .spread .mine;
-    decided-closed = λ y x h p b e. (let l = d .spread .listed y h p in closed (l .0) y x (l .1) (l .2) b e);
+    decided-mine = d .flood .mine;
+    decided-closed = λ y x h p b e. (let l = d .flood .listed y h p in closed (l .0) y x (l .1) (l .2) b e);
     decided-sources = d .sources;
   }
     where
       closed : (j y x : ℕ) → j < s .queued → getD (s .queue) j 0 ≡ y → BesideAt y x → getD entered x 0 ≡ low (getD built y 0)
           → getD (s .places) x 0 ≤ getD (s .places) y 0
-      closed j y x l q = rw (← q) (d .spread .closed j x l)
+      closed j y x l q = rw (← q) (d .flood .closed j x l)
 
   none-at : (x : ℕ) → x < 100 → getD noPositions x 0 ≡ 255
   none-at x h = getD-replicate 100 x 255 0 h
@@ -112,7 +112,7 @@ module _ (costs before corners built entered : List ℕ) (f : BuiltOn costs befo
   -- before the first corner no cell has a position
   pub gone-none : (queue : List ℕ) → Gone costs before corners built entered 0 (placing noPositions queue 0)
   gone-none queue = record {
-    spread = record {
+    flood = record {
       behind = omega arith;
       listed = λ x h p. absurd (p (none-at x h));
       queued-placed = λ j l p. absurd (omega arith);

@@ -1,4 +1,4 @@
--- How positions spread (02, "Job 10"): the forms that the code goes by. A reader of the promises needs none of them.
+-- How positions are handed on (02, "Job 10"): the forms that the code goes by. A reader of the promises needs none of them.
 -- Assumes nothing.
 use mathlib.Core.Path.{_≡_}
 use mathlib.Core.Bool.{Bool, not, cond, _&&_}
@@ -112,7 +112,7 @@ pub record Written (gone : ℕ) (positions : List ℕ) (s : Placing) : Type 0 wh
   pub written : (j : ℕ) → j < gone → getD positions (getD (s .queue) j 0) 0 ≡ getD (s .places) (getD (s .queue) j 0) 0
   pub unwritten : (x : ℕ) → x < 100 → getD (s .places) x 0 ≡ 255 → getD positions x 0 ≡ 255
 
--- ---- what holds while positions spread
+-- ---- what holds while positions are handed on
 
 -- the field that is meant: `built` are its cells after building, and `entered` the values from which moves arrive at built costs
 pub record BuiltOn (costs before corners built entered : List ℕ) : Type 0 where
@@ -129,7 +129,7 @@ module _ (costs before corners built entered : List ℕ) where
     pub walk : WalkFrom costs before corners p x (low (getD built x 0))
 
   -- The first `gone` cells of the queue have been gone around from; those behind them hold position i, and no cell holds a later one.
-  pub record Spread (i gone : ℕ) (s : Placing) : Type 0 where
+  pub record Flood (i gone : ℕ) (s : Placing) : Type 0 where
     pub behind : gone ≤ s .queued
     pub listed : (x : ℕ) → x < 100 → (getD (s .places) x 0 ≡ 255 → ⊥) → (j : ℕ) × (j < s .queued) × (getD (s .queue) j 0 ≡ x)
     pub queued-placed : (j : ℕ) → j < s .queued → getD (s .places) (getD (s .queue) j 0) 0 ≡ 255 → ⊥
@@ -139,22 +139,22 @@ module _ (costs before corners built entered : List ℕ) where
     pub closed : (j x : ℕ) → j < gone → BesideAt (getD (s .queue) j 0) x → getD entered x 0 ≡ low (getD built (getD (s .queue) j 0) 0)
         → getD (s .places) x 0 ≤ getD (s .places) (getD (s .queue) j 0) 0
 
-  -- position i has spread from s, and t is what the code's arrays hold then
-  pub record SpreadOn (i : ℕ) (entries : List ℕ) (s t : Placing) : Type 0 where
+  -- position i was handed on from s, and t is what the code's arrays hold then
+  pub record FloodedOn (i : ℕ) (entries : List ℕ) (s t : Placing) : Type 0 where
     pub stands : StandsFor entered entries (t .queue) (t .queued) t
     pub grown : Grown s t
-    pub spread : Spread i (t .queued) t
+    pub flood : Flood i (t .queued) t
 
   -- the corners before position i that building left alone have their own position or an earlier one
   abbrev pub Sources : ℕ → List ℕ → Type 0
   Sources i places = (j : ℕ) → j < i → getD entered (getD corners j 0) 0 ≡ 65536 → getD places (getD corners j 0) 0 ≤ j
 
-  -- the positions before i have spread
+  -- the positions before i were handed on
   pub record Gone (i : ℕ) (s : Placing) : Type 0 where
-    pub spread : Spread i (s .queued) s
+    pub flood : Flood i (s .queued) s
     pub sources : Sources i (s .places)
 
-  -- the positions before i have spread, and s is what the code's arrays hold
+  -- the positions before i were handed on, and s is what the code's arrays hold
   pub record GoneOn (i : ℕ) (entries : List ℕ) (s : Placing) : Type 0 where
     pub stands : StandsFor entered entries (s .queue) (s .queued) s
     pub gone : Gone i s

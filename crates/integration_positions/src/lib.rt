@@ -1,5 +1,5 @@
 // Which corner each cell belongs to: the earliest of the list with a walk that arrives at the cell's built cost. After building, the corners have their
-// turns in list order. Each spreads its position, from itself on, over the moves that come to exactly the built cost of the cell they enter, into the
+// turns in list order. Each hands its position on, from itself, over the moves that come to exactly the built cost of the cell they enter, into the
 // cells that have no position yet.
 use fields::FieldCell;
 use fields::Stepped;
@@ -15,7 +15,7 @@ ghost use Rattle.integration_field.specs.Listed.{Indexes, noPositions};
 ghost use Rattle.integration_field.specs.Build.{build};
 ghost use Rattle.integration_field.specs.Position.{positions};
 ghost use Rattle.integration_positions.specs.Inner.{enteredFrom, Lowered, Placing, placing, placedAt, placedTo, placedAround, keptOf};
-ghost use Rattle.integration_positions.specs.Inner.{StandsFor, HasRoom, StepsTo, Written, BuiltOn, Spread, SpreadOn, GoneOn, Decided};
+ghost use Rattle.integration_positions.specs.Inner.{StandsFor, HasRoom, StepsTo, Written, BuiltOn, Flood, FloodedOn, GoneOn, Decided};
 
 // The entry of a cell that building left as it was: above every cell's value, so that no move is made into the cell.
 const LEFT_ALONE: u32 = 65536;
@@ -49,7 +49,8 @@ fn entered_at(cost: u8, before: u32, built: u32) -> u32
 // For every cell, the value of the neighbours from which a move comes to its built cost.
 fn entered_from(costs: &[u8], before: &[u32; 100], built: &[u32; 100]) -> [u32; 100]
     requires { ⌜ (length (now costs) ≡ 100) × Lowered (now costs) (now before) (now built) ⌝ }
-    ensures { λ r. ⌜ r ≡ map (λ x. enteredFrom (getD (now (costs .entry)) x 0) (getD (now (before .entry)) x 0) (getD (now (built .entry)) x 0)) (below 100) ⌝ }
+    ensures { λ r. ⌜ r
+        ≡ map (λ x. enteredFrom (getD (now (costs .entry)) x 0) (getD (now (before .entry)) x 0) (getD (now (built .entry)) x 0)) (below 100) ⌝ }
 {
     let mut entered = [0; 100];
     let mut i = 0;
@@ -127,9 +128,9 @@ fn place_around(
     place_towards(entered, queue, three, value, from, west)
 }
 
-// Spreads a corner's position: each queued cell, from place `gone` on, takes the position, and its neighbours that are placed from it are queued behind
-// the others. Ends when all queued cells have had their turn. Answers how many cells are queued then.
-fn spread(
+// Hands a corner's position on, as a flood fill does: each queued cell, from place `gone` on, takes the position, and its neighbours that are placed
+// from it are queued behind the others. Ends when all queued cells have had their turn. Answers how many cells are queued then.
+fn flood(
     built: &[u32; 100],
     entered: &mut [u32; 100],
     positions: &mut [u8; 100],
@@ -143,8 +144,8 @@ fn spread(
         → BuiltOn costs before corners (now (built .entry)) values
         → StandsFor values (now (entered .entry)) (now (queue .entry)) queued s
         → Written gone (now (positions .entry)) s
-        → Spread costs before corners (now (built .entry)) values position gone s
-        → SpreadOn costs before corners (now (built .entry)) values position (now (entered .exit)) s
+        → Flood costs before corners (now (built .entry)) values position gone s
+        → FloodedOn costs before corners (now (built .entry)) values position (now (entered .exit)) s
         (placing (now (positions .exit)) (now (queue .exit)) r)) ⌝ }
 {
     let mut count = queued;
@@ -159,7 +160,7 @@ fn spread(
     count
 }
 
-// A corner that building left alone takes its own position, if it has none, and the position spreads from there. Answers how many cells are queued then.
+// A corner that building left alone takes its own position, if it has none, and the position is handed on from there. Answers how many cells are queued then.
 fn place_corner(
     built: &[u32; 100],
     entered: &mut [u32; 100],
@@ -180,10 +181,10 @@ fn place_corner(
         (placing (now (positions .exit)) (now (queue .exit)) r)) ⌝ }
 {
     let more = place_at(entered, queue, queued, LEFT_ALONE, corner);
-    spread(built, entered, positions, queue, queued, more, position)
+    flood(built, entered, positions, queue, queued, more, position)
 }
 
-// Spreads the positions of all corners, in list order.
+// Hands on the positions of all corners, in list order.
 fn place_corners(
     built: &[u32; 100],
     entered: &mut [u32; 100],

@@ -19,9 +19,9 @@ use Rattle.integration_started.specs.Sight.{
   extended,
   sideTried,
   wallMet,
-  neighbourLooked,
-  lookedAround,
-  waveLooked,
+  spreadTo,
+  spreadAround,
+  waveSpread,
   sightAfter,
 }
 use Rattle.integration_started.specs.CornerLine.{cornerLine}
@@ -108,33 +108,33 @@ pub side-closed : wallMet itself 1 12 2 North (of (replicate 2 free ++ wall ∷ 
 unfolding wallMet sideTried extended lineMarked marked passesWall stepped
 side-closed = refl
 
--- a look leaves the goal as it is, and queues a cell that comes into sight
-pub goal-stays : neighbourLooked itself 1 1 East 0 (of (0x20000 ∷ [])) ≡ of (0x20000 ∷ [])
-unfolding neighbourLooked
+-- sight leaves the goal as it is, and queues a cell that comes into sight
+pub goal-stays : spreadTo itself 1 1 East 0 (of (0x20000 ∷ [])) ≡ of (0x20000 ∷ [])
+unfolding spreadTo
 goal-stays = refl
 
-pub cell-seen : neighbourLooked itself 1 1 East 0 (of (free ∷ [])) ≡ record { cells = 0x10001 ∷ []; corners = []; queue = 0 ∷ [] }
-unfolding neighbourLooked seen
+pub cell-seen : spreadTo itself 1 1 East 0 (of (free ∷ [])) ≡ record { cells = 0x10001 ∷ []; corners = []; queue = 0 ∷ [] }
+unfolding spreadTo seen
 cell-seen = refl
 
--- Three open cells in a row, walls around, the goal at the left end: wave 1 costs 1, wave 2 looks from one cell and leaves one, and it is
+-- Three open cells in a row, walls around, the goal at the left end: wave 1 costs 1, wave 2 spreads from one cell and leaves one, and it is
 -- the second wave that comes to the right end.
 abbrev pub row : List ℕ
 row = replicate 3 1 ++ replicate 11 255
 
 pub first-wave : getD (sightAfter itself (walls row) 0 1 .cells) 1 0 ≡ 1 + 0x10000
-unfolding walls withGoal seen wallMet sideTried neighbourLooked lookedAround waveLooked sightAfter stepped
+unfolding walls withGoal seen wallMet sideTried spreadTo spreadAround waveSpread sightAfter stepped
 first-wave = refl
 
 pub second-queue : sightAfter itself (walls row) 0 2 .queue ≡ 2 ∷ []
-unfolding walls withGoal seen wallMet sideTried neighbourLooked lookedAround waveLooked sightAfter stepped
+unfolding walls withGoal seen wallMet sideTried spreadTo spreadAround waveSpread sightAfter stepped
 second-queue = refl
 
--- with the lines of corners: the third wave leaves no cell to look from; `Whole.antt` goes on from here to the end of sight
+-- with the lines of corners: the third wave leaves no cell to spread from; `Whole.antt` goes on from here to the end of sight
 pub third-queue : sightAfter (cornerLine 0) (walls row) 0 3 .queue ≡ []
-unfolding walls withGoal seen wallMet sideTried neighbourLooked lookedAround waveLooked sightAfter stepped
+unfolding walls withGoal seen wallMet sideTried spreadTo spreadAround waveSpread sightAfter stepped
 third-queue = refl
 
 pub third-wave : getD (sightAfter (cornerLine 0) (walls row) 0 3 .cells) 2 0 ≡ 2 + 0x10000
-unfolding walls withGoal seen wallMet sideTried neighbourLooked lookedAround waveLooked sightAfter stepped
+unfolding walls withGoal seen wallMet sideTried spreadTo spreadAround waveSpread sightAfter stepped
 third-wave = refl

@@ -1,4 +1,4 @@
--- The first wave looks from the goal alone.
+-- The first wave spreads from the goal alone.
 --     Hides           a cell from which a wall beside the goal would make the goal a corner
 --     first-blocks    the first wave leaves such a cell BLOCKED, so that it is never in a wave
 --     first-meets     and it has met three cells, the goal and two of its neighbours
@@ -33,15 +33,15 @@ use Rattle.integration_started.specs.Sight.{
   extended,
   sideTried,
   wallMet,
-  neighbourLooked,
-  looked,
-  lookedAround,
+  spreadTo,
+  spreadTowards,
+  spreadAround,
 }
 use Rattle.integration_started.specs.Lines.{Lines}
 use Rattle.utilities.specs.Count.{count}
 use Rattle.utilities.proofs.Count.{Each, Passes, once-room, each-more, each-one, once-more, at-set}
 use Rattle.integration_started.proofs.Words.{corner-flags}
-use Rattle.integration_started.proofs.Kept.{Found, Keeps, kept-marked, kept-line, kept-side, kept-wall, kept-looked, kept-around}
+use Rattle.integration_started.proofs.Kept.{Found, Keeps, kept-marked, kept-line, kept-side, kept-wall, kept-towards, kept-around}
 use Rattle.integration_started.proofs.Sides.{isSide, by-side, square, odd, side-opposite, side-sideways, sideways-back, sideways-away}
 use Rattle.integration_started.proofs.Wave.{isMet, met-los, met-goal, met-blocked, met-wall, Free, met, Wave, wave-keeps}
 
@@ -135,8 +135,8 @@ module _ (goal : ℕ) (goal-in : goal < 100) (walls : ℕ → Bool) where
       (corner-step c (h .way) (h .wall-cell) (h .side) (h .free-cell) (cellAt goal) f) in
       omega arith
 
-  pub hides-apart : (c : ℕ) → Hides c → c ≡ goal → ⊥
-  hides-apart c h e =
+  pub hides-not-goal : (c : ℕ) → Hides c → c ≡ goal → ⊥
+  hides-not-goal c h e =
       let f = h .found in
       sideways-away (cellAt c) (h .wall-cell) (h .way) (h .side) (h .is-side) (f .sideways) (f .ahead)
       (corner-step c (h .way) (h .wall-cell) (h .side) (h .free-cell) (cellAt goal) f ∙ ap (λ (n : ℕ). Cell (cellAt n)) (sym e))
@@ -148,7 +148,7 @@ module _ (goal : ℕ) (goal-in : goal < 100) (walls : ℕ → Bool) where
     away : (from : ℕ) (d : CompassDir) (x : FieldCell) (side : CompassDir) (a b : FieldCell) → IsGoal from → isSide d ≡ true
         → Found walls from d x side a b → indexOf b ≡ goal → ⊥
     away from d x side a b g o f e =
-        hides-apart from (record { way = d; wall-cell = x; side = side; free-cell = a; is-side = o; found = goal-found from d x side a b f e }) g
+        hides-not-goal from (record { way = d; wall-cell = x; side = side; free-cell = a; is-side = o; found = goal-found from d x side a b f e }) g
 
     next : (Kept : ℕ → Type 0) (from : ℕ) (d : CompassDir) (n : FieldCell) → IsGoal from → isSide d ≡ true → stepped (cellAt from) d ≡ Cell n
         → walls (indexOf n) ≡ false → (Kept (indexOf n) → ⊥) → Odd (indexOf n)
@@ -180,29 +180,29 @@ module _ (goal : ℕ) (goal-in : goal < 100) (walls : ℕ → Bool) where
       stays-met = λ c h. m c;
     }
 
-    abbrev look : CompassDir → Sight → Sight
-    look d s = looked cornerLine 1 goal d (stepped (cellAt goal) d) s
+    abbrev spread : CompassDir → Sight → Sight
+    spread d s = spreadTowards cornerLine 1 goal d (stepped (cellAt goal) d) s
 
-    look-keeps : (Kept Met : ℕ → Type 0) (d : CompassDir) (s : Sight) → isSide d ≡ true → First Kept Met s → First Kept Met (look d s)
-    look-keeps Kept Met d s o p = kept-looked (first-keeps Kept Met) goal refl d s o p
+    spread-keeps : (Kept Met : ℕ → Type 0) (d : CompassDir) (s : Sight) → isSide d ≡ true → First Kept Met s → First Kept Met (spread d s)
+    spread-keeps Kept Met d s o p = kept-towards (first-keeps Kept Met) goal refl d s o p
 
-    -- what one of the four looks brings about, and the others keep, holds after them all
-    around : (Kept Met : ℕ → Type 0) (d : CompassDir) → isSide d ≡ true → ((t : Sight) → First Never Never t → First Kept Met (look d t))
-        → (s : Sight) → First Never Never s → First Kept Met (lookedAround cornerLine 1 goal orthogonal s)
-    unfolding lookedAround
+    -- what sight brings about in one of the four directions, and keeps in the others, holds after them all
+    around : (Kept Met : ℕ → Type 0) (d : CompassDir) → isSide d ≡ true → ((t : Sight) → First Never Never t → First Kept Met (spread d t))
+        → (s : Sight) → First Never Never s → First Kept Met (spreadAround cornerLine 1 goal orthogonal s)
+    unfolding spreadAround
     around Kept Met d o =
-        let later = look-keeps Kept Met in
-        let before = look-keeps Never Never in
-        by-side (λ e. ((t : Sight) → First Never Never t → First Kept Met (look e t)) → (s : Sight) → First Never Never s
-        → First Kept Met (look West (look South (look East (look North s)))))
-        (λ hit s p. later West (look South (look East (look North s))) refl
-        (later South (look East (look North s)) refl (later East (look North s) refl (hit s p))))
-        (λ hit s p. later West (look South (look East (look North s))) refl
-        (later South (look East (look North s)) refl (hit (look North s) (before North s refl p))))
-        (λ hit s p. later West (look South (look East (look North s))) refl
-        (hit (look East (look North s)) (before East (look North s) refl (before North s refl p))))
-        (λ hit s p. hit (look South (look East (look North s)))
-        (before South (look East (look North s)) refl (before East (look North s) refl (before North s refl p))))
+        let later = spread-keeps Kept Met in
+        let before = spread-keeps Never Never in
+        by-side (λ e. ((t : Sight) → First Never Never t → First Kept Met (spread e t)) → (s : Sight) → First Never Never s
+        → First Kept Met (spread West (spread South (spread East (spread North s)))))
+        (λ hit s p. later West (spread South (spread East (spread North s))) refl
+        (later South (spread East (spread North s)) refl (later East (spread North s) refl (hit s p))))
+        (λ hit s p. later West (spread South (spread East (spread North s))) refl
+        (later South (spread East (spread North s)) refl (hit (spread North s) (before North s refl p))))
+        (λ hit s p. later West (spread South (spread East (spread North s))) refl
+        (hit (spread East (spread North s)) (before East (spread North s) refl (before North s refl p))))
+        (λ hit s p. hit (spread South (spread East (spread North s)))
+        (before South (spread East (spread North s)) refl (before East (spread North s) refl (before North s refl p))))
         d o
 
     -- each neighbour of the goal is met
@@ -216,8 +216,8 @@ module _ (goal : ℕ) (goal-in : goal < 100) (walls : ℕ → Bool) where
       meets-by : (t : Sight) → First Never Never t → isMet (getD (t .cells) (indexOf n) 0) ≡ true → First Never This t
       meets-by t p e = first-with Never This t p (λ c k. absurd k) (λ c k. subst (λ (m : ℕ). isMet (getD (t .cells) m 0) ≡ true) (sym k) e)
 
-      meets : (t : Sight) → First Never Never t → First Never This (look d t)
-      unfolding neighbourLooked seen
+      meets : (t : Sight) → First Never Never t → First Never This (spread d t)
+      unfolding spreadTo seen
       meets t p = rw step (go (isBlocked x) refl (isGoal x) refl (isImpassable x) refl (isLos x) refl)
         where
           x : ℕ
@@ -236,12 +236,12 @@ module _ (goal : ℕ) (goal-in : goal < 100) (walls : ℕ → Bool) where
               (at-set (λ y. isMet y ≡ true) (t .cells) (indexOf n) (sightWord 1) (indexOf n)
               (omega (arith, this-in, p .sound .room .full)) (λ q. refl) (λ q. absurd (q refl)))
 
-      pub neighbour-met : (s : Sight) → First Never Never s → isMet (getD (lookedAround cornerLine 1 goal orthogonal s .cells) (indexOf n) 0) ≡ true
+      pub neighbour-met : (s : Sight) → First Never Never s → isMet (getD (spreadAround cornerLine 1 goal orthogonal s .cells) (indexOf n) 0) ≡ true
       neighbour-met s p = around Never This d o meets s p .stays-met (indexOf n) this-in refl
 
-    pub first-meets : (s : Sight) → First Never Never s → 3 ≤ met goal walls (lookedAround cornerLine 1 goal orthogonal s)
+    pub first-meets : (s : Sight) → First Never Never s → 3 ≤ met goal walls (spreadAround cornerLine 1 goal orthogonal s)
     first-meets s p =
-        let t = lookedAround cornerLine 1 goal orthogonal s in
+        let t = spreadAround cornerLine 1 goal orthogonal s in
         let q = kept-around (first-keeps Never Never) goal refl s p in
         let full : length (t .cells) ≡ 100 = q .sound .room .full in
         let i = cell-inside goal goal-in in
@@ -262,8 +262,8 @@ module _ (goal : ℕ) (goal-in : goal < 100) (walls : ℕ → Bool) where
       abbrev Only : ℕ → Type 0
       Only m = m ≡ c
 
-      apart : c ≡ goal → ⊥
-      apart = hides-apart c h
+      not-goal : c ≡ goal → ⊥
+      not-goal = hides-not-goal c h
 
       x-inside : Inside (h .wall-cell)
       x-inside = stepped-cell (cellAt c) (h .way) (h .wall-cell) (h .found .ahead) .within
@@ -294,7 +294,7 @@ module _ (goal : ℕ) (goal-in : goal < 100) (walls : ℕ → Bool) where
       mark-blocks : (t : Sight) → First Never Never t → First Only Never (marked (1 + 1 + 0) c t)
       mark-blocks t p =
           blocks-by (marked (1 + 1 + 0) c t)
-          (kept-marked (first-keeps Never Never) (1 + 1 + 0) c t p (c-in, apart) (omega arith) (p .sound .same c ∙ free))
+          (kept-marked (first-keeps Never Never) (1 + 1 + 0) c t p (c-in, not-goal) (omega arith) (p .sound .same c ∙ free))
           (marked-blocked (1 + 1 + 0) c t (omega (arith, p .sound .room .full)) (omega arith))
 
       open-way : (t : Sight) → First Never Never t → stopped (t .cells) c c ≡ false
@@ -309,7 +309,7 @@ module _ (goal : ℕ) (goal-in : goal < 100) (walls : ℕ → Bool) where
           go [] e = absurd (omega (arith, lines .begun c c-in, ap length e))
           go (n ∷ ns) e =
               let q : n ≡ c = ap (λ (l : List ℕ). getD l 0 0) (sym e) ∙ lines .begins c c-in in
-              let frees : Each Frees (n ∷ ns) = subst (Each Frees) e (λ i k. (lines .inside c c-in i k, lines .past c c-in apart i k)) in
+              let frees : Each Frees (n ∷ ns) = subst (Each Frees) e (λ i k. (lines .inside c c-in i k, lines .past c c-in not-goal i k)) in
               subst (λ (m : ℕ). First Only Never (lineMarked 1 0 c (m ∷ ns) t)) (sym q)
               (rw (open-way t p)
               (kept-line (first-keeps Only Never) ns 1 c (marked (1 + 1 + 0) c t) (mark-blocks t p)
@@ -340,9 +340,9 @@ module _ (goal : ℕ) (goal-in : goal < 100) (walls : ℕ → Bool) where
           (kept-side (first-keeps Never Never) goal way (h .wall-cell) refl o sees-wall (h .found .wall) (lowerSide way) t (inl refl) p)))
           (sideways-back (h .way) (h .side) (h .is-side) (h .found .sideways))
 
-      look-blocks : (t : Sight) → First Never Never t → First Only Never (look (opposite (h .side)) t)
-      unfolding neighbourLooked
-      look-blocks t p = rw (sees-wall, p .sound .at-wall (indexOf (h .wall-cell)) (index-below (h .wall-cell) x-inside) (h .found .wall)) (wall-blocks t p)
+      spread-blocks : (t : Sight) → First Never Never t → First Only Never (spread (opposite (h .side)) t)
+      unfolding spreadTo
+      spread-blocks t p = rw (sees-wall, p .sound .at-wall (indexOf (h .wall-cell)) (index-below (h .wall-cell) x-inside) (h .found .wall)) (wall-blocks t p)
 
-      pub first-blocks : (s : Sight) → First Never Never s → isBlocked (getD (lookedAround cornerLine 1 goal orthogonal s .cells) c 0) ≡ true
-      first-blocks s p = around Only Never (opposite (h .side)) (side-opposite (h .side) side-side) look-blocks s p .stays c c-in refl
+      pub first-blocks : (s : Sight) → First Never Never s → isBlocked (getD (spreadAround cornerLine 1 goal orthogonal s .cells) c 0) ≡ true
+      first-blocks s p = around Only Never (opposite (h .side)) (side-opposite (h .side) side-side) spread-blocks s p .stays c c-in refl

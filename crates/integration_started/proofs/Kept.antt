@@ -28,16 +28,16 @@ use Rattle.integration_started.specs.Sight.{
   cornerOf,
   sideTried,
   wallMet,
-  neighbourLooked,
-  looked,
-  lookedAround,
-  waveLooked,
+  spreadTo,
+  spreadTowards,
+  spreadAround,
+  waveSpread,
 }
 use Rattle.utilities.proofs.Count.{Each}
 use Rattle.integration_started.proofs.Words.{Flags}
 use Rattle.integration_started.proofs.Sides.{isSide, Sideways}
 
--- the wave cell `from` looks in direction d at the wall x, and tries a side: cell a is beside the wave cell, the corner b beside the wall
+-- the wave cell `from` meets the wall x in direction d, and tries a side: cell a is beside the wave cell, the corner b beside the wall
 pub record Found (walls : ℕ → Bool) (from : ℕ) (d : CompassDir) (x : FieldCell) (side : CompassDir) (a b : FieldCell) : Type 0 where
   pub ahead : stepped (cellAt from) d ≡ Cell x
   pub wall : walls (indexOf x) ≡ true
@@ -89,7 +89,7 @@ module _ {cornerLine : ℕ → List ℕ} {wave : ℕ} {walls : ℕ → Bool} {Fr
   unfolding extended
   kept-extended corner s p f h = kept-line (cornerLine corner) 0 corner s p f (omega arith)
 
-  -- the wave cell looks at a wall, in one of the four directions
+  -- the wave cell meets a wall, in one of the four directions
   module _ (from : ℕ) (d : CompassDir) (x : FieldCell) (inWave : From from) (side-way : isSide d ≡ true)
       (ahead : stepped (cellAt from) d ≡ Cell x) (wall : walls (indexOf x) ≡ true) where
     pub kept-side : (side : CompassDir) (s : Sight) → Sideways d side → P s → P (sideTried cornerLine wave from (indexOf x) side s)
@@ -130,8 +130,8 @@ module _ {cornerLine : ℕ → List ℕ} {wave : ℕ} {walls : ℕ → Bool} {Fr
 
   module _ (from : ℕ) (inWave : From from) where
     pub kept-neighbour : (d : CompassDir) (n : FieldCell) (s : Sight) → isSide d ≡ true → stepped (cellAt from) d ≡ Cell n → P s
-        → P (neighbourLooked cornerLine wave from d (indexOf n) s)
-    unfolding neighbourLooked
+        → P (spreadTo cornerLine wave from d (indexOf n) s)
+    unfolding spreadTo
     kept-neighbour d n s o e p = go (isBlocked x) refl (isGoal x) refl (isImpassable x) refl (isLos x) refl
       where
         x : ℕ
@@ -145,18 +145,18 @@ module _ {cornerLine : ℕ → List ℕ} {wave : ℕ} {walls : ℕ → Bool} {Fr
         go false eb false eg false ew true el = p
         go false eb false eg false ew false el = k .sees from d n s p inWave o e (record { los-is = el; goal-is = eg; blocked-is = eb; impassable-is = ew })
 
-    pub kept-looked : (d : CompassDir) (s : Sight) → isSide d ≡ true → P s → P (looked cornerLine wave from d (stepped (cellAt from) d) s)
-    kept-looked d s o p = go (stepped (cellAt from) d) refl
+    pub kept-towards : (d : CompassDir) (s : Sight) → isSide d ≡ true → P s → P (spreadTowards cornerLine wave from d (stepped (cellAt from) d) s)
+    kept-towards d s o p = go (stepped (cellAt from) d) refl
       where
-        go : (n : Stepped) → stepped (cellAt from) d ≡ n → P (looked cornerLine wave from d n s)
+        go : (n : Stepped) → stepped (cellAt from) d ≡ n → P (spreadTowards cornerLine wave from d n s)
         go (Cell n) e = kept-neighbour d n s o e p
         go Outside e = p
 
-    pub kept-around : (s : Sight) → P s → P (lookedAround cornerLine wave from orthogonal s)
-    unfolding lookedAround
-    kept-around s p = kept-looked West _ refl (kept-looked South _ refl (kept-looked East _ refl (kept-looked North s refl p)))
+    pub kept-around : (s : Sight) → P s → P (spreadAround cornerLine wave from orthogonal s)
+    unfolding spreadAround
+    kept-around s p = kept-towards West _ refl (kept-towards South _ refl (kept-towards East _ refl (kept-towards North s refl p)))
 
-  pub kept-wave : (ns : List ℕ) (s : Sight) → Each From ns → P s → P (waveLooked cornerLine wave ns s)
-  unfolding waveLooked
+  pub kept-wave : (ns : List ℕ) (s : Sight) → Each From ns → P s → P (waveSpread cornerLine wave ns s)
+  unfolding waveSpread
   kept-wave [] s f p = p
-  kept-wave (n ∷ ns) s f p = kept-wave ns (lookedAround cornerLine wave n orthogonal s) (λ i h. f (suc i) (omega arith)) (kept-around n (f 0 (omega arith)) s p)
+  kept-wave (n ∷ ns) s f p = kept-wave ns (spreadAround cornerLine wave n orthogonal s) (λ i h. f (suc i) (omega arith)) (kept-around n (f 0 (omega arith)) s p)

@@ -44,9 +44,9 @@ module _ (goal corner : ℕ) (corner-in : corner < 100) where
   in-sector i h = rw (at i) (index-below (getD cells i (cell 0 0)) (inside-at i h))
 
   passes : (corner ≡ goal → ⊥) → (i : ℕ) → i < length (cornerLine goal corner) → getD (cornerLine goal corner) i 0 ≡ goal → ⊥
-  passes apart i h e =
+  passes not-goal i h e =
       misses-goal (cellAt corner) (cellAt goal) (getD cells i (cell 0 0)) from-inside
-      (λ q. apart (sym (index-of-cell corner) ∙ ap indexOf q ∙ index-of-cell goal))
+      (λ q. not-goal (sym (index-of-cell corner) ∙ ap indexOf q ∙ index-of-cell goal))
       (line-spanned (cellAt corner) end i (omega (arith, as-long)))
       (sym (cell-of-index (getD cells i (cell 0 0)) (inside-at i h)) ∙ ap cellAt (sym (at i) ∙ e))
 

@@ -51,8 +51,8 @@ module _ (s : Sight) (r : Room s) where
       omega (arith, queue-count, count-room isKnown (s .cells) n (omega (arith, r .full)) e, r .full)
 
   -- an entry with a test that fails is none of those that pass it
-  apart : (f : ℕ → Bool) (n : ℕ) → f (getD (s .cells) n 0) ≡ false → (m : ℕ) → f (getD (s .cells) m 0) ≡ true → m ≡ n → ⊥
-  apart f n e m t q = true≢false (sym t ∙ ap (λ (i : ℕ). f (getD (s .cells) i 0)) q ∙ e)
+  differs : (f : ℕ → Bool) (n : ℕ) → f (getD (s .cells) n 0) ≡ false → (m : ℕ) → f (getD (s .cells) m 0) ≡ true → m ≡ n → ⊥
+  differs f n e m t q = true≢false (sym t ∙ ap (λ (i : ℕ). f (getD (s .cells) i 0)) q ∙ e)
 
   -- a word written passes a test that each word before it passed
   still : (f : ℕ → Bool) (n v m : ℕ) → n < 100 → f v ≡ true → f (getD (s .cells) m 0) ≡ true → f (getD (set (s .cells) n v) m 0) ≡ true
@@ -73,7 +73,7 @@ module _ (s : Sight) (r : Room s) where
         corner-blocked = each-more (s .corners) n (λ m. isBlocked (getD (set (s .cells) n w) m 0) ≡ true)
             (λ i k. still isBlocked n w _ h b (r .corner-blocked i k))
             (at-set (λ x. isBlocked x ≡ true) (s .cells) n w n (omega (arith, r .full)) (λ q. b) (λ q. absurd (q refl)));
-        corner-once = once-more (s .corners) n (r .corner-once) (λ i k. apart isBlocked n e _ (r .corner-blocked i k));
+        corner-once = once-more (s .corners) n (r .corner-once) (λ i k. differs isBlocked n e _ (r .corner-blocked i k));
         queued-in = r .queued-in;
         queued-known = λ i k. still isKnown n w _ h (known-corner value v) (r .queued-known i k);
         queued-once = r .queued-once;
@@ -90,13 +90,13 @@ module _ (s : Sight) (r : Room s) where
         full = length-set (s .cells) n w ∙ r .full;
         corner-in = r .corner-in;
         corner-blocked = λ i k. at-set (λ x. isBlocked x ≡ true) (s .cells) n w _ (omega (arith, r .full))
-            (λ q. absurd (apart isBlocked n b _ (r .corner-blocked i k) q)) (λ q. r .corner-blocked i k);
+            (λ q. absurd (differs isBlocked n b _ (r .corner-blocked i k) q)) (λ q. r .corner-blocked i k);
         corner-once = r .corner-once;
         queued-in = each-more (s .queue) n (λ m. m < 100) (r .queued-in) h;
         queued-known = each-more (s .queue) n (λ m. isKnown (getD (set (s .cells) n w) m 0) ≡ true)
             (λ i k. still isKnown n w _ h (known-seen wave v) (r .queued-known i k))
             (at-set (λ x. isKnown x ≡ true) (s .cells) n w n (omega (arith, r .full)) (λ q. known-seen wave v) (λ q. absurd (q refl)));
-        queued-once = once-more (s .queue) n (r .queued-once) (λ i k. apart isKnown n e _ (r .queued-known i k));
+        queued-once = once-more (s .queue) n (r .queued-once) (λ i k. differs isKnown n e _ (r .queued-known i k));
         seen-open = open-still n w h (seen-flags wave v .impassable-is);
       }
 

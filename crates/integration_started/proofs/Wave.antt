@@ -62,12 +62,12 @@ module _ (goal : ℕ) (walls : ℕ → Bool) where
       → Room (record { cells = set (s .cells) n v; corners = corners; queue = queue })
       → ((i : ℕ) → i < 100 → isBlocked (getD (set (s .cells) n v) i 0) ≡ true → Among i corners)
       → Sound (record { cells = set (s .cells) n v; corners = corners; queue = queue })
-  sound-written s p n v corners queue h apart w f c room all =
+  sound-written s p n v corners queue h not-goal w f c room all =
       let fits : n < length (s .cells) = omega (arith, p .room .full) in
       record {
         room = room;
         same = walls-stay walls (s .cells) n v fits (p .same) w f;
-        at-goal = at-set (λ x. x ≡ 0x20000) (s .cells) n v goal fits (λ q. absurd (apart (sym q))) (λ q. p .at-goal);
+        at-goal = at-set (λ x. x ≡ 0x20000) (s .cells) n v goal fits (λ q. absurd (not-goal (sym q))) (λ q. p .at-goal);
         at-wall = λ i k t. at-set (λ x. x ≡ 0x200FFFF) (s .cells) n v i fits
             (λ q. absurd (true≢false (sym t ∙ ap walls q ∙ sym (p .same n) ∙ w)))
             (λ q. p .at-wall i k t);
@@ -77,8 +77,8 @@ module _ (goal : ℕ) (walls : ℕ → Bool) where
 
   pub sound-listed : (s : Sight) → Sound s → (value n : ℕ) → n < 100 → (n ≡ goal → ⊥) → value ≤ 110 → wallAt (s .cells) n ≡ false
       → isBlocked (getD (s .cells) n 0) ≡ false → Sound (listed value n s)
-  sound-listed s p value n h apart v w b =
-      sound-written s p n (cornerWord value) (s .corners ++ n ∷ []) (s .queue) h apart w (corner-flags value (omega arith) .impassable-is) (corner value v refl)
+  sound-listed s p value n h not-goal v w b =
+      sound-written s p n (cornerWord value) (s .corners ++ n ∷ []) (s .queue) h not-goal w (corner-flags value (omega arith) .impassable-is) (corner value v refl)
       (room-listed s (p .room) value n h (omega arith) b)
       (λ i k. at-set (λ x. isBlocked x ≡ true → Among i (s .corners ++ n ∷ [])) (s .cells) n (cornerWord value) i (omega (arith, p .room .full))
       (λ q e. subst (λ m. Among m (s .corners ++ n ∷ [])) (sym q) (among-last n (s .corners)))

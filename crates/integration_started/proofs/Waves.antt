@@ -19,7 +19,7 @@ use Rattle.fields.specs.declared.Stepped.the-variants.{Cell}
 use Rattle.fields.specs.Cell.{cellAt, indexOf, stepped}
 use Rattle.integration_field.specs.Word.{isLos, isGoal, isBlocked, isImpassable}
 use Rattle.integration_field.specs.Diagonal.{wallAt}
-use Rattle.integration_started.specs.Sight.{walls, withGoal, Sight, begun, waveLooked, sightAfter}
+use Rattle.integration_started.specs.Sight.{walls, withGoal, Sight, begun, waveSpread, sightAfter}
 use Rattle.integration_started.specs.Lines.{Lines}
 use Rattle.integration_started.specs.Room.{Room}
 use Rattle.integration_started.specs.Sizes.{Sizes}
@@ -43,10 +43,10 @@ sound-begins goal walls s p =
 module _ (cornerLine : ℕ → List ℕ) (cells : List ℕ) (goal : ℕ) where
   pub one-more : (k : ℕ) → sightAfter cornerLine cells goal k .queue ≡ []
       → sightAfter cornerLine cells goal (suc k) ≡ sightAfter cornerLine cells goal k
-  unfolding sightAfter waveLooked
+  unfolding sightAfter waveSpread
   one-more k e =
       let s = sightAfter cornerLine cells goal k in
-      ap (λ (q : List ℕ). waveLooked cornerLine (suc k) q (begun s)) e
+      ap (λ (q : List ℕ). waveSpread cornerLine (suc k) q (begun s)) e
       ∙ ap (λ (q : List ℕ). record { cells = s .cells; corners = s .corners; queue = q }) (sym e)
 
   pub ended : (k n : ℕ) → k ≤ n → sightAfter cornerLine cells goal k .queue ≡ []
@@ -119,14 +119,14 @@ module _ (goal : ℕ) (goal-in : goal < 100) (costs : List ℕ) (hundred : lengt
     abbrev Blocked : ℕ → Type 0
     Blocked c = Hiding c × (wallsOf c ≡ false)
 
-    abbrev Apart : ℕ → Type 0
-    Apart n = Hiding n → ⊥
+    abbrev NotHiding : ℕ → Type 0
+    NotHiding n = Hiding n → ⊥
 
     -- what wave k leaves
     record Left (k : ℕ) (s : Sight) : Type 0 where
       sound : Sound goal wallsOf s
       met-queued : 0 < length (s .queue) → k + 2 ≤ met goal wallsOf s
-      all-apart : Each Apart (s .queue)
+      none-hiding : Each NotHiding (s .queue)
       stays : (c : ℕ) → c < 100 → Blocked c → isBlocked (getD (s .cells) c 0) ≡ true
 
     start-first : First goal goal-in wallsOf cornerLine lines Never Never start
@@ -140,17 +140,17 @@ module _ (goal : ℕ) (goal-in : goal < 100) (costs : List ℕ) (hundred : lengt
     }
 
     first-left : Left 1 (sight 1)
-    unfolding sightAfter waveLooked
+    unfolding sightAfter waveSpread
     first-left =
         let p = kept-around (first-keeps goal goal-in wallsOf cornerLine lines Never Never) goal refl start start-first in
         record {
           sound = p .sound;
           met-queued = λ h. first-meets goal goal-in wallsOf cornerLine lines start start-first;
-          all-apart = λ i h q. hides-even goal goal-in wallsOf _ q (p .all-next i h);
+          none-hiding = λ i h q. hides-even goal goal-in wallsOf _ q (p .all-next i h);
           stays = λ c h q. first-blocks goal goal-in wallsOf cornerLine lines c h (q .0) (q .1) start start-first;
         }
 
-    away : (from : ℕ) (d : CompassDir) (x : FieldCell) (side : CompassDir) (a b : FieldCell) → Apart from → isSide d ≡ true
+    away : (from : ℕ) (d : CompassDir) (x : FieldCell) (side : CompassDir) (a b : FieldCell) → NotHiding from → isSide d ≡ true
         → Found wallsOf from d x side a b → indexOf b ≡ goal → ⊥
     away from d x side a b f o g e = f (record {
       way = d;
@@ -161,27 +161,27 @@ module _ (goal : ℕ) (goal-in : goal < 100) (costs : List ℕ) (hundred : lengt
       found = goal-found goal goal-in wallsOf from d x side a b g e;
     })
 
-    next : (from : ℕ) (d : CompassDir) (n : FieldCell) → Apart from → isSide d ≡ true → stepped (cellAt from) d ≡ Cell n
-        → wallsOf (indexOf n) ≡ false → (Blocked (indexOf n) → ⊥) → Apart (indexOf n)
+    next : (from : ℕ) (d : CompassDir) (n : FieldCell) → NotHiding from → isSide d ≡ true → stepped (cellAt from) d ≡ Cell n
+        → wallsOf (indexOf n) ≡ false → (Blocked (indexOf n) → ⊥) → NotHiding (indexOf n)
     next from d n f o e w b h = b (h, w)
 
-    left-wave : (k : ℕ) (s : Sight) → Left k s → Left (suc k) (waveLooked cornerLine (suc k) (s .queue) (begun s))
-    unfolding waveLooked
+    left-wave : (k : ℕ) (s : Sight) → Left k s → Left (suc k) (waveSpread cornerLine (suc k) (s .queue) (begun s))
+    unfolding waveSpread
     left-wave k s l = go (s .queue) refl
       where
-        go : (q : List ℕ) → s .queue ≡ q → Left (suc k) (waveLooked cornerLine (suc k) q (begun s))
+        go : (q : List ℕ) → s .queue ≡ q → Left (suc k) (waveSpread cornerLine (suc k) q (begun s))
         go [] e = record {
           sound = sound-begins goal wallsOf s (l .sound);
           met-queued = λ h. absurd (omega arith);
-          all-apart = λ i h. absurd (omega arith);
+          none-hiding = λ i h. absurd (omega arith);
           stays = l .stays;
         }
         go (n ∷ ns) e =
             let some : 0 < length (s .queue) = omega (arith, ap length e) in
             let least : k + 2 ≤ met goal wallsOf s = l .met-queued some in
             let few : suc k ≤ 100 = omega (arith, count-length isMet (s .cells), l .sound .room .full) in
-            let p = kept-wave (wave-keeps goal wallsOf cornerLine lines (suc k) (k + 2) (omega arith) few (omega arith) Apart Apart Blocked Never away next)
-            (n ∷ ns) (begun s) (subst (Each Apart) e (l .all-apart))
+            let p = kept-wave (wave-keeps goal wallsOf cornerLine lines (suc k) (k + 2) (omega arith) few (omega arith) NotHiding NotHiding Blocked Never away next)
+            (n ∷ ns) (begun s) (subst (Each NotHiding) e (l .none-hiding))
             (record {
               sound = sound-begins goal wallsOf s (l .sound);
               met-least = least;
@@ -190,7 +190,7 @@ module _ (goal : ℕ) (goal-in : goal < 100) (costs : List ℕ) (hundred : lengt
               stays = l .stays;
               stays-met = λ c h q. absurd q;
             }) in
-            record { sound = p .sound; met-queued = λ h. omega (arith, p .met-queued h); all-apart = p .all-next; stays = p .stays }
+            record { sound = p .sound; met-queued = λ h. omega (arith, p .met-queued h); none-hiding = p .all-next; stays = p .stays }
 
     left : (k : ℕ) → Left (suc k) (sight (suc k))
     unfolding sightAfter

@@ -96,27 +96,27 @@ module _ (cornerLine : ℕ → List ℕ) where
   wallMet wave from wall d s = sideTried wave from wall (opposite (lowerSide d)) (sideTried wave from wall (lowerSide d) s)
 
   -- BLOCKED or GOAL: nothing. Wall: its sides. Otherwise, if not LOS: in sight.
-  unfoldable pub neighbourLooked : ℕ → ℕ → CompassDir → ℕ → Sight → Sight
-  neighbourLooked wave from d n s =
+  unfoldable pub spreadTo : ℕ → ℕ → CompassDir → ℕ → Sight → Sight
+  spreadTo wave from d n s =
       let x = getD (s .cells) n 0 in
       cond (isBlocked x || isGoal x) s (cond (isImpassable x) (wallMet wave from n d s) (cond (isLos x) s (seen wave n s)))
 
-  -- a look at where a step arrives, if inside
-  abbrev pub looked : ℕ → ℕ → CompassDir → Stepped → Sight → Sight
-  looked wave from d (Cell n) s = neighbourLooked wave from d (indexOf n) s
-  looked wave from d Outside s = s
+  -- to where a step arrives, if inside
+  abbrev pub spreadTowards : ℕ → ℕ → CompassDir → Stepped → Sight → Sight
+  spreadTowards wave from d (Cell n) s = spreadTo wave from d (indexOf n) s
+  spreadTowards wave from d Outside s = s
 
   -- neighbours N, E, S, W
-  unfoldable pub lookedAround : ℕ → ℕ → List CompassDir → Sight → Sight
-  lookedAround wave from [] s = s
-  lookedAround wave from (d ∷ ds) s = lookedAround wave from ds (looked wave from d (stepped (cellAt from) d) s)
+  unfoldable pub spreadAround : ℕ → ℕ → List CompassDir → Sight → Sight
+  spreadAround wave from [] s = s
+  spreadAround wave from (d ∷ ds) s = spreadAround wave from ds (spreadTowards wave from d (stepped (cellAt from) d) s)
 
   -- the cells of a wave, in the order in which they were queued
-  unfoldable pub waveLooked : ℕ → List ℕ → Sight → Sight
-  waveLooked wave [] s = s
-  waveLooked wave (i ∷ is) s = waveLooked wave is (lookedAround wave i orthogonal s)
+  unfoldable pub waveSpread : ℕ → List ℕ → Sight → Sight
+  waveSpread wave [] s = s
+  waveSpread wave (i ∷ is) s = waveSpread wave is (spreadAround wave i orthogonal s)
 
   -- Waves from the goal, first wave cost 1: what wave k leaves. Wave 0 is the goal; each later wave begins with an empty queue.
   unfoldable pub sightAfter : List ℕ → ℕ → ℕ → Sight
   sightAfter cells goal zero = record { cells = withGoal goal cells; corners = []; queue = goal ∷ [] }
-  sightAfter cells goal (suc k) = let s = sightAfter cells goal k in waveLooked (suc k) (s .queue) (begun s)
+  sightAfter cells goal (suc k) = let s = sightAfter cells goal k in waveSpread (suc k) (s .queue) (begun s)

@@ -16,6 +16,6 @@ module _ (cornerLine : ℕ → List ℕ) (cells : List ℕ) (goal : ℕ) where
     pub corner-once : (k i j : ℕ) → i < j → j < length (after k .corners) → getD (after k .corners) i 0 ≡ getD (after k .corners) j 0 → ⊥
     pub corners-fit : (k : ℕ) → length (after k .corners) ≤ 100
     pub queue-fits : (k : ℕ) → length (after k .queue) ≤ 100
-    -- sight ends before its 100th wave: wave 99 leaves none to look from
+    -- sight ends before its 100th wave: wave 99 leaves none to spread from
     pub ends : (k : ℕ) → 99 ≤ k → after k .queue ≡ []
     pub same : (k : ℕ) → 100 ≤ k → after k ≡ after 100

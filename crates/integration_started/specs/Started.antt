@@ -16,7 +16,7 @@ use Rattle.integration_started.specs.Sight.{walls, withPortals, withGoal
 use Rattle.integration_started.specs.CornerLine.{cornerLine}
 use Rattle.integration_started.specs.StartedCell.{GoalStarted, WindowStarted, CornerStarted}
 
--- Sight from a goal, after wave 100: no cell is left to look from, and every later wave leaves the same (`StartedField`, `sight-over`).
+-- Sight from a goal, after wave 100: no cell is left to spread from, and every later wave leaves the same (`StartedField`, `sight-over`).
 unfoldable pub sightFrom : List ℕ → ℕ → Sight
 sightFrom costs goal = sightAfter (cornerLine goal) (walls costs) goal 100
 

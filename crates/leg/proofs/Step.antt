@@ -42,9 +42,9 @@ in-floor step accepted = accepted-step step accepted .sector-in
 
 pub made-target : (sight : Bool) (step : List ℕ) → stepNumber step ≡ 0 → (has : Bool) (previous : List ℕ) {s : RouteStep} {t : program.Target}
     → s ≡ routeStep step → t ≡ listedTarget (routeLegTarget s sight has previous) → StepTarget sight step has previous t
-made-target sight step accepted has previous {s} {t} apart made =
+made-target sight step accepted has previous {s} {t} parsed made =
     let target = legTarget sight has previous step in
-    let is : t ≡ listedTarget target = made-is step sight has previous apart made in
+    let is : t ≡ listedTarget target = made-is step sight has previous parsed made in
     record {
       is = ap heldTarget is ∙ held-listed target;
       held = subst TargetHeld (sym is) (listed-held target (leg-target-in sight has previous step accepted));
@@ -60,10 +60,10 @@ pub wrote-step : (sight : Bool) (floor step : List ℕ) (has : Bool) (previous s
     → bytes ≡ flowBytes (s .portal) (heldCells (t .window)) cells has previous
     → (w : ℕ) → w ≡ sectorOf step → (n : ℕ) → n ≡ 100
     → take (w * 100) sheet ++ (bytes ++ drop n (drop (w * 100) sheet)) ≡ withPart sheet (sectorOf step) (stepBytes sight floor has previous step)
-wrote-step sight floor step has previous sheet {t} target {s} apart cells bytes p q w e n f =
+wrote-step sight floor step has previous sheet {t} target {s} parsed cells bytes p q w e n f =
     let costs = part floor (sectorOf step) in
     let written = run-bytes costs (heldTarget t) (s .portal) has previous cells (heldCells (t .window)) bytes p (sym (held-window t (target .held))) q
-    ∙ ap₂ (λ (u : Target) (v : PortalWindow). sectorBytes costs u v has previous) (target .is) (ap (λ (r : RouteStep). r .portal) apart) in
+    ∙ ap₂ (λ (u : Target) (v : PortalWindow). sectorBytes costs u v has previous) (target .is) (ap (λ (r : RouteStep). r .portal) parsed) in
     rw (e, f) (ap₂ (λ (x y : List ℕ). take (sectorOf step * 100) sheet ++ (x ++ y)) written (drop-drop 100 (sectorOf step * 100) sheet))
 
 -- ---- step after step

@@ -26,7 +26,7 @@ ghost use Rattle.sectors.specs.Floor.{across};
 ghost use Rattle.step_list.specs.Steps.{stepsOf};
 ghost use Rattle.leg_plan.specs.Closed.{LegClosed};
 ghost use Rattle.leg_plan.specs.Walls.{LegOnWall};
-ghost use Rattle.leg_plan.specs.Leg.{names, namesTwice, someGoal, outOfOrder, isSector, apart, floorNumber, eachRows, judgedRows};
+ghost use Rattle.leg_plan.specs.Leg.{names, namesTwice, someGoal, outOfOrder, isSector, disconnected, floorNumber, eachRows, judgedRows};
 ghost use Rattle.leg_plan.specs.Leg.{part, stepField, stepBytes, someClosed, withPart, planned, legNumber, legSheet, legNumberBy, legSheetBy};
 ghost use Rattle.leg_plan.specs.Inner.{LegReady};
 ghost use Rattle.leg_plan.specs.Promise.{LegPlanned, LegPlannedBy};
@@ -137,9 +137,9 @@ fn faces(sector: u8, boundary: u8, other: u8) -> bool
 }
 
 // Number 10's condition: across the boundary of a later step lies another sector than that of the step before, or none.
-fn is_apart(steps: &[u8]) -> bool
+fn is_disconnected(steps: &[u8]) -> bool
     requires { ⌜ 8 ≤ length (now steps) ⌝ }
-    ensures { λ r. ⌜ r ≡ apart (stepsOf (now (steps .entry))) ⌝ }
+    ensures { λ r. ⌜ r ≡ disconnected (stepsOf (now (steps .entry))) ⌝ }
 {
     let count = steps.len() / STEP_LENGTH;
     let mut k = 1;
@@ -178,7 +178,7 @@ pub fn leg_number(floor: &[u8], steps: &[u8], sheet_length: usize) -> u8
     if is_out_of_order(steps) {
         return 9;
     }
-    if is_apart(steps) {
+    if is_disconnected(steps) {
         return 10;
     }
     0

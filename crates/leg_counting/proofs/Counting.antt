@@ -2,7 +2,7 @@
 --     counting-in      the cells of its window that count are cells of the sector, no cell twice, at most 10
 --     leg-target-in    so the target of a step that is not refused is inside the sector
 --     leg-target-on    and its window cells lie on the edge of the step's boundary
---     made-is          and it is what the program makes of the step taken apart
+--     made-is          and it is what the program makes of the parsed step
 --     closed-listed    in the program: a window is closed exactly if it has no cells
 -- Assumes nothing.
 use mathlib.Core.Path.{_≡_, refl, ap, _∙_}
@@ -50,8 +50,8 @@ same-target step sight true previous = refl
 pub made-is : {s : RouteStep} {t : program.Target} (step : List ℕ) (sight has : Bool) (previous : List ℕ)
     → s ≡ routeStep step → t ≡ listedTarget (routeLegTarget s sight has previous)
     → t ≡ listedTarget (legTarget sight has previous step)
-made-is step sight has previous apart made =
-    made ∙ ap (λ (r : RouteStep). listedTarget (routeLegTarget r sight has previous)) apart ∙ ap listedTarget (same-target step sight has previous)
+made-is step sight has previous parsed made =
+    made ∙ ap (λ (r : RouteStep). listedTarget (routeLegTarget r sight has previous)) parsed ∙ ap listedTarget (same-target step sight has previous)
 
 pub closed-listed : (target : Target) → (listedTarget target .«has_window» && eqb (listedTarget target .window .count) 0) ≡ isClosed target
 closed-listed (to-goal n) = refl

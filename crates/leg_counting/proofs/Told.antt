@@ -69,36 +69,36 @@ turned : {x y : ℕ} → AtMostNext x y → AtMostNext y x
 turned n = record { row-up = n .row-down; row-down = n .row-up; column-left = n .column-right; column-right = n .column-left }
 
 -- of two cells of one edge: the stride lies between them; and it is all that does exactly if they are next to each other
-pub record Apart (side : CompassDir) (x y : ℕ) : Type 0 where
-  pub apart : x + stride side ≤ y
+pub record Ahead (side : CompassDir) (x y : ℕ) : Type 0 where
+  pub stride-ahead : x + stride side ≤ y
   pub next-stride : AtMostNext x y → y ≡ x + stride side
   pub stride-next : y ≡ x + stride side → AtMostNext x y
   pub on-after : onEdge side (x + stride side) ≡ true
   pub on-before : onEdge side (y - stride side) ≡ true
 
 module _ (side : CompassDir) (x y : ℕ) (h : y < 100) (l : x < y) where
-  along-row : (r : ℕ) → stride side ≡ 1 → ((i : ℕ) → onEdge side i ≡ eqb (i / 10) r) → x / 10 ≡ r → y / 10 ≡ r → Apart side x y
+  along-row : (r : ℕ) → stride side ≡ 1 → ((i : ℕ) → onEdge side i ≡ eqb (i / 10) r) → x / 10 ≡ r → y / 10 ≡ r → Ahead side x y
   along-row r d on u v = record {
-    apart = omega (arith, d);
+    stride-ahead = omega (arith, d);
     next-stride = λ n. omega (arith, d, n .column-right);
     stride-next = λ p. near (omega arith) (omega arith) (omega (arith, d)) (omega (arith, d));
     on-after = on (x + stride side) ∙ eq-eqb ((x + stride side) / 10) r (omega (arith, d));
     on-before = on (y - stride side) ∙ eq-eqb ((y - stride side) / 10) r (omega (arith, d));
   }
 
-  along-column : (c : ℕ) → stride side ≡ 10 → ((i : ℕ) → onEdge side i ≡ eqb (i % 10) c) → x % 10 ≡ c → y % 10 ≡ c → Apart side x y
+  along-column : (c : ℕ) → stride side ≡ 10 → ((i : ℕ) → onEdge side i ≡ eqb (i % 10) c) → x % 10 ≡ c → y % 10 ≡ c → Ahead side x y
   along-column c d on u v = record {
-    apart = omega (arith, d);
+    stride-ahead = omega (arith, d);
     next-stride = λ n. omega (arith, d, n .row-down);
     stride-next = λ p. near (omega (arith, d)) (omega (arith, d)) (omega arith) (omega arith);
     on-after = on (x + stride side) ∙ eq-eqb ((x + stride side) % 10) c (omega (arith, d));
     on-before = on (y - stride side) ∙ eq-eqb ((y - stride side) % 10) c (omega (arith, d));
   }
 
-pairs : (side : CompassDir) (x y : ℕ) → y < 100 → onEdge side x ≡ true → onEdge side y ≡ true → x < y → Apart side x y
+pairs : (side : CompassDir) (x y : ℕ) → y < 100 → onEdge side x ≡ true → onEdge side y ≡ true → x < y → Ahead side x y
 unfolding onEdge
 pairs side x y h e f l =
-    by-edge (λ s. onEdge s y ≡ true → Apart s x y) side x e
+    by-edge (λ s. onEdge s y ≡ true → Ahead s x y) side x e
     (λ u q. along-row North x y h l 0 refl (λ i. refl) u (eqb-true (y / 10) 0 q))
     (λ u q. along-column East x y h l 9 refl (λ i. refl) u (eqb-true (y % 10) 9 q))
     (λ u q. along-row South x y h l 9 refl (λ i. refl) u (eqb-true (y / 10) 9 q))
@@ -174,15 +174,15 @@ module _ (step previous : List ℕ) (good : stepNumber step ≡ 0) (on : isWindo
       lower : (eqb x (firstOf step) ≡ false) × (facingValue previous side (x - stride side) < 65535) → CountingCell step previous x
       lower s =
           let p = pairs side (firstOf step) x (c .inside) (w .first-on) (on-side c) (omega (arith, c .from, eqb-false x (firstOf step) (s .0))) in
-          let back : x ≡ x - stride side + stride side = omega (arith, p .apart) in
-          let d = in-window (c .mark) (x - stride side) (omega (arith, c .inside)) (p .on-before) (omega (arith, p .apart)) (omega (arith, c .to)) in
-          let q = pairs side (x - stride side) x (c .inside) (p .on-before) (on-side c) (omega (arith, p .apart, stride-within side .0)) in
+          let back : x ≡ x - stride side + stride side = omega (arith, p .stride-ahead) in
+          let d = in-window (c .mark) (x - stride side) (omega (arith, c .inside)) (p .on-before) (omega (arith, p .stride-ahead)) (omega (arith, c .to)) in
+          let q = pairs side (x - stride side) x (c .inside) (p .on-before) (on-side c) (omega (arith, p .stride-ahead, stride-within side .0)) in
           by-cell c (x - stride side) d (turned (q .stride-next back)) (s .1)
 
       higher : (eqb x (lastOf step) ≡ false) × (facingValue previous side (x + stride side) < 65535) → CountingCell step previous x
       higher s =
           let p = pairs side x (lastOf step) (w .last-in) (on-side c) (w .last-on) (omega (arith, c .to, eqb-false x (lastOf step) (s .0))) in
-          let d = in-window (c .mark) (x + stride side) (omega (arith, p .apart, w .last-in)) (p .on-after) (omega (arith, c .from)) (p .apart) in
+          let d = in-window (c .mark) (x + stride side) (omega (arith, p .stride-ahead, w .last-in)) (p .on-after) (omega (arith, c .from)) (p .stride-ahead) in
           let q = pairs side x (x + stride side) (d .inside) (on-side c) (p .on-after) (omega (arith, stride-within side .0)) in
           by-cell c (x + stride side) d (q .stride-next refl) (s .1)
 

@@ -1,4 +1,4 @@
--- A step's target in a leg, of the step taken apart: for the contracts of this crate's functions.
+-- A step's target in a leg, of the parsed step: for the contracts of this crate's functions.
 -- Assumes nothing.
 use mathlib.Core.Bool.{Bool, true, false}
 use mathlib.Core.List.{List}

@@ -25,7 +25,7 @@ use Rattle.integration_field.proofs.Answers.{build-refused}
 use Rattle.integration_started.specs.Started.{started}
 use Rattle.integration_walks.proofs.Promise.{demand3, started-positions}
 use Rattle.step_list.specs.Steps.{stepsOf}
-use Rattle.leg_plan.specs.Leg.{eachRows, outOfOrder, apart, someClosed, judgedRows, legNumberBy}
+use Rattle.leg_plan.specs.Leg.{eachRows, outOfOrder, disconnected, someClosed, judgedRows, legNumberBy}
 use Rattle.leg_plan.specs.Promise.{sectorAt, costsAt, targetAt}
 use Rattle.leg_plan.proofs.Numbers.{Judged, judged, rows-first, closed-15, open-0, ready}
 use Rattle.leg_plan.proofs.Closed.{each-is}
@@ -57,7 +57,7 @@ module _ (floor steps : List ℕ) (place : ℕ) where
     place-in = go (eqb (length floor) 6400) (noStepList steps) (leb (length (stepsOf steps)) place) refl z
       where
         rest : ℕ
-        rest = firstNumber (eachRows floor (stepsOf steps) ++ (row 9 (outOfOrder (stepsOf steps)) ∷ row 10 (apart (stepsOf steps)) ∷ []))
+        rest = firstNumber (eachRows floor (stepsOf steps) ++ (row 9 (outOfOrder (stepsOf steps)) ∷ row 10 (disconnected (stepsOf steps)) ∷ []))
 
         go : (a b c : Bool) → leb (length (stepsOf steps)) place ≡ c → cond (not a) 1 (cond b 3 (cond c 21 rest)) ≡ 0 → place < length (stepsOf steps)
         go false b c q e = absurd (omega arith)
@@ -107,7 +107,7 @@ beyond-told sight floor steps place = go (eqb (length floor) 6400) (noStepList s
     each = eachRows floor (stepsOf steps)
 
     order : List Row
-    order = row 9 (outOfOrder (stepsOf steps)) ∷ row 10 (apart (stepsOf steps)) ∷ []
+    order = row 9 (outOfOrder (stepsOf steps)) ∷ row 10 (disconnected (stepsOf steps)) ∷ []
 
     closed : List Row
     closed = row 15 (someClosed sight floor (stepsOf steps)) ∷ []

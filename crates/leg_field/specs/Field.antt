@@ -12,7 +12,7 @@ use Rattle.step_list.specs.Steps.{stepsOf}
 use Rattle.integration_field.specs.declared.BuildAnswer.{BuildAnswer}
 use Rattle.integration_field.specs.Answer.{answerOf}
 use Rattle.integration_started.specs.Started.{started}
-use Rattle.leg_plan.specs.Leg.{eachRows, outOfOrder, apart, someClosed}
+use Rattle.leg_plan.specs.Leg.{eachRows, outOfOrder, disconnected, someClosed}
 use Rattle.leg_plan.specs.Promise.{costsAt, targetAt}
 
 -- the leg's lines without 2, and behind 3 the line 21: a place beyond the list
@@ -21,7 +21,7 @@ fieldRows floor steps place =
     row 1 (not (eqb (length floor) 6400))
     ∷ row 3 (noStepList steps)
     ∷ row 21 (leb (length (stepsOf steps)) place)
-    ∷ (eachRows floor (stepsOf steps) ++ (row 9 (outOfOrder (stepsOf steps)) ∷ row 10 (apart (stepsOf steps)) ∷ []))
+    ∷ (eachRows floor (stepsOf steps) ++ (row 9 (outOfOrder (stepsOf steps)) ∷ row 10 (disconnected (stepsOf steps)) ∷ []))
 
 -- the call's number: that of the first of these lines, and 15 after 10, where a window of any step of the leg has no counting cell
 unfoldable pub fieldNumberBy : Bool → List ℕ → List ℕ → ℕ → ℕ

@@ -67,7 +67,7 @@ fn field_of(floor: &[u8], step: &[u8], target: Target) -> BuildAnswer
     let end = at + 100;
     let costs = &floor[at..end];
     let field = integration_init::start(costs, target);
-    integration_build::built(costs, field)
+    integration_build::build_with_positions(costs, field)
 }
 
 // The call's number: before a step is planned, or 15 where a window of any step is closed, as the leg finds it.

@@ -12,7 +12,7 @@ use Rattle.integration_field.specs.Diagonal.{passesWall}
 use Rattle.integration_field.specs.Wave.{relaxed, offeredAround, offeredBy, changedFrom, next}
 use Rattle.integration_field.specs.Rest.{total}
 use Rattle.integration_field.specs.Build.{isEmpty, settle, build}
-use Rattle.integration_started.specs.Sight.{walls, withPortals, withGoal, seen, neighbourLooked, lookedAround, waveLooked, sightAfter}
+use Rattle.integration_started.specs.Sight.{walls, withPortals, withGoal, seen, spreadTo, spreadAround, waveSpread, sightAfter}
 use Rattle.integration_started.specs.Started.{sightFrom, startedFrom, startedAt, started}
 use Rattle.flow_byte.specs.New.{startOf, facingBits, facingChoice, windowBits, newByte, newBytes}
 use Rattle.flow_byte.specs.Look as look
@@ -42,6 +42,6 @@ pub three-sectors :
     followed after 3 (placeOf 18 5) ∷ followed after 4 (placeOf 18 5) ∷ followed after 14 (placeOf 18 5) ∷ followed after 15 (placeOf 18 5) ∷ []
     ≡ placeOf 18 8 ∷ placeOf 10 99 ∷ placeOf 10 80 ∷ placeOf 9 79 ∷ []
 unfolding onEdge stepped edge cellsBetween targetOf passesWall relaxed offeredAround offeredBy changedFrom next total isEmpty settle build walls
-    withPortals withGoal seen neighbourLooked lookedAround waveLooked sightAfter sightFrom startedFrom startedAt started startOf facingBits facingChoice
+    withPortals withGoal seen spreadTo spreadAround waveSpread sightAfter sightFrom startedFrom startedAt started startOf facingBits facingChoice
     windowBits newByte newBytes look.seen lookAround pointed builtByte flowBuild sectorBytes counts countingCells planned plannedFrom moved followed
 three-sectors = refl

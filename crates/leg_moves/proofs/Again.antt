@@ -21,7 +21,7 @@ use Rattle.leg_moves.specs.Decided.{passed, passed-on, indexIn, index-be
 record Same (m : ℕ) (f : ℕ → ℕ) : Type 0 where
   one : ℕ
   other : ℕ
-  apart : one < other
+  one-first : one < other
   inside : other < m
   same : f one ≡ f other
 
@@ -42,8 +42,8 @@ repeated zero f = inr (λ i j h l e. absurd (omega arith))
 repeated (suc m) f = go (repeated m f) (among m (f m) f)
   where
     go : Same m f ⊎ AllDifferent m f → ((i : ℕ) × (i < m) × (f i ≡ f m)) ⊎ ((i : ℕ) → i < m → f i ≡ f m → ⊥) → Same (suc m) f ⊎ AllDifferent (suc m) f
-    go (inl s) r = inl (record { one = s .one; other = s .other; apart = s .apart; inside = omega (arith, s .inside); same = s .same })
-    go (inr d) (inl t) = inl (record { one = t .0; other = m; apart = t .1; inside = omega arith; same = t .2 })
+    go (inl s) r = inl (record { one = s .one; other = s .other; one-first = s .one-first; inside = omega (arith, s .inside); same = s .same })
+    go (inr d) (inl t) = inl (record { one = t .0; other = m; one-first = t .1; inside = omega arith; same = t .2 })
     go (inr d) (inr u) =
         inr (λ i j h l e. elim (ℕ-discrete j m) [ yes q ↦ u i (omega arith) (e ∙ ap f q) | no q ↦ d i j h (omega arith) e ])
 
@@ -111,10 +111,10 @@ module _ (sheet : List ℕ) where
           let i = s .one in
           let j = s .other in
           let up-to = cut (long .1) j (6400 - j) (omega (arith, s .inside)) .0 in
-          let parts = cut up-to i (j - i) (omega (arith, s .apart)) in
-          let there = cut (long .1) i (6400 - i) (omega (arith, s .apart, s .inside)) .0 in
+          let parts = cut up-to i (j - i) (omega (arith, s .one-first)) in
+          let there = cut (long .1) i (6400 - i) (omega (arith, s .one-first, s .inside)) .0 in
           let back : place j ≡ place i = sym (index-once sheet (place i) (place j) (place-on i) (place-on j) (s .same)) in
-          let count : j - i ≡ suc (j - i - 1) = omega (arith, s .apart) in
+          let count : j - i ≡ suc (j - i - 1) = omega (arith, s .one-first) in
           record {
             first = i;
             more = j - i - 1;

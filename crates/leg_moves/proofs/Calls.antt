@@ -11,7 +11,7 @@ use Rattle.leg_journey.proofs.Places.{on-floor}
 use Rattle.leg_moves.specs.declared.CartMove.{CartMove}
 use Rattle.leg_moves.specs.declared.CartWay.{CartWay}
 use Rattle.leg_moves.specs.Moving.{stillOutcome, byteAt, Still}
-use Rattle.leg_moves.specs.Answers.{cartNumber, placed, moveFrom, moveAnswer, wayFrom, wayAnswer}
+use Rattle.leg_moves.specs.Answers.{cartNumber, acceptedMove, moveFrom, moveAnswer, wayFrom, wayAnswer}
 use Rattle.leg_moves.specs.Promise.{CartNumbered, MoveRefused, WayRefused, MoveTold, WayTold, LegDriven, WayToGoal}
 use Rattle.leg_moves.proofs.Numbers.{taken, numbered}
 use Rattle.leg_moves.proofs.Told.{moved-is, still-is, way-number, move-told, way-told}
@@ -58,10 +58,10 @@ module _ (sheet : List ℕ) (sector cell : ℕ) where
         )
 
     module _ {p : Place} (at : p ≡ at-place) where
-      pub moves : {q : Place} → FloorMove sheet p q → (r : CartMove) → r ≡ placed 1 q → Promised r
+      pub moves : {q : Place} → FloorMove sheet p q → (r : CartMove) → r ≡ acceptedMove 1 q → Promised r
       moves m r e = accepts r (e ∙ sym (moved-is sheet m) ∙ ap (moveFrom sheet) at) (ap (λ (a : CartMove). a .number) e)
 
-      pub stays : Still sheet p → (r : CartMove) → r ≡ placed (stillOutcome (byteAt sheet p)) p → Promised r
+      pub stays : Still sheet p → (r : CartMove) → r ≡ acceptedMove (stillOutcome (byteAt sheet p)) p → Promised r
       stays o r e = accepts r (e ∙ sym (still-is sheet o) ∙ ap (moveFrom sheet) at) (ap (λ (a : CartMove). a .number) e)
 
   -- ---- a way

@@ -17,7 +17,7 @@ use Rattle.leg_journey.proofs.Places.{landed, whole-place}
 use Rattle.leg_moves.specs.Moving.{ReadsGoal, ReadsSight, ReadsNeither, stillOutcome, byteAt, Still, Next, moves-to, stands}
 use Rattle.leg_moves.specs.Moving.{StandsAfter, StandsWhere, Way, stands-after, stands-never}
 use Rattle.leg_moves.specs.Decided.{next, move-once, stands-once, few-moves, way}
-use Rattle.leg_moves.specs.Answers.{placed, moveOf, moveFrom, stood, wayOf, wayFrom}
+use Rattle.leg_moves.specs.Answers.{acceptedMove, moveOf, moveFrom, stood, wayOf, wayFrom}
 use Rattle.leg_moves.specs.Promise.{MoveTold, WayTold}
 use Rattle.leg_moves.proofs.Again.{comes-again, round-never}
 
@@ -44,19 +44,19 @@ module _ (sheet : List ℕ) where
 
   -- ---- the answers
 
-  pub moved-is : {p q : Place} → FloorMove sheet p q → moveFrom sheet p ≡ placed 1 q
+  pub moved-is : {p q : Place} → FloorMove sheet p q → moveFrom sheet p ≡ acceptedMove 1 q
   unfolding moveFrom
   moved-is {p} {q} m = go (next sheet p)
     where
-      go : (n : Next sheet p) → moveOf n ≡ placed 1 q
-      go (moves-to r w) = ap (placed 1) (move-once sheet w m)
+      go : (n : Next sheet p) → moveOf n ≡ acceptedMove 1 q
+      go (moves-to r w) = ap (acceptedMove 1) (move-once sheet w m)
       go (stands o) = absurd (o q m)
 
-  pub still-is : {p : Place} → Still sheet p → moveFrom sheet p ≡ placed (stillOutcome (byteAt sheet p)) p
+  pub still-is : {p : Place} → Still sheet p → moveFrom sheet p ≡ acceptedMove (stillOutcome (byteAt sheet p)) p
   unfolding moveFrom
   still-is {p} o = go (next sheet p)
     where
-      go : (n : Next sheet p) → moveOf n ≡ placed (stillOutcome (byteAt sheet p)) p
+      go : (n : Next sheet p) → moveOf n ≡ acceptedMove (stillOutcome (byteAt sheet p)) p
       go (moves-to r w) = absurd (o r w)
       go (stands u) = refl
 

@@ -19,13 +19,13 @@ cartNumber sheet sector cell = firstNumber (row 2 (not (eqb (length sheet) 6400)
 
 -- ---- one move
 
-abbrev pub placed : ℕ → Place → CartMove
-placed outcome p = record { number = 0; outcome = outcome; sector = sectorIn p; cell = cellIn p }
+abbrev pub acceptedMove : ℕ → Place → CartMove
+acceptedMove outcome p = record { number = 0; outcome = outcome; sector = sectorIn p; cell = cellIn p }
 
 -- moved (1), and the place that the arrow points at; else the cart's own place, and what its byte says
 abbrev pub moveOf : {sheet : List ℕ} {p : Place} → Next sheet p → CartMove
-moveOf (moves-to q m) = placed 1 q
-moveOf {sheet} {p} (stands o) = placed (stillOutcome (byteAt sheet p)) p
+moveOf (moves-to q m) = acceptedMove 1 q
+moveOf {sheet} {p} (stands o) = acceptedMove (stillOutcome (byteAt sheet p)) p
 
 unfoldable pub moveFrom : List ℕ → Place → CartMove
 moveFrom sheet p = moveOf (next sheet p)

@@ -6,7 +6,7 @@ ghost use Prim.Native.Nat.{ℕ, _+_, _*_, _%_, _<_};
 ghost use lib.ListN.{length};
 ghost use Rattle.leg_journey.specs.Place.{OnFloor, placeOf, sectorIn, cellIn, arrowAt};
 ghost use Rattle.leg_moves.specs.Moving.{stillOutcome, byteAt};
-ghost use Rattle.leg_moves.specs.Answers.{cartNumber, placed, stood, moveAnswer, wayFrom, wayAnswer};
+ghost use Rattle.leg_moves.specs.Answers.{cartNumber, acceptedMove, stood, moveAnswer, wayFrom, wayAnswer};
 ghost use Rattle.leg_moves.specs.Promise.{CartNumbered, MoveRefused, WayRefused, MoveTold, WayTold, LegDriven, WayToGoal};
 ghost use Rattle.leg_moves.specs.Inner.{placeAt, LeadsOn};
 
@@ -169,9 +169,9 @@ fn cart_number(sheet_length: usize, sector: u8, cell: u8) -> u8
 }
 
 // An accepted move.
-fn placed_at(outcome: u8, place: Spot) -> CartMove
+fn accepted_move(outcome: u8, place: Spot) -> CartMove
     requires { ⌜ OnFloor (placeAt place) ⌝ }
-    ensures { λ r. ⌜ r ≡ placed outcome (placeAt place) ⌝ }
+    ensures { λ r. ⌜ r ≡ acceptedMove outcome (placeAt place) ⌝ }
 {
     CartMove {
         number: 0,
@@ -201,9 +201,9 @@ pub fn next_move(sheet: &[u8], sector: u8, cell: u8) -> CartMove
     let here = place_of(sector, cell);
     let Onward::To(there) = move_from(sheet, here) else {
         let byte = byte_at(sheet, here);
-        return placed_at(still_outcome(byte), here);
+        return accepted_move(still_outcome(byte), here);
     };
-    placed_at(MOVED, there)
+    accepted_move(MOVED, there)
 }
 
 // An accepted way.

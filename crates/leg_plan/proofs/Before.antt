@@ -14,7 +14,7 @@ use Rattle.route.specs.Step.{sectorOf, isWindow, boundaryOf}
 use Rattle.sectors.specs.declared.Across.{Across}
 use Rattle.sectors.specs.declared.Across.the-variants.{Sector, OffFloor}
 use Rattle.sectors.specs.Floor.{across}
-use Rattle.leg_plan.specs.Leg.{namesTwice, someGoal, outOfOrder, isSector, apartFrom, apart}
+use Rattle.leg_plan.specs.Leg.{namesTwice, someGoal, outOfOrder, isSector, disconnectedFrom, disconnected}
 use Rattle.step_list.specs.Steps.{stepOf}
 use Rattle.leg_plan.specs.Promise.{sectorAt}
 use Rattle.step_list.proofs.Steps.{neither}
@@ -39,16 +39,16 @@ is-sector : (s : ℕ) (a : Across) → isSector s a ≡ true → a ≡ Sector s
 is-sector s (Sector t) e = ap Sector (eqb-true t s e)
 is-sector s OffFloor e = absurd (true≢false (sym e))
 
-from-before : (before : List ℕ) (ss : List (List ℕ)) → apartFrom before ss ≡ false → (k : ℕ) → k < length ss
+from-before : (before : List ℕ) (ss : List (List ℕ)) → disconnectedFrom before ss ≡ false → (k : ℕ) → k < length ss
     → across (sectorAt ss k) (boundaryOf (stepOf ss k)) ≡ Sector (sectorAt (before ∷ ss) k)
 from-before before [] e k h = absurd (omega arith)
 from-before before (s ∷ ss) e zero h =
     is-sector (sectorOf before) (across (sectorOf s) (boundaryOf s))
-    (not-false _ (neither (not (isSector (sectorOf before) (across (sectorOf s) (boundaryOf s)))) (apartFrom s ss) e .0))
+    (not-false _ (neither (not (isSector (sectorOf before) (across (sectorOf s) (boundaryOf s)))) (disconnectedFrom s ss) e .0))
 from-before before (s ∷ ss) e (suc k) h =
-    from-before s ss (neither (not (isSector (sectorOf before) (across (sectorOf s) (boundaryOf s)))) (apartFrom s ss) e .1) k (omega arith)
+    from-before s ss (neither (not (isSector (sectorOf before) (across (sectorOf s) (boundaryOf s)))) (disconnectedFrom s ss) e .1) k (omega arith)
 
-pub sector-before : (ss : List (List ℕ)) → apart ss ≡ false → (k : ℕ) → suc k < length ss
+pub sector-before : (ss : List (List ℕ)) → disconnected ss ≡ false → (k : ℕ) → suc k < length ss
     → across (sectorAt ss (suc k)) (boundaryOf (stepOf ss (suc k))) ≡ Sector (sectorAt ss k)
 sector-before [] e k h = absurd (omega arith)
 sector-before (s ∷ ss) e k h = from-before s ss e k (omega arith)

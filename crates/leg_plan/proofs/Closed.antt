@@ -22,7 +22,7 @@ use Rattle.route.proofs.Targets.{target-goal}
 use Rattle.route.proofs.NoneIs.{noneIs, none-is, none-both, step-is}
 use Rattle.step_list.specs.Steps.{stepsOf, stepOf}
 use Rattle.leg_counting.specs.Counting.{countingCells, isClosed, CountingCell}
-use Rattle.leg_plan.specs.Leg.{part, floorNumber, eachRows, outOfOrder, apart, closedFrom, someClosed, judgedRows, legNumberBy}
+use Rattle.leg_plan.specs.Leg.{part, floorNumber, eachRows, outOfOrder, disconnected, closedFrom, someClosed, judgedRows, legNumberBy}
 use Rattle.leg_plan.specs.Promise.{hasBefore, builtAt, builtBefore, targetAt}
 use Rattle.leg_plan.specs.Closed.{LegClosed}
 use Rattle.leg_plan.proofs.Numbers.{Judged, judged, judged-first, closed-15, last-number, ready}
@@ -47,7 +47,7 @@ never-15 : (floor steps sheet : List ℕ) → firstNumber (judgedRows floor step
 unfolding judgedRows
 never-15 floor steps sheet =
     none-is 14 (judgedRows floor steps sheet)
-    (none-both 15 (eachRows floor (stepsOf steps)) (row 9 (outOfOrder (stepsOf steps)) ∷ row 10 (apart (stepsOf steps)) ∷ [])
+    (none-both 15 (eachRows floor (stepsOf steps)) (row 9 (outOfOrder (stepsOf steps)) ∷ row 10 (disconnected (stepsOf steps)) ∷ [])
     (each-is 14 (λ costs step. refl) floor (stepsOf steps)) refl)
 
 -- ---- closed windows, by a step's place

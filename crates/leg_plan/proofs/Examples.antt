@@ -24,7 +24,7 @@ numberOn steps = numberAt ones steps
 abbrev withWall : ℕ → List ℕ → ℕ
 withWall place steps = numberAt (set ones place 255) steps
 
--- out of order, since the first step has a window, and apart, since sector 5 is not beside sector 0: 9 comes before 10
+-- out of order, since the first step has a window, and disconnected, since sector 5 is not beside sector 0: 9 comes before 10
 pub nine-first : numberOn (0 ∷ 0 ∷ 1 ∷ 0 ∷ 0 ∷ 0 ∷ 0 ∷ 0 ∷ 5 ∷ 0 ∷ 1 ∷ 0 ∷ 0 ∷ 0 ∷ 0 ∷ 0 ∷ []) ≡ 9
 unfolding judgedRows noStepList stepsIn eachStepOn onEdge edge cellsBetween
 nine-first = refl

@@ -18,7 +18,7 @@ use Rattle.route.specs.Table.{Row, row, firstNumber}
 use Rattle.route.specs.Step.{isWindow, noStepList}
 use Rattle.route.proofs.Walls.{each-step-on, accepted-on}
 use Rattle.step_list.specs.Steps.{stepsOf}
-use Rattle.leg_plan.specs.Leg.{namesTwice, someGoal, outOfOrder, apart, floorNumber, eachRows, someClosed, judgedRows, legNumberBy}
+use Rattle.leg_plan.specs.Leg.{namesTwice, someGoal, outOfOrder, disconnected, floorNumber, eachRows, someClosed, judgedRows, legNumberBy}
 use Rattle.step_list.specs.Inner.{stepAt}
 use Rattle.leg_plan.specs.Inner.{LegReady}
 use Rattle.step_list.proofs.Steps.{neither, steps-count, step-of, step-long}
@@ -77,7 +77,7 @@ module _ (floor : List ℕ) where
 
 module _ (floor steps sheet : List ℕ) (floor-full : length floor ≡ 6400) (sheet-full : length sheet ≡ 6400)
     (list : noStepList steps ≡ false) (each : firstNumber (eachRows floor (stepsOf steps)) ≡ 0) where
-  nine-then-ten : firstNumber (judgedRows floor steps sheet) ≡ firstNumber (row 9 (outOfOrder (stepsOf steps)) ∷ row 10 (apart (stepsOf steps)) ∷ [])
+  nine-then-ten : firstNumber (judgedRows floor steps sheet) ≡ firstNumber (row 9 (outOfOrder (stepsOf steps)) ∷ row 10 (disconnected (stepsOf steps)) ∷ [])
   unfolding judgedRows
   nine-then-ten = rw (eq-eqb (length floor) 6400 floor-full, eq-eqb (length sheet) 6400 sheet-full, list) (each-none floor (stepsOf steps) _ each)
 
@@ -85,10 +85,10 @@ module _ (floor steps sheet : List ℕ) (floor-full : length floor ≡ 6400) (sh
   number-9 h = nine-then-ten ∙ rw h
 
   module _ (ordered : outOfOrder (stepsOf steps) ≡ false) where
-    pub number-10 : apart (stepsOf steps) ≡ true → firstNumber (judgedRows floor steps sheet) ≡ 10
+    pub number-10 : disconnected (stepsOf steps) ≡ true → firstNumber (judgedRows floor steps sheet) ≡ 10
     number-10 h = nine-then-ten ∙ rw (ordered, h)
 
-    pub number-0 : apart (stepsOf steps) ≡ false → firstNumber (judgedRows floor steps sheet) ≡ 0
+    pub number-0 : disconnected (stepsOf steps) ≡ false → firstNumber (judgedRows floor steps sheet) ≡ 0
     number-0 h = nine-then-ten ∙ rw (ordered, h)
 
 -- ---- nothing refused before a step is planned
@@ -99,7 +99,7 @@ pub record Judged (floor steps sheet : List ℕ) : Type 0 where
   pub list : noStepList steps ≡ false
   pub each : firstNumber (eachRows floor (stepsOf steps)) ≡ 0
   pub ordered : outOfOrder (stepsOf steps) ≡ false
-  pub faced : apart (stepsOf steps) ≡ false
+  pub faced : disconnected (stepsOf steps) ≡ false
 
 module _ (floor steps sheet : List ℕ) where
   pub judged : firstNumber (judgedRows floor steps sheet) ≡ 0 → Judged floor steps sheet
@@ -107,7 +107,7 @@ module _ (floor steps sheet : List ℕ) where
   judged = go (eqb (length floor) 6400) (eqb (length sheet) 6400) (noStepList steps) refl refl refl
     where
       rest : List Row
-      rest = row 9 (outOfOrder (stepsOf steps)) ∷ row 10 (apart (stepsOf steps)) ∷ []
+      rest = row 9 (outOfOrder (stepsOf steps)) ∷ row 10 (disconnected (stepsOf steps)) ∷ []
 
       last : (b d : Bool) → _≡_ {A = ℕ} (cond b 9 (cond d 10 0)) 0 → (b ≡ false) × (d ≡ false)
       last true d e = absurd (omega arith)
@@ -121,7 +121,7 @@ module _ (floor steps sheet : List ℕ) where
       go true true true p q r e = absurd (omega arith)
       go true true false p q r e =
           let z = each-zero floor (stepsOf steps) rest e in
-          let l = last (outOfOrder (stepsOf steps)) (apart (stepsOf steps)) (sym (each-none floor (stepsOf steps) rest z) ∙ e) in
+          let l = last (outOfOrder (stepsOf steps)) (disconnected (stepsOf steps)) (sym (each-none floor (stepsOf steps) rest z) ∙ e) in
           record {
             floor-full = eqb-true (length floor) 6400 p;
             sheet-full = eqb-true (length sheet) 6400 q;

@@ -20,7 +20,7 @@ use Rattle.route.specs.Target.{StepGoal, StepOnWall}
 use Rattle.route.proofs.Accepted.{accepted-goal}
 use Rattle.route.proofs.Walls.{each-step-on, sixteen-told}
 use Rattle.step_list.specs.Steps.{stepsOf}
-use Rattle.leg_plan.specs.Leg.{part, floorNumber, eachRows, outOfOrder, apart, someClosed, judgedRows, legNumberBy}
+use Rattle.leg_plan.specs.Leg.{part, floorNumber, eachRows, outOfOrder, disconnected, someClosed, judgedRows, legNumberBy}
 use Rattle.leg_plan.specs.Walls.{FloorWall, goal-on, window-on, LegOnWall}
 use Rattle.step_list.proofs.Steps.{steps-count, step-of, step-long}
 
@@ -83,11 +83,11 @@ found floor rest (s ∷ ss) (suc k) h e before = rw (before 0 (omega arith)) (fo
 module _ (sight : Bool) (floor steps sheet : List ℕ) where
   -- what comes below the steps' numbers, none of it 16
   rest : List Row
-  rest = row 9 (outOfOrder (stepsOf steps)) ∷ row 10 (apart (stepsOf steps)) ∷ row 15 (someClosed sight floor (stepsOf steps)) ∷ []
+  rest = row 9 (outOfOrder (stepsOf steps)) ∷ row 10 (disconnected (stepsOf steps)) ∷ row 15 (someClosed sight floor (stepsOf steps)) ∷ []
 
   other : firstNumber rest ≡ 16 → ⊥
   unfolding rest
-  other = go (outOfOrder (stepsOf steps)) (apart (stepsOf steps)) (someClosed sight floor (stepsOf steps))
+  other = go (outOfOrder (stepsOf steps)) (disconnected (stepsOf steps)) (someClosed sight floor (stepsOf steps))
     where
       go : (a b c : Bool) → _≡_ {A = ℕ} (cond a 9 (cond b 10 (cond c 15 0))) 16 → ⊥
       go true b c e = omega arith
@@ -95,7 +95,7 @@ module _ (sight : Bool) (floor steps sheet : List ℕ) where
       go false false true e = omega arith
       go false false false e = omega arith
 
-  below : firstNumber ((eachRows floor (stepsOf steps) ++ (row 9 (outOfOrder (stepsOf steps)) ∷ row 10 (apart (stepsOf steps)) ∷ []))
+  below : firstNumber ((eachRows floor (stepsOf steps) ++ (row 9 (outOfOrder (stepsOf steps)) ∷ row 10 (disconnected (stepsOf steps)) ∷ []))
       ++ (row 15 (someClosed sight floor (stepsOf steps)) ∷ [])) ≡ firstNumber (eachRows floor (stepsOf steps) ++ rest)
   unfolding rest
   below = ap firstNumber (append-assoc (eachRows floor (stepsOf steps)) _ _)
@@ -111,7 +111,7 @@ module _ (sight : Bool) (floor steps sheet : List ℕ) where
     where
       to : (a b c : Bool) → eqb (length floor) 6400 ≡ a → eqb (length sheet) 6400 ≡ b → noStepList steps ≡ c
           → cond (not a) 1 (cond (not b) 2 (cond c 3 (firstNumber ((eachRows floor (stepsOf steps)
-          ++ (row 9 (outOfOrder (stepsOf steps)) ∷ row 10 (apart (stepsOf steps)) ∷ [])) ++ (row 15 (someClosed sight floor (stepsOf steps)) ∷ []))))) ≡ 16
+          ++ (row 9 (outOfOrder (stepsOf steps)) ∷ row 10 (disconnected (stepsOf steps)) ∷ [])) ++ (row 15 (someClosed sight floor (stepsOf steps)) ∷ []))))) ≡ 16
           → LegOnWall floor steps sheet
       to false b c p q r e = absurd (omega arith)
       to true false c p q r e = absurd (omega arith)

@@ -55,14 +55,14 @@ isSector s (Sector t) = eqb t s
 isSector s OffFloor = false
 
 -- the sector across a step's boundary is not that of the step before, or is off the floor
-abbrev pub apartFrom : List ℕ → List (List ℕ) → Bool
-apartFrom before [] = false
-apartFrom before (s ∷ ss) = not (isSector (sectorOf before) (across (sectorOf s) (boundaryOf s))) || apartFrom s ss
+abbrev pub disconnectedFrom : List ℕ → List (List ℕ) → Bool
+disconnectedFrom before [] = false
+disconnectedFrom before (s ∷ ss) = not (isSector (sectorOf before) (across (sectorOf s) (boundaryOf s))) || disconnectedFrom s ss
 
 -- 10: of some later step, the sector across its boundary is not that of the step before, or is off the floor
-abbrev pub apart : List (List ℕ) → Bool
-apart [] = false
-apart (s ∷ ss) = apartFrom s ss
+abbrev pub disconnected : List (List ℕ) → Bool
+disconnected [] = false
+disconnected (s ∷ ss) = disconnectedFrom s ss
 
 -- ---- planning, step after step; `sight` says whether the first step's goal is planned with the sight of it
 
@@ -92,7 +92,7 @@ judgedRows floor steps sheet =
     row 1 (not (eqb (length floor) 6400))
     ∷ row 2 (not (eqb (length sheet) 6400))
     ∷ row 3 (noStepList steps)
-    ∷ (eachRows floor (stepsOf steps) ++ (row 9 (outOfOrder (stepsOf steps)) ∷ row 10 (apart (stepsOf steps)) ∷ []))
+    ∷ (eachRows floor (stepsOf steps) ++ (row 9 (outOfOrder (stepsOf steps)) ∷ row 10 (disconnected (stepsOf steps)) ∷ []))
 
 -- the leg's number: that of the first of these lines, and 15 after 10
 unfoldable pub legNumberBy : Bool → List ℕ → List ℕ → List ℕ → ℕ

@@ -51,7 +51,7 @@ pub fn write(steps: &[u8], file: &mut [u8]) -> u8
     if number != 0 {
         return number;
     }
-    let count = steps.len() / 8;
+    let count = steps.len() / route::STEP_LENGTH;
     put_head(file, count as u8);
     put_steps(steps, file);
     0

@@ -12,10 +12,10 @@ use lib.Dec.{leb, ltb, eqb}
 use borrow.Author.Tests.{ltb-true, ltb-false, leb-true, leb-false, eqb-true, eqb-false}
 use Rattle.fields.specs.declared.FieldCell.{FieldCell}
 use Rattle.fields.specs.Cell.{Inside}
-use Rattle.line_nearest.specs.Line.{apart, nearest}
+use Rattle.line_nearest.specs.Line.{distance, nearest}
 use Rattle.line_nearest.specs.Nearest.{Between, NearestTo}
 use Rattle.line_nearest.proofs.Offset.{nearest-is, nearest-only}
-use Rattle.line_end.specs.LineEnd.{edge, after, further, leaves, firstEnding, firstLeaving, slantedEnd}
+use Rattle.line_end.specs.LineEnd.{edgeAway, after, further, leaves, firstEnding, firstLeaving, slantedEnd}
 
 module _ (corner goal : FieldCell) where
   abbrev pub rightward : Bool
@@ -31,11 +31,11 @@ module _ (corner goal : FieldCell) where
   pub record SlantedBy (end : FieldCell) : Type 0 where
     pub rows : ℕ → ℕ
     pub nearest-rows : (c : ℕ)
-        → NearestTo (apart (goal .row) (corner .row)) (apart (goal .column) (corner .column)) (apart (goal .column) c) (rows c)
-    pub tried : Between (corner .column) (edge rightward) (end .column)
+        → NearestTo (distance (goal .row) (corner .row)) (distance (goal .column) (corner .column)) (distance (goal .column) c) (rows c)
+    pub tried : Between (corner .column) (edgeAway rightward) (end .column)
     pub none-before : (c : ℕ) → Between (corner .column) (end .column) c → (c ≡ end .column → ⊥) → rows c ≤ rowsBehind
-    pub leaves-there : rowsBehind < rows (end .column) → end .row ≡ edge downward
-    pub else-last : rows (end .column) ≤ rowsBehind → (end .column ≡ edge rightward) × (end .row ≡ further downward (goal .row) (rows (end .column)))
+    pub leaves-there : rowsBehind < rows (end .column) → end .row ≡ edgeAway downward
+    pub else-last : rows (end .column) ≤ rowsBehind → (end .column ≡ edgeAway rightward) × (end .row ≡ further downward (goal .row) (rows (end .column)))
 
 -- ---- the first that ends, of those from j to j + n
 record First (ends : ℕ → Bool) (j n end : ℕ) : Type 0 where
@@ -77,47 +77,47 @@ first-to rise span behind columns =
 record Behind (beyond : Bool) (corner goal c i j : ℕ) : Type 0 where
   at-most : i ≤ j
   is-last : i ≡ j → c ≡ further beyond corner j
-  off-goal : apart goal c ≡ apart goal corner + i
+  off-goal : distance goal c ≡ distance goal corner + i
 
 -- the corner's column lies beyond the goal's, to the right or to the left
 abbrev Beyond : Bool → ℕ → ℕ → Type 0
 Beyond true goal corner = goal < corner
 Beyond false goal corner = corner < goal
 
-off-right : (corner goal c : ℕ) → goal < corner → corner ≤ c → apart goal c ≡ apart goal corner + apart corner c
+off-right : (corner goal c : ℕ) → goal < corner → corner ≤ c → distance goal c ≡ distance goal corner + distance corner c
 off-right corner goal c g l =
-    let i : apart corner c ≡ c - corner = omega arith in
-    let k : apart goal corner ≡ corner - goal = omega arith in
+    let i : distance corner c ≡ c - corner = omega arith in
+    let k : distance goal corner ≡ corner - goal = omega arith in
     rw (i, k) (omega arith)
 
-off-left : (corner goal c : ℕ) → corner < goal → c ≤ corner → apart goal c ≡ apart goal corner + apart corner c
+off-left : (corner goal c : ℕ) → corner < goal → c ≤ corner → distance goal c ≡ distance goal corner + distance corner c
 off-left corner goal c g l =
-    let i : apart corner c ≡ corner - c = omega arith in
-    let k : apart goal corner ≡ goal - corner = omega arith in
+    let i : distance corner c ≡ corner - c = omega arith in
+    let k : distance goal corner ≡ goal - corner = omega arith in
     rw (i, k) (omega arith)
 
-behind-right : (corner goal c j : ℕ) → goal < corner → corner ≤ c → c ≤ corner + j → Behind true corner goal c (apart corner c) j
+behind-right : (corner goal c j : ℕ) → goal < corner → corner ≤ c → c ≤ corner + j → Behind true corner goal c (distance corner c) j
 behind-right corner goal c j g l m = record { at-most = omega arith; is-last = λ e. omega arith; off-goal = off-right corner goal c g l }
 
-behind-left : (corner goal c j : ℕ) → corner < goal → c ≤ corner → corner ≤ c + j → Behind false corner goal c (apart corner c) j
+behind-left : (corner goal c j : ℕ) → corner < goal → c ≤ corner → corner ≤ c + j → Behind false corner goal c (distance corner c) j
 behind-left corner goal c j g l m = record { at-most = omega arith; is-last = λ e. omega arith; off-goal = off-left corner goal c g l }
 
 behind : (beyond : Bool) (corner goal c j : ℕ) → Beyond beyond goal corner → j ≤ after beyond corner
-    → Between corner (further beyond corner j) c → Behind beyond corner goal c (apart corner c) j
+    → Between corner (further beyond corner j) c → Behind beyond corner goal c (distance corner c) j
 behind true corner goal c j g h b = behind-right corner goal c j g (omega (arith, b .from)) (omega (arith, b .to))
 behind false corner goal c j g h b = behind-left corner goal c j g (omega (arith, b .to)) (omega (arith, b .from))
 
 -- the column that is j behind the corner's is itself such a one
 last-off : (beyond : Bool) (corner goal j : ℕ) → Beyond beyond goal corner → j ≤ after beyond corner
-    → apart goal (further beyond corner j) ≡ apart goal corner + j
+    → distance goal (further beyond corner j) ≡ distance goal corner + j
 last-off true corner goal j g h = omega arith
 last-off false corner goal j g h = omega arith
 
-tried-to-edge : (beyond : Bool) (corner j : ℕ) → corner < 10 → j ≤ after beyond corner → Between corner (edge beyond) (further beyond corner j)
+tried-to-edge : (beyond : Bool) (corner j : ℕ) → corner < 10 → j ≤ after beyond corner → Between corner (edgeAway beyond) (further beyond corner j)
 tried-to-edge true corner j c h = record { from = omega arith; to = omega arith }
 tried-to-edge false corner j c h = record { from = omega arith; to = omega arith }
 
-all-behind : (beyond : Bool) (x : ℕ) → (beyond ≡ true → x < 10) → further beyond x (after beyond x) ≡ edge beyond
+all-behind : (beyond : Bool) (x : ℕ) → (beyond ≡ true → x < 10) → further beyond x (after beyond x) ≡ edgeAway beyond
 all-behind true x h = omega (arith, h refl)
 all-behind false x h = omega arith
 
@@ -125,11 +125,11 @@ beyond-of : (goal corner : ℕ) (b : Bool) → (corner ≡ goal → ⊥) → ltb
 beyond-of goal corner true d e = ltb-true goal corner e
 beyond-of goal corner false d e = omega (arith, d, ltb-false goal corner e)
 
-apart-some : (a b : ℕ) → (b ≡ a → ⊥) → 0 < apart a b
-apart-some a b d = omega (arith, d)
+distance-some : (a b : ℕ) → (b ≡ a → ⊥) → 0 < distance a b
+distance-some a b d = omega (arith, d)
 
 -- ---- the end
-module _ (corner goal : FieldCell) (corner-in : Inside corner) (apart-columns : corner .column ≡ goal .column → ⊥) where
+module _ (corner goal : FieldCell) (corner-in : Inside corner) (distance-columns : corner .column ≡ goal .column → ⊥) where
   abbrev right : Bool
   right = rightward corner goal
 
@@ -137,10 +137,10 @@ module _ (corner goal : FieldCell) (corner-in : Inside corner) (apart-columns : 
   down = downward corner goal
 
   abbrev rise : ℕ
-  rise = apart (goal .row) (corner .row)
+  rise = distance (goal .row) (corner .row)
 
   abbrev span : ℕ
-  span = apart (goal .column) (corner .column)
+  span = distance (goal .column) (corner .column)
 
   abbrev room : ℕ
   room = rowsBehind corner goal
@@ -155,7 +155,7 @@ module _ (corner goal : FieldCell) (corner-in : Inside corner) (apart-columns : 
   ends j = leaves rise span room (span + j)
 
   side : Beyond right (goal .column) (corner .column)
-  side = beyond-of (goal .column) (corner .column) right apart-columns refl
+  side = beyond-of (goal .column) (corner .column) right distance-columns refl
 
   first : First ends 0 columns end
   first = found ends columns 0 (ends 0) refl
@@ -165,7 +165,7 @@ module _ (corner goal : FieldCell) (corner-in : Inside corner) (apart-columns : 
 
   -- the row of a column, counted from the goal's
   abbrev rowIn : ℕ → ℕ
-  rowIn c = nearest rise span (apart (goal .column) c)
+  rowIn c = nearest rise span (distance (goal .column) c)
 
   row-there : rowIn (further right (corner .column) end) ≡ nearest rise span (span + end)
   row-there = ap (nearest rise span) (last-off right (corner .column) (goal .column) end side end-to)
@@ -175,14 +175,14 @@ module _ (corner goal : FieldCell) (corner-in : Inside corner) (apart-columns : 
   slanted-first =
       record {
         rows = rowIn;
-        nearest-rows = λ c. nearest-is rise span (apart (goal .column) c) (apart-some (goal .column) (corner .column) apart-columns);
+        nearest-rows = λ c. nearest-is rise span (distance (goal .column) c) (distance-some (goal .column) (corner .column) distance-columns);
         tried = tried-to-edge right (corner .column) end (corner-in .column-in) end-to;
         none-before = λ c b d.
             let w = behind right (corner .column) (goal .column) c end side end-to b in
             let a = w .at-most in
-            let n : apart (corner .column) c ≡ end → ⊥ = λ e. d (w .is-last e) in
-            let i : apart (corner .column) c < end = omega (arith, n) in
-            rw (w .off-goal) (ltb-false room _ (first .none-before (apart (corner .column) c) (omega arith) i));
+            let n : distance (corner .column) c ≡ end → ⊥ = λ e. d (w .is-last e) in
+            let i : distance (corner .column) c < end = omega (arith, n) in
+            rw (w .off-goal) (ltb-false room _ (first .none-before (distance (corner .column) c) (omega arith) i));
         leaves-there = λ l.
             let m : min room (nearest rise span (span + end)) ≡ room = omega (arith, rw row-there at l) in
             ap (further down (goal .row)) m ∙ all-behind down (goal .row) (λ d. omega (arith, ltb-true (goal .row) (corner .row) d, corner-in .row-in));
@@ -217,13 +217,13 @@ nearer corner edge c d p q b e = go b (leb c d) e refl
 short-of-edge : (corner edge c d : ℕ) → Between corner edge d → Between corner d c → c ≡ edge → c ≡ d
 short-of-edge corner edge c d p q e = omega (arith, p .from, p .to, q .from, q .to, e)
 
-module _ (corner goal : FieldCell) (apart-columns : corner .column ≡ goal .column → ⊥) where
+module _ (corner goal : FieldCell) (distance-columns : corner .column ≡ goal .column → ⊥) where
   abbrev Ends : FieldCell → Type 0
   Ends = SlantedBy corner goal
 
   same-rows : (e f : FieldCell) (p : Ends e) (q : Ends f) (c : ℕ) → p .rows c ≡ q .rows c
   same-rows e f p q c =
-      let s = apart-some (goal .column) (corner .column) apart-columns in
+      let s = distance-some (goal .column) (corner .column) distance-columns in
       nearest-only _ _ _ _ s (p .nearest-rows c) ∙ sym (nearest-only _ _ _ _ s (q .nearest-rows c))
 
   -- an end is not before another
@@ -235,10 +235,10 @@ module _ (corner goal : FieldCell) (apart-columns : corner .column ≡ goal .col
       go false t =
           let l = q .none-before (e .column) b (eqb-false (e .column) (f .column) t) in
           let k = p .else-last (rw (same-rows e f p q (e .column)) l) in
-          short-of-edge (corner .column) (edge (rightward corner goal)) (e .column) (f .column) (q .tried) b (k .0)
+          short-of-edge (corner .column) (edgeAway (rightward corner goal)) (e .column) (f .column) (q .tried) b (k .0)
 
   same-column : (e f : FieldCell) → Ends e → Ends f → e .column ≡ f .column
-  same-column e f p q = go (nearer (corner .column) (edge (rightward corner goal)) (e .column) (f .column) (p .tried) (q .tried) _ refl)
+  same-column e f p q = go (nearer (corner .column) (edgeAway (rightward corner goal)) (e .column) (f .column) (p .tried) (q .tried) _ refl)
     where
       go : Between (corner .column) (f .column) (e .column) ⊎ Between (corner .column) (e .column) (f .column) → e .column ≡ f .column
       go (inl b) = not-before e f p q b

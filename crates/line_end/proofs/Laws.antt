@@ -14,11 +14,11 @@ use borrow.Author.Tests.{ltb-true, ltb-false, eqb-true, eqb-false}
 use Rattle.fields.specs.declared.FieldCell.{FieldCell}
 use Rattle.fields.specs.Cell.{Inside}
 use Rattle.fields.proofs.Steps.{true-inside}
-use Rattle.line_nearest.specs.Line.{apart}
+use Rattle.line_nearest.specs.Line.{distance}
 use Rattle.line_nearest.specs.Nearest.{Spanned}
 use Rattle.line_nearest.proofs.Offset.{nearest-ge}
 use Rattle.line_end.specs.Away.{EdgeAway, Straight}
-use Rattle.line_end.specs.LineEnd.{edge, after, further, slantedEnd, endBy, lineEnd, answer, lineEndAnswer}
+use Rattle.line_end.specs.LineEnd.{edgeAway, after, further, slantedEnd, endBy, lineEnd, answer, lineEndAnswer}
 use Rattle.line_end.proofs.First.{slanted-first}
 
 pub end-answered : (corner goal : FieldCell) → Inside corner → Inside goal → lineEndAnswer corner goal ≡ answer 0 (lineEnd corner goal)
@@ -27,12 +27,12 @@ end-answered corner goal h k = rw (true-inside corner h, true-inside goal k)
 
 -- ---- the end lies in the sector
 -- the row of a slanted line's end: at least as far from the goal's as the corner's is
-row-in : (corner goal rows : ℕ) (b : Bool) → ltb goal corner ≡ b → corner < 10 → apart goal corner ≤ rows
+row-in : (corner goal rows : ℕ) (b : Bool) → ltb goal corner ≡ b → corner < 10 → distance goal corner ≤ rows
     → further b goal (min (after b goal) rows) < 10
 row-in corner goal rows true e h l = omega (arith, ltb-true goal corner e)
 row-in corner goal rows false e h l = omega (arith, ltb-false goal corner e)
 
-edge-in : (b : Bool) → edge b < 10
+edge-in : (b : Bool) → edgeAway b < 10
 edge-in true = omega arith
 edge-in false = omega arith
 
@@ -44,7 +44,7 @@ by-inside false false corner goal h e =
     let d = eqb-false (corner .column) (goal .column) e in
     let s = slanted-first corner goal h d in
     let t = s .tried .to in
-    let span = apart (goal .column) (corner .column) in
+    let span = distance (goal .column) (corner .column) in
     record {
       column-in = omega (arith, t, h .column-in, edge-in (ltb (goal .column) (corner .column)));
       row-in = row-in (corner .row) (goal .row) _ (ltb (goal .row) (corner .row)) refl (h .row-in)
@@ -71,10 +71,10 @@ record Edge (corner goal end : ℕ) : Type 0 where
   beyond : goal < corner → corner ≤ end
   back : corner ≤ goal → end ≡ 0
 
-edge-away : (corner goal : ℕ) → corner < 10 → Edge corner goal (edge (ltb goal corner))
+edge-away : (corner goal : ℕ) → corner < 10 → Edge corner goal (edgeAway (ltb goal corner))
 edge-away corner goal h = go (ltb goal corner) refl
   where
-    go : (b : Bool) → ltb goal corner ≡ b → Edge corner goal (edge b)
+    go : (b : Bool) → ltb goal corner ≡ b → Edge corner goal (edgeAway b)
     go true e =
         let k : goal < corner = ltb-true goal corner e in
         record { beyond = λ l. omega arith; back = λ l. absurd (omega arith) }
@@ -125,10 +125,10 @@ unfolding lineEnd
 end-away corner goal h = by-away (eqb (corner .column) (goal .column)) (eqb (corner .row) (goal .row)) corner goal h refl refl
 
 -- ---- in the goal's column and in its row
-edge-there : (goal corner : ℕ) → EdgeAway goal corner (edge (ltb goal corner))
+edge-there : (goal corner : ℕ) → EdgeAway goal corner (edgeAway (ltb goal corner))
 edge-there goal corner = go (ltb goal corner) refl
   where
-    go : (b : Bool) → ltb goal corner ≡ b → EdgeAway goal corner (edge b)
+    go : (b : Bool) → ltb goal corner ≡ b → EdgeAway goal corner (edgeAway b)
     go true e = record { beyond = λ l. refl; before = λ l. absurd (omega (arith, ltb-true goal corner e)) }
     go false e = record { beyond = λ l. absurd (omega (arith, ltb-false goal corner e)); before = λ l. refl }
 

@@ -9,7 +9,7 @@ use native.Mathlib.Omega.{arith}
 use lib.Dec.{ltb}
 use borrow.Author.Tests.{ltb-true, ltb-false, lt-ltb, le-ltb, ne-eqb}
 use Rattle.fields.specs.declared.FieldCell.{FieldCell}
-use Rattle.line_nearest.specs.Line.{apart, nearest}
+use Rattle.line_nearest.specs.Line.{distance, nearest}
 use Rattle.line_end.specs.declared.LineEnd.{LineEnd}
 use Rattle.line_end.specs.LineEnd.{after, further, firstLeaving, slantedEnd, endBy, lineEnd, answer, lineEndAnswer}
 use Rattle.line_end.specs.Away.{Slants}
@@ -19,17 +19,17 @@ use Rattle.line_end.proofs.Laws.{end-answered}
 
 -- ---- one coordinate
 -- what a mirror keeps: the distance of two, and how many are behind one
-same-apart : (a b : ℕ) → a < 10 → b < 10 → apart (9 - a) (9 - b) ≡ apart a b
-same-apart a b p q = go (ltb a b) refl
+same-distance : (a b : ℕ) → a < 10 → b < 10 → distance (9 - a) (9 - b) ≡ distance a b
+same-distance a b p q = go (ltb a b) refl
   where
-    go : (t : Bool) → ltb a b ≡ t → apart (9 - a) (9 - b) ≡ apart a b
+    go : (t : Bool) → ltb a b ≡ t → distance (9 - a) (9 - b) ≡ distance a b
     go true e =
         let l = ltb-true a b e in
-        let k : apart a b ≡ b - a = omega arith in
+        let k : distance a b ≡ b - a = omega arith in
         rw k (omega arith)
     go false e =
         let l = ltb-false a b e in
-        let k : apart a b ≡ a - b = omega arith in
+        let k : distance a b ≡ a - b = omega arith in
         rw k (omega arith)
 
 same-after : (beyond : Bool) (x : ℕ) → x < 10 → after (not beyond) (9 - x) ≡ after beyond x
@@ -48,8 +48,8 @@ mirrored-further : (beyond : Bool) (x d : ℕ) → x < 10 → d ≤ after beyond
 mirrored-further true x d h l = omega arith
 mirrored-further false x d h l = omega arith
 
-apart-differ : (a b : ℕ) → a < 10 → b < 10 → (a ≡ b → ⊥) → 9 - a ≡ 9 - b → ⊥
-apart-differ a b p q d e = d (omega arith)
+distance-differ : (a b : ℕ) → a < 10 → b < 10 → (a ≡ b → ⊥) → 9 - a ≡ 9 - b → ⊥
+distance-differ a b p q d e = d (omega arith)
 
 -- ---- the two mirrors
 module _ (corner goal : FieldCell) (s : Slants corner goal) where
@@ -60,10 +60,10 @@ module _ (corner goal : FieldCell) (s : Slants corner goal) where
   down = ltb (goal .row) (corner .row)
 
   abbrev rise : ℕ
-  rise = apart (goal .row) (corner .row)
+  rise = distance (goal .row) (corner .row)
 
   abbrev span : ℕ
-  span = apart (goal .column) (corner .column)
+  span = distance (goal .column) (corner .column)
 
   abbrev end : ℕ
   end = firstLeaving rise span (after down (goal .row)) (after right (corner .column))
@@ -77,7 +77,7 @@ module _ (corner goal : FieldCell) (s : Slants corner goal) where
       record {
         corner-in = record { column-in = omega arith; row-in = s .corner-in .row-in };
         goal-in = record { column-in = omega arith; row-in = s .goal-in .row-in };
-        columns-differ = apart-differ (corner .column) (goal .column) (s .corner-in .column-in) (s .goal-in .column-in) (s .columns-differ);
+        columns-differ = distance-differ (corner .column) (goal .column) (s .corner-in .column-in) (s .goal-in .column-in) (s .columns-differ);
         rows-differ = s .rows-differ;
       }
 
@@ -87,14 +87,14 @@ module _ (corner goal : FieldCell) (s : Slants corner goal) where
         corner-in = record { column-in = s .corner-in .column-in; row-in = omega arith };
         goal-in = record { column-in = s .goal-in .column-in; row-in = omega arith };
         columns-differ = s .columns-differ;
-        rows-differ = apart-differ (corner .row) (goal .row) (s .corner-in .row-in) (s .goal-in .row-in) (s .rows-differ);
+        rows-differ = distance-differ (corner .row) (goal .row) (s .corner-in .row-in) (s .goal-in .row-in) (s .rows-differ);
       }
 
   left-right-end : slantedEnd (not right) down (leftRight corner) (leftRight goal) ≡ leftRight (slantedEnd right down corner goal)
   unfolding slantedEnd
   left-right-end =
       rw (
-        same-apart (goal .column) (corner .column) (s .goal-in .column-in) (s .corner-in .column-in),
+        same-distance (goal .column) (corner .column) (s .goal-in .column-in) (s .corner-in .column-in),
         same-after right (corner .column) (s .corner-in .column-in),
         mirrored-further right (corner .column) end (s .corner-in .column-in) (first-to rise span (after down (goal .row)) (after right (corner .column))),
       )
@@ -103,7 +103,7 @@ module _ (corner goal : FieldCell) (s : Slants corner goal) where
   unfolding slantedEnd
   top-bottom-end =
       rw (
-        same-apart (goal .row) (corner .row) (s .goal-in .row-in) (s .corner-in .row-in),
+        same-distance (goal .row) (corner .row) (s .goal-in .row-in) (s .corner-in .row-in),
         same-after down (goal .row) (s .goal-in .row-in),
         mirrored-further down (goal .row) (min (after down (goal .row)) (nearest rise span (span + end))) (s .goal-in .row-in) (omega arith),
       )

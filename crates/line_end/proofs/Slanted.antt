@@ -12,19 +12,19 @@ use borrow.Author.Tests.{ltb-true, ltb-false, leb-true, leb-false, ne-eqb}
 use Rattle.fields.specs.declared.FieldCell.{FieldCell}
 use Rattle.line_nearest.specs.Nearest.{Between}
 use Rattle.line_end.specs.Away.{Onward, EdgeAway, Off, Leaves, Slanted, Slants}
-use Rattle.line_end.specs.LineEnd.{edge, after, further, endBy, lineEnd}
+use Rattle.line_end.specs.LineEnd.{edgeAway, after, further, endBy, lineEnd}
 use Rattle.line_end.proofs.First.{SlantedBy, rightward, downward, rowsBehind, slanted-first, slanted-once}
 
 -- ---- of a column or a row, by whether the corner's lies beyond the goal's
 module _ (goal corner : ℕ) (differ : corner ≡ goal → ⊥) where
-  onward : (b : Bool) → ltb goal corner ≡ b → (x : ℕ) → corner < 10 → Between corner (edge b) x → Onward goal corner x
+  onward : (b : Bool) → ltb goal corner ≡ b → (x : ℕ) → corner < 10 → Between corner (edgeAway b) x → Onward goal corner x
   onward true e x h t = record {
     beyond = λ l. (omega (arith, t .from), omega (arith, t .to));
     before = λ l. absurd (omega (arith, ltb-true goal corner e));
   }
   onward false e x h t = record { beyond = λ l. absurd (omega (arith, ltb-false goal corner e)); before = λ l. omega (arith, t .to) }
 
-  onward-back : (b : Bool) → ltb goal corner ≡ b → (x : ℕ) → Onward goal corner x → Between corner (edge b) x
+  onward-back : (b : Bool) → ltb goal corner ≡ b → (x : ℕ) → Onward goal corner x → Between corner (edgeAway b) x
   onward-back true e x o =
       let l = o .beyond (ltb-true goal corner e) in
       record { from = omega (arith, l .0); to = omega (arith, l .1) }
@@ -40,11 +40,11 @@ module _ (goal corner : ℕ) (differ : corner ≡ goal → ⊥) where
   leaves-back true e g n o = omega (arith, o .beyond (ltb-true goal corner e))
   leaves-back false e g n o = o .before (omega (arith, differ, ltb-false goal corner e))
 
-  edge-told : (b : Bool) → ltb goal corner ≡ b → (x : ℕ) → x ≡ edge b → EdgeAway goal corner x
+  edge-told : (b : Bool) → ltb goal corner ≡ b → (x : ℕ) → x ≡ edgeAway b → EdgeAway goal corner x
   edge-told true e x q = record { beyond = λ l. q; before = λ l. absurd (omega (arith, ltb-true goal corner e)) }
   edge-told false e x q = record { beyond = λ l. absurd (omega (arith, ltb-false goal corner e)); before = λ l. q }
 
-  edge-back : (b : Bool) → ltb goal corner ≡ b → (x : ℕ) → EdgeAway goal corner x → x ≡ edge b
+  edge-back : (b : Bool) → ltb goal corner ≡ b → (x : ℕ) → EdgeAway goal corner x → x ≡ edgeAway b
   edge-back true e x o = o .beyond (ltb-true goal corner e)
   edge-back false e x o = o .before (omega (arith, differ, ltb-false goal corner e))
 

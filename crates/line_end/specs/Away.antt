@@ -4,7 +4,7 @@ use mathlib.Core.Path.{_≡_}
 use Prim.Native.Nat.{ℕ, _+_, _<_, _≤_}
 use Rattle.fields.specs.declared.FieldCell.{FieldCell}
 use Rattle.fields.specs.Cell.{Inside}
-use Rattle.line_nearest.specs.Line.{apart}
+use Rattle.line_nearest.specs.Line.{distance}
 use Rattle.line_nearest.specs.Nearest.{Between, NearestTo}
 use Rattle.line_end.specs.declared.LineEnd.{LineEnd}
 
@@ -44,7 +44,7 @@ pub record Slanted (corner goal end : FieldCell) : Type 0 where
   -- the nearest row of each column to the exact ray from goal through corner, and of two equally near the one nearer the goal's
   pub rows : ℕ → ℕ
   pub nearest-rows : (c : ℕ)
-      → NearestTo (apart (goal .row) (corner .row)) (apart (goal .column) (corner .column)) (apart (goal .column) c) (rows c)
+      → NearestTo (distance (goal .row) (corner .row)) (distance (goal .column) (corner .column)) (distance (goal .column) c) (rows c)
   -- the first column whose row leaves, of those from the corner's own to the edge column away from the goal
   pub tried : Onward (goal .column) (corner .column) (end .column)
   pub none-before : (c : ℕ) → Between (corner .column) (end .column) c → (c ≡ end .column → ⊥) → Leaves (goal .row) (corner .row) (rows c) → ⊥

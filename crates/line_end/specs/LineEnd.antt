@@ -5,13 +5,13 @@ use Prim.Native.Nat.{ℕ, zero, suc, _+_, _-_, min}
 use lib.Dec.{ltb, eqb}
 use Rattle.fields.specs.declared.FieldCell.{FieldCell}
 use Rattle.fields.specs.Cell.{cell, inside}
-use Rattle.line_nearest.specs.Line.{apart, nearest}
+use Rattle.line_nearest.specs.Line.{distance, nearest}
 use Rattle.line_end.specs.declared.LineEnd.{LineEnd}
 
 -- ---- away from the goal
 -- the edge column or row away from the goal: 9 where the corner lies beyond the goal's, else 0
-abbrev pub edge : Bool → ℕ
-edge beyond = cond beyond 9 0
+abbrev pub edgeAway : Bool → ℕ
+edgeAway beyond = cond beyond 9 0
 
 -- how many columns or rows lie between one and that edge, and the one that lies d further on from it
 abbrev pub after : Bool → ℕ → ℕ
@@ -46,8 +46,8 @@ firstLeaving rise span behind columns =
 -- otherwise the edge column does, on its row. The two tests say whether the corner lies right of the goal and below it.
 unfoldable pub slantedEnd : Bool → Bool → FieldCell → FieldCell → FieldCell
 slantedEnd rightward downward corner goal =
-    let rise : ℕ = apart (goal .row) (corner .row) in
-    let span : ℕ = apart (goal .column) (corner .column) in
+    let rise : ℕ = distance (goal .row) (corner .row) in
+    let span : ℕ = distance (goal .column) (corner .column) in
     let behind : ℕ = after downward (goal .row) in
     let end : ℕ = firstLeaving rise span behind (after rightward (corner .column)) in
     cell (further rightward (corner .column) end) (further downward (goal .row) (min behind (nearest rise span (span + end))))
@@ -55,8 +55,8 @@ slantedEnd rightward downward corner goal =
 -- In the goal's column the end is the edge row away from the goal (row 0 if the corner is the goal); in its row, the edge column away; else as above.
 -- The two tests say whether the corner lies in the goal's column and in its row.
 unfoldable pub endBy : Bool → Bool → FieldCell → FieldCell → FieldCell
-endBy true inRow corner goal = cell (corner .column) (edge (ltb (goal .row) (corner .row)))
-endBy false true corner goal = cell (edge (ltb (goal .column) (corner .column))) (corner .row)
+endBy true inRow corner goal = cell (corner .column) (edgeAway (ltb (goal .row) (corner .row)))
+endBy false true corner goal = cell (edgeAway (ltb (goal .column) (corner .column))) (corner .row)
 endBy false false corner goal = slantedEnd (ltb (goal .column) (corner .column)) (ltb (goal .row) (corner .row)) corner goal
 
 unfoldable pub lineEnd : FieldCell → FieldCell → FieldCell

@@ -4,7 +4,7 @@ ghost use mathlib.Core.Path.{_≡_};
 ghost use Prim.Native.Nat.{_<_, _≤_, min};
 ghost use Rattle.fields.specs.Cell.{Inside};
 ghost use Rattle.line_nearest.specs.Line.{nearest};
-ghost use Rattle.line_end.specs.LineEnd.{edge, after, further, firstLeaving, slantedEnd, lineEnd, lineEndAnswer};
+ghost use Rattle.line_end.specs.LineEnd.{edgeAway, after, further, firstLeaving, slantedEnd, lineEnd, lineEndAnswer};
 ghost use Rattle.line_end.specs.Away.{HoldsSlanted, HoldsStraight, EndRefused};
 ghost use Rattle.line_end.specs.Mirror.{HoldsMirrored};
 
@@ -16,8 +16,8 @@ pub struct LineEnd {
 }
 
 // The edge column or row away from the goal: 9 where the corner lies beyond the goal's column or row, else 0.
-fn edge(beyond: bool) -> usize
-    ensures { λ r. ⌜ r ≡ edge beyond ⌝ }
+fn edge_away(beyond: bool) -> usize
+    ensures { λ r. ⌜ r ≡ edgeAway beyond ⌝ }
 {
     if beyond { 9 } else { 0 }
 }
@@ -98,11 +98,11 @@ fn corner_line_end(corner: FieldCell, goal: FieldCell) -> FieldCell
     let rightward = column > goal.column;
     let downward = row > goal.row;
     if column == goal.column {
-        let row = edge(downward);
+        let row = edge_away(downward);
         return FieldCell { column, row };
     }
     if row == goal.row {
-        let column = edge(rightward);
+        let column = edge_away(rightward);
         return FieldCell { column, row };
     }
     slanted_end(rightward, downward, corner, goal)

@@ -14,7 +14,7 @@ use Rattle.fields.specs.declared.FieldCell.{FieldCell}
 use Rattle.fields.specs.Cell.{cell, Inside, inside}
 use Rattle.line_nearest.specs.declared.Line.{Line}
 use Rattle.line_nearest.specs.Table.{table}
-use Rattle.line_nearest.specs.Line.{apart, placed, walkCells, shallow, steep, line, answered, refused, called, lineCall}
+use Rattle.line_nearest.specs.Line.{distance, cellOnAxes, walkCells, shallow, steep, line, answered, refused, called, lineCall}
 use Rattle.line_nearest.specs.Nearest.{NearestLine, HoldsNearestLine, Walked, HoldsNearestWalk, columnOf, rowOf, CellsBeyond, LineRefused}
 use Rattle.line_nearest.proofs.Walks.{shallow-walked, steep-walked}
 use Rattle.line_nearest.proofs.Theorem.{nearest-line}
@@ -71,9 +71,9 @@ module _ (s t : FieldCell) where
   steep-held r e i j h n = held (steep s t) r (Walked rowOf columnOf s t s t) e (steep-walked s t h n) i j
 
 -- the coordinates of a walk alone
-pub placed-in : (steep : Bool) (a b : ℕ) → Inside (placed steep a b) → (a < 10) × (b < 10)
-placed-in true a b h = (h .row-in, h .column-in)
-placed-in false a b h = (h .column-in, h .row-in)
+pub on-axes-in : (steep : Bool) (a b : ℕ) → Inside (cellOnAxes steep a b) → (a < 10) × (b < 10)
+on-axes-in true a b h = (h .row-in, h .column-in)
+on-axes-in false a b h = (h .column-in, h .row-in)
 
 -- a walk whose target's major coordinate is lower has no cells
 pub none-back : (steep : Bool) (a₀ b₀ a₁ b₁ : ℕ) → a₁ < a₀ → walkCells steep a₀ b₀ a₁ b₁ ≡ []
@@ -81,21 +81,21 @@ unfolding table
 none-back steep a₀ b₀ a₁ b₁ h = let e : a₁ + 1 - a₀ ≡ 0 = omega arith in rw e
 
 -- the shallow lines, forth and back
-module _ (s t : FieldCell) (n : apart (s .row) (t .row) < apart (s .column) (t .column)) where
+module _ (s t : FieldCell) (n : distance (s .row) (t .row) < distance (s .column) (t .column)) where
   pub shallow-forth : s .column ≤ t .column → line s t ≡ shallow s t
   unfolding line
-  shallow-forth h = rw (lt-ltb (apart (s .row) (t .row)) (apart (s .column) (t .column)) n, le-leb (s .column) (t .column) h)
+  shallow-forth h = rw (lt-ltb (distance (s .row) (t .row)) (distance (s .column) (t .column)) n, le-leb (s .column) (t .column) h)
 
   pub shallow-back : t .column < s .column → line s t ≡ reverse (shallow t s)
   unfolding line
-  shallow-back h = rw (lt-ltb (apart (s .row) (t .row)) (apart (s .column) (t .column)) n, lt-leb (s .column) (t .column) h)
+  shallow-back h = rw (lt-ltb (distance (s .row) (t .row)) (distance (s .column) (t .column)) n, lt-leb (s .column) (t .column) h)
 
 -- the steep lines, forth and back
-module _ (s t : FieldCell) (n : apart (s .column) (t .column) ≤ apart (s .row) (t .row)) where
+module _ (s t : FieldCell) (n : distance (s .column) (t .column) ≤ distance (s .row) (t .row)) where
   pub steep-forth : s .row ≤ t .row → line s t ≡ steep s t
   unfolding line
-  steep-forth h = rw (le-ltb (apart (s .row) (t .row)) (apart (s .column) (t .column)) n, le-leb (s .row) (t .row) h)
+  steep-forth h = rw (le-ltb (distance (s .row) (t .row)) (distance (s .column) (t .column)) n, le-leb (s .row) (t .row) h)
 
   pub steep-back : t .row < s .row → line s t ≡ reverse (steep t s)
   unfolding line
-  steep-back h = rw (le-ltb (apart (s .row) (t .row)) (apart (s .column) (t .column)) n, lt-leb (s .row) (t .row) h)
+  steep-back h = rw (le-ltb (distance (s .row) (t .row)) (distance (s .column) (t .column)) n, lt-leb (s .row) (t .row) h)

@@ -14,10 +14,10 @@ use Rattle.fields.specs.declared.FieldCell.{FieldCell}
 use Rattle.fields.specs.declared.Stepped.the-variants.{Cell}
 use Rattle.fields.specs.Cell.{Inside, stepped}
 use Rattle.fields.proofs.Steps.{stepped-cell, told, steps-by}
-use Rattle.line_nearest.specs.Line.{apart}
+use Rattle.line_nearest.specs.Line.{distance}
 use Rattle.line_nearest.specs.Nearest.{Neighbours}
 
--- two coordinates of which one is 1 apart and the other at most 1
+-- two coordinates of which one differs by 1 and the other by 1 at most
 record Close (a b x y : ℕ) : Type 0 where
   up : b ≤ a + 1
   down : a ≤ b + 1
@@ -25,7 +25,7 @@ record Close (a b x y : ℕ) : Type 0 where
   left : x ≤ y + 1
   other : a ≡ b → x ≡ y → ⊥
 
-close : (a b x y : ℕ) → max (apart a b) (apart x y) ≡ 1 → Close a b x y
+close : (a b x y : ℕ) → max (distance a b) (distance x y) ≡ 1 → Close a b x y
 close a b x y h = record { up = omega arith; down = omega arith; right = omega arith; left = omega arith; other = λ p q. omega arith }
 
 -- which of the eight: by the sides that the one lies to of the other
@@ -98,7 +98,7 @@ neighbours-stepped c n i h =
 largest : (x y : ℕ) → x ≤ 1 → y ≤ 1 → 1 ≤ x + y → max x y ≡ 1
 largest x y p q r = omega arith
 
-by-one : (a b r f : ℕ) → b + f ≡ a + r → r + f ≤ 1 → apart a b ≡ r + f
+by-one : (a b r f : ℕ) → b + f ≡ a + r → r + f ≤ 1 → distance a b ≡ r + f
 by-one a b r f p h = omega arith
 
 -- and each of them is a neighbour: a direction moves by one at most in each coordinate, and by one in some

@@ -8,7 +8,7 @@ use native.Mathlib.Nat.{mul-comm, mul-left-comm, mul-assoc, mul-add, add-mul, on
 use native.Mathlib.Omega.{arith}
 use lib.Dec.{leb}
 use borrow.Author.Tests.{leb-true, leb-false}
-use Rattle.line_nearest.specs.Line.{apart, toward, nearest, offsetAt, minorAt}
+use Rattle.line_nearest.specs.Line.{distance, toward, nearest, offsetAt, minorAt}
 use Rattle.line_nearest.specs.Nearest.{Between, NearestTo}
 
 -- q is x / (2 * m), from the two bounds
@@ -65,7 +65,7 @@ nearest-only d m k y p n =
     go false e =
         let l = leb-false (m * y) (k * d) e in
         let h = n .half-at-most in
-        let s : 2 * apart (k * d) (m * y) ≡ m → ⊥ = λ e. let z = n .half-smaller e in omega arith in
+        let s : 2 * distance (k * d) (m * y) ≡ m → ⊥ = λ e. let z = n .half-smaller e in omega arith in
         omega (arith, s)
 
 pub nearest-start : (d m : ℕ) → nearest d m 0 ≡ 0
@@ -224,35 +224,35 @@ toward-down : (a b o : ℕ) → b ≤ a → toward a b o ≡ a - min o (a - b)
 unfolding toward
 toward-down a b o h = omega arith
 
-apart-more : (a o : ℕ) → apart a (a + o) ≡ o
-apart-more a o = omega arith
+distance-more : (a o : ℕ) → distance a (a + o) ≡ o
+distance-more a o = omega arith
 
-apart-less : (a o : ℕ) → o ≤ a → apart a (a - o) ≡ o
-apart-less a o h = omega arith
+distance-less : (a o : ℕ) → o ≤ a → distance a (a - o) ≡ o
+distance-less a o h = omega arith
 
-near-more : (a u v : ℕ) → u ≤ v → v ≤ u + 1 → apart (a + u) (a + v) ≤ 1
+near-more : (a u v : ℕ) → u ≤ v → v ≤ u + 1 → distance (a + u) (a + v) ≤ 1
 near-more a u v p q = omega arith
 
-near-less : (a u v : ℕ) → v ≤ a → u ≤ v → v ≤ u + 1 → apart (a - u) (a - v) ≤ 1
+near-less : (a u v : ℕ) → v ≤ a → u ≤ v → v ≤ u + 1 → distance (a - u) (a - v) ≤ 1
 near-less a u v h p q = omega arith
 
-pub toward-offset : (a b o : ℕ) → o ≤ apart a b → apart a (toward a b o) ≡ o
+pub toward-offset : (a b o : ℕ) → o ≤ distance a b → distance a (toward a b o) ≡ o
 toward-offset a b o h = go (leb a b) refl
   where
-    go : (t : Bool) → leb a b ≡ t → apart a (toward a b o) ≡ o
+    go : (t : Bool) → leb a b ≡ t → distance a (toward a b o) ≡ o
     go true e =
         let p = leb-true a b e in
         let q : min o (b - a) ≡ o = omega arith in
-        rw (toward-up a b o p, q) (apart-more a o)
+        rw (toward-up a b o p, q) (distance-more a o)
     go false e =
         let p = le-of-lt (leb-false a b e) in
         let q : min o (a - b) ≡ o = omega arith in
-        rw (toward-down a b o p, q) (apart-less a o (omega arith))
+        rw (toward-down a b o p, q) (distance-less a o (omega arith))
 
-toward-next : (a b y z : ℕ) → y ≤ z → z ≤ y + 1 → apart (toward a b y) (toward a b z) ≤ 1
+toward-next : (a b y z : ℕ) → y ≤ z → z ≤ y + 1 → distance (toward a b y) (toward a b z) ≤ 1
 toward-next a b y z u v = go (leb a b) refl
   where
-    go : (t : Bool) → leb a b ≡ t → apart (toward a b y) (toward a b z) ≤ 1
+    go : (t : Bool) → leb a b ≡ t → distance (toward a b y) (toward a b z) ≤ 1
     go true e =
         let p = leb-true a b e in
         rw (toward-up a b y p, toward-up a b z p) (near-more a (min y (b - a)) (min z (b - a)) (omega arith) (omega arith))
@@ -266,23 +266,23 @@ toward-between a b o = record { from = omega arith; to = omega arith }
 
 -- the shorter coordinate: never outside the two ends, from the one to the other, and by one at most at each step
 pub minor-between : (a b m k : ℕ) → Between a b (minorAt a b m k)
-minor-between a b m k = toward-between a b (offsetAt (apart a b) m k)
+minor-between a b m k = toward-between a b (offsetAt (distance a b) m k)
 
 pub minor-start : (a b m : ℕ) → minorAt a b m 0 ≡ a
 unfolding toward
-minor-start a b m = let e = nearest-start (apart a b) m in omega arith
+minor-start a b m = let e = nearest-start (distance a b) m in omega arith
 
-module _ (a b m : ℕ) (narrow : apart a b ≤ m) where
-  pub minor-offset : (k : ℕ) → k ≤ m → apart a (minorAt a b m k) ≡ nearest (apart a b) m k
+module _ (a b m : ℕ) (narrow : distance a b ≤ m) where
+  pub minor-offset : (k : ℕ) → k ≤ m → distance a (minorAt a b m k) ≡ nearest (distance a b) m k
   minor-offset k h =
-      rw (narrow-offset (apart a b) m k narrow) (toward-offset a b (nearest (apart a b) m k) (nearest-le (apart a b) m k h))
+      rw (narrow-offset (distance a b) m k narrow) (toward-offset a b (nearest (distance a b) m k) (nearest-le (distance a b) m k h))
 
   pub minor-end : minorAt a b m m ≡ b
   unfolding toward
-  minor-end = let e = nearest-end (apart a b) m narrow in omega arith
+  minor-end = let e = nearest-end (distance a b) m narrow in omega arith
 
-  pub minor-next : (k : ℕ) → apart (minorAt a b m k) (minorAt a b m (k + 1)) ≤ 1
+  pub minor-next : (k : ℕ) → distance (minorAt a b m k) (minorAt a b m (k + 1)) ≤ 1
   minor-next k =
-      let g = nearest-grows (apart a b) m k narrow in
-      rw (narrow-offset (apart a b) m k narrow, narrow-offset (apart a b) m (k + 1) narrow)
-      (toward-next a b (nearest (apart a b) m k) (nearest (apart a b) m (k + 1)) (g .stays) (g .grown))
+      let g = nearest-grows (distance a b) m k narrow in
+      rw (narrow-offset (distance a b) m k narrow, narrow-offset (distance a b) m (k + 1) narrow)
+      (toward-next a b (nearest (distance a b) m k) (nearest (distance a b) m (k + 1)) (g .stays) (g .grown))

@@ -18,7 +18,7 @@ use lib.ListN.{length, getD}
 use borrow.Author.Tests.{leb-true, leb-false, ltb-true, ltb-false}
 use Rattle.fields.specs.declared.FieldCell.{FieldCell}
 use Rattle.fields.specs.Cell.{cell, Inside}
-use Rattle.line_nearest.specs.Line.{apart, shallow, steep, line}
+use Rattle.line_nearest.specs.Line.{distance, shallow, steep, line}
 use Rattle.line_nearest.specs.Nearest.{Between, NearestWalk, Walked, columnOf, rowOf, NearestLine, Spanned}
 use Rattle.line_nearest.proofs.Walks.{walked-back, shallow-walked, steep-walked}
 
@@ -29,11 +29,11 @@ by-test P false x y f g = g refl
 
 -- a walk as long as the longer span, listed from s to t: it is the line where it is the one that the spans ask for
 of-walk : (major minor : FieldCell → ℕ) (a b s t : FieldCell) (l : List FieldCell) → Walked major minor a b s t l
-    → apart (major a) (major b) ≡ max (apart (s .column) (t .column)) (apart (s .row) (t .row))
-    → (apart (s .row) (t .row) < apart (s .column) (t .column) → s .column ≤ t .column → NearestWalk columnOf rowOf s t l)
-    → (apart (s .row) (t .row) < apart (s .column) (t .column) → t .column < s .column → NearestWalk columnOf rowOf t s l)
-    → (apart (s .column) (t .column) ≤ apart (s .row) (t .row) → s .row ≤ t .row → NearestWalk rowOf columnOf s t l)
-    → (apart (s .column) (t .column) ≤ apart (s .row) (t .row) → t .row < s .row → NearestWalk rowOf columnOf t s l)
+    → distance (major a) (major b) ≡ max (distance (s .column) (t .column)) (distance (s .row) (t .row))
+    → (distance (s .row) (t .row) < distance (s .column) (t .column) → s .column ≤ t .column → NearestWalk columnOf rowOf s t l)
+    → (distance (s .row) (t .row) < distance (s .column) (t .column) → t .column < s .column → NearestWalk columnOf rowOf t s l)
+    → (distance (s .column) (t .column) ≤ distance (s .row) (t .row) → s .row ≤ t .row → NearestWalk rowOf columnOf s t l)
+    → (distance (s .column) (t .column) ≤ distance (s .row) (t .row) → t .row < s .row → NearestWalk rowOf columnOf t s l)
     → NearestLine s t l
 of-walk major minor a b s t l w long p q r u =
     let m = w .many in
@@ -42,9 +42,9 @@ of-walk major minor a b s t l w long p q r u =
 pub nearest-line : (s t : FieldCell) → NearestLine s t (line s t)
 unfolding line
 nearest-line s t =
-    by-test (NearestLine s t) (ltb (apart (s .row) (t .row)) (apart (s .column) (t .column))) _ _
+    by-test (NearestLine s t) (ltb (distance (s .row) (t .row)) (distance (s .column) (t .column))) _ _
     (λ e.
-    let n = ltb-true (apart (s .row) (t .row)) (apart (s .column) (t .column)) e in
+    let n = ltb-true (distance (s .row) (t .row)) (distance (s .column) (t .column)) e in
     by-test (NearestLine s t) (leb (s .column) (t .column)) _ _
     (λ f.
     let h = leb-true (s .column) (t .column) f in
@@ -57,7 +57,7 @@ nearest-line s t =
     of-walk columnOf rowOf t s s t _ w (omega arith)
     (λ p q. absurd (omega arith)) (λ p q. w .each) (λ p q. absurd (omega arith)) (λ p q. absurd (omega arith))))
     (λ e.
-    let n = ltb-false (apart (s .row) (t .row)) (apart (s .column) (t .column)) e in
+    let n = ltb-false (distance (s .row) (t .row)) (distance (s .column) (t .column)) e in
     by-test (NearestLine s t) (leb (s .row) (t .row)) _ _
     (λ f.
     let h = leb-true (s .row) (t .row) f in
@@ -89,21 +89,21 @@ turned : (a b x : ℕ) → Between a b x → Between b a x
 turned a b x h = record { from = let p = h .from in omega arith; to = let p = h .to in omega arith }
 
 spanned : (s t : FieldCell) (l : List FieldCell) → NearestLine s t l → (k : ℕ) → k < length l → Spanned s t (getD l k (cell 0 0))
-spanned s t l w k i = go (ltb (apart (s .row) (t .row)) (apart (s .column) (t .column))) (leb (s .column) (t .column)) (leb (s .row) (t .row)) refl refl refl
+spanned s t l w k i = go (ltb (distance (s .row) (t .row)) (distance (s .column) (t .column))) (leb (s .column) (t .column)) (leb (s .row) (t .row)) refl refl refl
   where
-    go : (x y z : Bool) → ltb (apart (s .row) (t .row)) (apart (s .column) (t .column)) ≡ x → leb (s .column) (t .column) ≡ y → leb (s .row) (t .row) ≡ z
+    go : (x y z : Bool) → ltb (distance (s .row) (t .row)) (distance (s .column) (t .column)) ≡ x → leb (s .column) (t .column) ≡ y → leb (s .row) (t .row) ≡ z
         → Spanned s t (getD l k (cell 0 0))
     go true true z e f g =
-        let n = w .shallow (ltb-true (apart (s .row) (t .row)) (apart (s .column) (t .column)) e) (leb-true (s .column) (t .column) f) k i in
+        let n = w .shallow (ltb-true (distance (s .row) (t .row)) (distance (s .column) (t .column)) e) (leb-true (s .column) (t .column) f) k i in
         record { columns = n .along; rows = n .aside }
     go true false z e f g =
-        let n = w .shallow-back (ltb-true (apart (s .row) (t .row)) (apart (s .column) (t .column)) e) (leb-false (s .column) (t .column) f) k i in
+        let n = w .shallow-back (ltb-true (distance (s .row) (t .row)) (distance (s .column) (t .column)) e) (leb-false (s .column) (t .column) f) k i in
         record { columns = turned _ _ _ (n .along); rows = turned _ _ _ (n .aside) }
     go false y true e f g =
-        let n = w .steep (ltb-false (apart (s .row) (t .row)) (apart (s .column) (t .column)) e) (leb-true (s .row) (t .row) g) k i in
+        let n = w .steep (ltb-false (distance (s .row) (t .row)) (distance (s .column) (t .column)) e) (leb-true (s .row) (t .row) g) k i in
         record { columns = n .aside; rows = n .along }
     go false y false e f g =
-        let n = w .steep-back (ltb-false (apart (s .row) (t .row)) (apart (s .column) (t .column)) e) (leb-false (s .row) (t .row) g) k i in
+        let n = w .steep-back (ltb-false (distance (s .row) (t .row)) (distance (s .column) (t .column)) e) (leb-false (s .row) (t .row) g) k i in
         record { columns = turned _ _ _ (n .aside); rows = turned _ _ _ (n .along) }
 
 pub line-spanned : (s t : FieldCell) (k : ℕ) → k < length (line s t) → Spanned s t (getD (line s t) k (cell 0 0))

@@ -10,7 +10,7 @@ use lib.ListN.{length, getD, length-reverse}
 use Rattle.fields.specs.declared.FieldCell.{FieldCell}
 use Rattle.fields.specs.Cell.{cell}
 use Rattle.line_nearest.specs.Table.{table}
-use Rattle.line_nearest.specs.Line.{apart, nearest, minorAt, walkAt, shallow, steep}
+use Rattle.line_nearest.specs.Line.{distance, nearest, minorAt, walkAt, shallow, steep}
 use Rattle.line_nearest.specs.Nearest.{Between, Neighbours, NearestTo, NearestCell, Walked, columnOf, rowOf}
 use Rattle.line_nearest.proofs.Lists.{length-table, getD-table, getD-reverse}
 use Rattle.line_nearest.proofs.Offset.{nearest-is, minor-between, minor-offset, minor-start, minor-end, minor-next}
@@ -31,19 +31,19 @@ between-up x m k h = record { from = omega arith; to = omega arith }
 module _
     (major minor : FieldCell → ℕ)
     (same : (c d : FieldCell) → major c ≡ major d → minor c ≡ minor d → c ≡ d)
-    (neighbours : (c d : FieldCell) → apart (major c) (major d) ≡ 1 → apart (minor c) (minor d) ≤ 1 → Neighbours c d)
+    (neighbours : (c d : FieldCell) → distance (major c) (major d) ≡ 1 → distance (minor c) (minor d) ≤ 1 → Neighbours c d)
     (a b : FieldCell) (m : ℕ) (f : ℕ → FieldCell)
     (ahead : major b ≡ major a + m)
-    (narrow : apart (minor a) (minor b) ≤ m)
+    (narrow : distance (minor a) (minor b) ≤ m)
     (along : (k : ℕ) → major (f k) ≡ major a + k)
     (aside : (k : ℕ) → minor (f k) ≡ minorAt (minor a) (minor b) m k) where
   step-nearest : (k : ℕ) → k ≤ m → NearestCell major minor a b (f k)
   step-nearest k h =
-      let d = apart (minor a) (minor b) in
+      let d = distance (minor a) (minor b) in
       let g = along k in
-      let p : apart (major a) (major (f k)) ≡ k = omega arith in
-      let q : apart (major a) (major b) ≡ m = omega arith in
-      let r : apart (minor a) (minor (f k)) ≡ nearest d m k = ap (apart (minor a)) (aside k) ∙ minor-offset (minor a) (minor b) m narrow k h in
+      let p : distance (major a) (major (f k)) ≡ k = omega arith in
+      let q : distance (major a) (major b) ≡ m = omega arith in
+      let r : distance (minor a) (minor (f k)) ≡ nearest d m k = ap (distance (minor a)) (aside k) ∙ minor-offset (minor a) (minor b) m narrow k h in
       record {
         along = rw (ahead, g) (between-up (major a) m k h);
         aside = subst (Between (minor a) (minor b)) (sym (aside k)) (minor-between (minor a) (minor b) m k);
@@ -102,14 +102,14 @@ pub cells-many : (a b : ℕ) → a ≤ b → b + 1 - a ≡ b - a + 1
 cells-many a b h = omega arith
 
 module _ (s t : FieldCell) where
-  pub shallow-walked : s .column ≤ t .column → apart (s .row) (t .row) ≤ t .column - s .column → Walked columnOf rowOf s t s t (shallow s t)
+  pub shallow-walked : s .column ≤ t .column → distance (s .row) (t .row) ≤ t .column - s .column → Walked columnOf rowOf s t s t (shallow s t)
   unfolding shallow
   shallow-walked h n =
       let f = walkAt false (s .column) (s .row) (t .column) (t .row) in
       rw (cells-many (s .column) (t .column) h)
       (walked columnOf rowOf (λ c d p q. ap₂ cell p q) (λ c d p q. omega arith) s t (t .column - s .column) f (omega arith) n (λ k. refl) (λ k. refl))
 
-  pub steep-walked : s .row ≤ t .row → apart (s .column) (t .column) ≤ t .row - s .row → Walked rowOf columnOf s t s t (steep s t)
+  pub steep-walked : s .row ≤ t .row → distance (s .column) (t .column) ≤ t .row - s .row → Walked rowOf columnOf s t s t (steep s t)
   unfolding steep
   steep-walked h n =
       let f = walkAt true (s .row) (s .column) (t .row) (t .column) in

@@ -11,9 +11,9 @@ use Rattle.fields.specs.Cell.{cell, inside}
 use Rattle.line_nearest.specs.declared.Line.{Line}
 use Rattle.line_nearest.specs.Table.{table}
 
--- how far apart two coordinates are: one of the two differences is 0
-abbrev pub apart : ℕ → ℕ → ℕ
-apart a b = a - b + (b - a)
+-- how far two coordinates are from each other: one of the two differences is 0
+abbrev pub distance : ℕ → ℕ → ℕ
+distance a b = a - b + (b - a)
 
 -- the coordinate that is o from a on the way to b, and never beyond b
 unfoldable pub toward : ℕ → ℕ → ℕ → ℕ
@@ -30,18 +30,18 @@ offsetAt d m k = min k (nearest d m k)
 
 -- the minor coordinate at step k of a walk of m steps that takes it from a toward b
 abbrev pub minorAt : ℕ → ℕ → ℕ → ℕ → ℕ
-minorAt a b m k = toward a b (offsetAt (apart a b) m k)
+minorAt a b m k = toward a b (offsetAt (distance a b) m k)
 
 -- a cell by its major and minor coordinate: of a steep walk the rows are the major one
-abbrev pub placed : Bool → ℕ → ℕ → FieldCell
-placed true major minor = cell minor major
-placed false major minor = cell major minor
+abbrev pub cellOnAxes : Bool → ℕ → ℕ → FieldCell
+cellOnAxes true major minor = cell minor major
+cellOnAxes false major minor = cell major minor
 
 -- Step k of a walk, and its cells: its major coordinate gains one at each step, from a₀ to a₁, and its minor one goes from b₀ toward b₁.
 -- This is the Rust's walk of any pair: no cells where a₁ is below a₀, a diagonal where the minor span is above the major one.
 -- 01, "Line", speaks of the other pairs, on which it is Bresenham's (specs/Nearest.antt).
 abbrev pub walkAt : Bool → ℕ → ℕ → ℕ → ℕ → ℕ → FieldCell
-walkAt steep a₀ b₀ a₁ b₁ k = placed steep (a₀ + k) (minorAt b₀ b₁ (a₁ - a₀) k)
+walkAt steep a₀ b₀ a₁ b₁ k = cellOnAxes steep (a₀ + k) (minorAt b₀ b₁ (a₁ - a₀) k)
 
 abbrev pub walkCells : Bool → ℕ → ℕ → ℕ → ℕ → List FieldCell
 walkCells steep a₀ b₀ a₁ b₁ = table (a₁ + 1 - a₀) (walkAt steep a₀ b₀ a₁ b₁)
@@ -56,7 +56,7 @@ steep s t = walkCells true (s .row) (s .column) (t .row) (t .column)
 -- The line from s to t (01, "Line"). Toward a lower major coordinate it is walked from t and reversed. Equal spans are steep.
 unfoldable pub line : FieldCell → FieldCell → List FieldCell
 line s t =
-    cond (ltb (apart (s .row) (t .row)) (apart (s .column) (t .column)))
+    cond (ltb (distance (s .row) (t .row)) (distance (s .column) (t .column)))
     (cond (leb (s .column) (t .column)) (shallow s t) (reverse (shallow t s)))
     (cond (leb (s .row) (t .row)) (steep s t) (reverse (steep t s)))
 

@@ -94,7 +94,7 @@ module _ (seed : ℕ) where
         record {
           goal = goal-by;
           goal-cell = getD-set-same (drawnCosts seed) (practiceGoal seed) 1 0 (omega (arith, drawn-length, goal-inside));
-          cells = λ i h apart. rw (getD-set-other (drawnCosts seed) (practiceGoal seed) i 1 0 apart) (cell-by i h);
+          cells = λ i h other. rw (getD-set-other (drawnCosts seed) (practiceGoal seed) i 1 0 other) (cell-by i h);
         }
 
   pub told : PracticeTold seed (practiceFloor seed)

@@ -2,12 +2,12 @@
 use replay_records::byte_at;
 use replay_records::front;
 use replay_records::part;
-use replay_records::size_at;
+use replay_records::usize_at;
 
 // A record: lengths of list and buffer, the byte that fills the buffer; number; 150 bytes of list; 160 of the buffer.
 pub fn write_agrees(record: &[u8]) -> bool {
-    let length = size_at(record, 0);
-    let room = size_at(record, 1);
+    let length = usize_at(record, 0);
+    let room = usize_at(record, 1);
     if length > 150 || room > 160 {
         return false;
     }
@@ -18,12 +18,12 @@ pub fn write_agrees(record: &[u8]) -> bool {
 
 // A record: length of the file; number, start and length of the part; 150 bytes of file.
 pub fn read_agrees(record: &[u8]) -> bool {
-    let length = size_at(record, 0);
+    let length = usize_at(record, 0);
     if length > 150 {
         return false;
     }
     let found = leg_reader::locate(part(record, 4, 4 + length));
     found.number == byte_at(record, 1)
-        && found.start == size_at(record, 2)
-        && found.length == size_at(record, 3)
+        && found.start == usize_at(record, 2)
+        && found.length == usize_at(record, 3)
 }

@@ -1,7 +1,7 @@
 // The records of bounds: two floors and a step.
 use replay_records::byte_at;
 use replay_records::part;
-use replay_records::size_at;
+use replay_records::usize_at;
 use replay_records::word_at;
 
 // Whether a hundred costs are those that stand in 32 bits each.
@@ -30,9 +30,9 @@ fn same_marks(marks: [bool; 100], bytes: &[u8]) -> bool {
 
 // A record: lengths of low, high and step, 101 bytes for each floor, 9 of step; number, least, greatest, marks.
 pub fn bounds_agree(record: &[u8]) -> bool {
-    let low = size_at(record, 0);
-    let high = size_at(record, 1);
-    let step = size_at(record, 2);
+    let low = usize_at(record, 0);
+    let high = usize_at(record, 1);
+    let step = usize_at(record, 2);
     if low > 101 || high > 101 || step > 9 {
         return false;
     }

@@ -3,7 +3,7 @@
 use replay_records::byte_at;
 use replay_records::field_of;
 use replay_records::part;
-use replay_records::size_at;
+use replay_records::usize_at;
 
 // A record: 8 bytes of step, cells, has_previous, 100 previous numbers; number, sheet.
 pub fn new_agrees(record: &[u8]) -> bool {
@@ -49,7 +49,7 @@ pub fn readers_agree(record: &[u8]) -> bool {
 
 // A record: length of the sheet, 101 bytes for the sheet; number, 100 numbers of moves.
 pub fn arrivals_agree(record: &[u8]) -> bool {
-    let sheet = size_at(record, 0);
+    let sheet = usize_at(record, 0);
     if sheet > 101 {
         return false;
     }

@@ -5,7 +5,7 @@ use replay_records::byte_at;
 use replay_records::field_of;
 use replay_records::part;
 use replay_records::same_field;
-use replay_records::size_at;
+use replay_records::usize_at;
 
 // Number, field.
 pub fn same_init(answer: InitAnswer, bytes: &[u8]) -> bool {
@@ -17,7 +17,7 @@ pub fn same_init(answer: InitAnswer, bytes: &[u8]) -> bool {
 pub fn same_build(answer: BuildAnswer, bytes: &[u8]) -> bool {
     let field = answer.field;
     answer.number == byte_at(bytes, 0)
-        && answer.waves == size_at(bytes, 1)
+        && answer.waves == usize_at(bytes, 1)
         && same_field(field, part(bytes, 2, 603))
 }
 

@@ -5,7 +5,7 @@ use replay_records::byte_at;
 use replay_records::front;
 use replay_records::part;
 use replay_records::short_at;
-use replay_records::size_at;
+use replay_records::usize_at;
 ghost use Prim.Native.Nat.{_≤_};
 ghost use lib.ListN.{length};
 
@@ -26,7 +26,7 @@ fn put_sectors(whole: &mut [u8], steps: &[u8], parts: &[u8]) {
     while k < 16 {
         let first = 100 * k;
         let last = first + 100;
-        put_sector(whole, size_at(steps, 8 * k), part(parts, first, last));
+        put_sector(whole, usize_at(steps, 8 * k), part(parts, first, last));
         k += 1;
     }
 }
@@ -41,7 +41,7 @@ fn plan_by_sight(sight: bool, floor: &[u8], steps: &[u8], sheet: &mut [u8]) -> u
 
 // A record: step count, 16 steps, 16 times 100 costs; number, 16 times 100 bytes of the sheet.
 pub fn leg_agrees(record: &[u8], sight: bool) -> bool {
-    let count = size_at(record, 0);
+    let count = usize_at(record, 0);
     let steps = part(record, 1, 1 + 8 * count);
     let mut floor = [1u8; 6400];
     put_sectors(&mut floor, steps, part(record, 129, 129 + 100 * count));
@@ -63,7 +63,7 @@ fn field_by_sight(sight: bool, floor: &[u8], steps: &[u8], place: usize) -> Buil
 // A record: length of the floor in 16 bits, length of the steps, place in 16 bits, 136 bytes for the steps, 16 times 100
 // costs; number, waves, field.
 pub fn field_agrees(record: &[u8], sight: bool) -> bool {
-    let length = size_at(record, 2);
+    let length = usize_at(record, 2);
     let steps = part(record, 5, 5 + length);
     let mut costs = [1u8; 6401];
     let floor = front(&mut costs, short_at(record, 0, 1));

@@ -4,13 +4,13 @@ use line_end::LineEnd;
 use line_nearest::Line;
 use replay_records::byte_at;
 use replay_records::part;
-use replay_records::size_at;
+use replay_records::usize_at;
 
 // The cell whose column and row stand at these places.
 fn cell_at(bytes: &[u8], column: usize, row: usize) -> FieldCell {
     FieldCell {
-        column: size_at(bytes, column),
-        row: size_at(bytes, row),
+        column: usize_at(bytes, column),
+        row: usize_at(bytes, row),
     }
 }
 
@@ -29,7 +29,7 @@ fn same_cells(cells: [FieldCell; 10], indexes: &[u8]) -> bool {
     let mut i = 0;
     while i < 10 {
         let cell = cells[i];
-        if cell.as_1d_index() != size_at(indexes, i) {
+        if cell.as_1d_index() != usize_at(indexes, i) {
             return false;
         }
         i += 1;
@@ -41,7 +41,7 @@ fn same_cells(cells: [FieldCell; 10], indexes: &[u8]) -> bool {
 pub fn same_line(line: Line, bytes: &[u8]) -> bool {
     let cells = line.cells;
     line.number == byte_at(bytes, 0)
-        && line.count == size_at(bytes, 1)
+        && line.count == usize_at(bytes, 1)
         && same_cells(cells, part(bytes, 2, 12))
 }
 
@@ -49,8 +49,8 @@ pub fn same_line(line: Line, bytes: &[u8]) -> bool {
 pub fn same_end(end: LineEnd, bytes: &[u8]) -> bool {
     let cell = end.cell;
     end.number == byte_at(bytes, 0)
-        && cell.column == size_at(bytes, 1)
-        && cell.row == size_at(bytes, 2)
+        && cell.column == usize_at(bytes, 1)
+        && cell.row == usize_at(bytes, 2)
         && byte_at(bytes, 3) == 0
 }
 

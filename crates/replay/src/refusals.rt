@@ -12,7 +12,7 @@ use replay_records::byte_at;
 use replay_records::front;
 use replay_records::part;
 use replay_records::short_at;
-use replay_records::size_at;
+use replay_records::usize_at;
 
 // A call's number; 255, which none has, where it is refused and answers anything but the recorded number and zeros.
 fn settled(number: u8, same: bool) -> u8 {
@@ -41,7 +41,7 @@ fn line_end_number(record: &[u8]) -> u8 {
 // A field of zeros with a record's count and its one corner.
 fn given_field(record: &[u8]) -> IntegrationField {
     let mut los_corners = [0usize; 100];
-    let place = size_at(record, 12);
+    let place = usize_at(record, 12);
     if place < 100 {
         los_corners[place] = short_at(record, 13, 14);
     }

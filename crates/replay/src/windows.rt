@@ -2,7 +2,7 @@
 use replay_records::byte_at;
 use replay_records::part;
 use replay_records::short_at;
-use replay_records::size_at;
+use replay_records::usize_at;
 use replay_records::word_at;
 use window_square::WindowRow;
 
@@ -34,8 +34,8 @@ fn same_rows(rows: [WindowRow; 8], bytes: &[u8]) -> bool {
 
 // A record: lengths of costs and steps, 101 bytes for the costs, 136 for the steps; number, and the square, row by row.
 pub fn costs_agree(record: &[u8]) -> bool {
-    let costs = size_at(record, 0);
-    let steps = size_at(record, 1);
+    let costs = usize_at(record, 0);
+    let steps = usize_at(record, 1);
     if costs > 101 || steps > 136 {
         return false;
     }
@@ -62,12 +62,12 @@ fn same_order(order: [u8; 8], bytes: &[u8]) -> bool {
 // A record: lengths of costs and steps, limit, 101 bytes for the costs, 136 for the steps; number, whether an order is
 // found, the order, its sum, the number tried and the least figure.
 pub fn tour_agrees(record: &[u8]) -> bool {
-    let costs = size_at(record, 0);
-    let steps = size_at(record, 1);
+    let costs = usize_at(record, 0);
+    let steps = usize_at(record, 1);
     if costs > 101 || steps > 136 {
         return false;
     }
-    let found = tour::plan_tour(
+    let found = tour::window_tour(
         part(record, 4, 4 + costs),
         part(record, 105, 105 + steps),
         short_at(record, 2, 3) as u16,

@@ -35,7 +35,7 @@ pub fn byte_at(bytes: &[u8], at: usize) -> u8
 }
 
 // The byte at a place as a count, a coordinate or a corner; 0 where there is none.
-pub fn size_at(bytes: &[u8], at: usize) -> usize
+pub fn usize_at(bytes: &[u8], at: usize) -> usize
     ensures { λ r. ⌜ (r ≡ getD (now (bytes .entry)) at 0) × (r < 256) ⌝ }
 {
     byte_at(bytes, at) as usize
@@ -45,7 +45,7 @@ pub fn size_at(bytes: &[u8], at: usize) -> usize
 pub fn short_at(bytes: &[u8], low: usize, high: usize) -> usize
     ensures { λ r. ⌜ r < 65536 ⌝ }
 {
-    size_at(bytes, low) + 256 * size_at(bytes, high)
+    usize_at(bytes, low) + 256 * usize_at(bytes, high)
 }
 
 // The number of 32 bits at a place, its lowest byte first.
@@ -82,13 +82,13 @@ pub fn field_of(bytes: &[u8]) -> IntegrationField
     while i < 100 {
         field[i] = word_at(bytes, 4 * i);
         positions[i] = byte_at(bytes, 401 + i);
-        los_corners[i] = size_at(bytes, 501 + i);
+        los_corners[i] = usize_at(bytes, 501 + i);
         i += 1;
     }
     IntegrationField {
         field,
         los_corners,
-        count: size_at(bytes, 400),
+        count: usize_at(bytes, 400),
         positions,
     }
 }
@@ -98,7 +98,7 @@ pub fn same_field(field: IntegrationField, bytes: &[u8]) -> bool
     ensures { λ r. ⌜ (r ≡ true → SameField field (now (bytes .entry))) ⌝ }
 {
     let count = field.count;
-    if count != size_at(bytes, 0) {
+    if count != usize_at(bytes, 0) {
         return false;
     }
     let positions = field.positions;
@@ -109,7 +109,7 @@ pub fn same_field(field: IntegrationField, bytes: &[u8]) -> bool
         if positions[i] != byte_at(bytes, 1 + i) {
             return false;
         }
-        if los_corners[i] != size_at(bytes, 101 + i) {
+        if los_corners[i] != usize_at(bytes, 101 + i) {
             return false;
         }
         if cells[i] != word_at(bytes, 201 + 4 * i) {

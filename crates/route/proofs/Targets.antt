@@ -212,17 +212,17 @@ held-in t h = go (t .«has_window») (t .sight) refl refl
     go false false e q = rw (e, q) (h .goal-in e)
 
 -- as it is made of a step
-module _ (step : List ℕ) (s : RouteStep) (t : program.Target) (apart : s ≡ routeStep step) (made : t ≡ listedTarget (routeTarget s)) where
+module _ (step : List ℕ) (s : RouteStep) (t : program.Target) (parsed : s ≡ routeStep step) (made : t ≡ listedTarget (routeTarget s)) where
   is : t ≡ listedTarget (targetOf step)
   unfolding targetOf
-  is = made ∙ ap (λ (r : RouteStep). listedTarget (routeTarget r)) apart
+  is = made ∙ ap (λ (r : RouteStep). listedTarget (routeTarget r)) parsed
 
   pub made-target : heldTarget t ≡ targetOf step
   made-target = ap heldTarget is ∙ held-listed (targetOf step)
 
   -- it has a window exactly if the step is marked so
   pub made-marked : t .«has_window» ≡ isWindow step
-  made-marked = ap (λ (u : program.Target). u .«has_window») (made ∙ ap (λ (r : RouteStep). listedTarget (routeTarget r)) apart) ∙ go (isWindow step)
+  made-marked = ap (λ (u : program.Target). u .«has_window») (made ∙ ap (λ (r : RouteStep). listedTarget (routeTarget r)) parsed) ∙ go (isWindow step)
     where
       go : (b : Bool) → listedTarget (cond b (to-window (windowCells step)) (to-goal (goalOf step))) .«has_window» ≡ b
       go true = refl

@@ -12,7 +12,7 @@ use Rattle.route.specs.Window.{cellsBetween, listed}
 use Rattle.route.specs.Step.{isWallCost, someWallCost}
 use Rattle.route.specs.Target.{Target, to-goal, to-window, to-corner, WindowIn}
 
--- the target of a step taken apart
+-- the target of a parsed step
 abbrev pub routeTarget : RouteStep → Target
 routeTarget s = cond (s .«has_portal») (to-window (cellsBetween (s .portal .boundary) (s .portal .start) (s .portal .end))) (to-goal (s .goal))
 

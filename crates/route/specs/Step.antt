@@ -49,7 +49,7 @@ windowCells s = cellsBetween (boundaryOf s) (firstOf s) (lastOf s)
 abbrev pub portalOf : List ℕ → PortalWindow
 portalOf s = record { start = firstOf s; end = lastOf s; boundary = boundaryOf s }
 
--- the step taken apart
+-- the parsed step
 abbrev pub routeStep : List ℕ → RouteStep
 routeStep s =
     record {

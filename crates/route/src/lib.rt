@@ -1,4 +1,4 @@
-// A step of a route taken apart: its window's cells, and the target that a sector's field starts from.
+// A step of a route, parsed: its window's cells, and the target that a sector's field starts from.
 use utilities::CompassDir;
 use utilities::index_of;
 use utilities::rises;
@@ -35,7 +35,7 @@ pub struct PortalWindow {
     pub boundary: CompassDir,
 }
 
-// A step taken apart, with the fields of the Rust's. With a portal the actual goal is its window, else the goal cell.
+// A parsed step, with the fields of the Rust's. With a portal the actual goal is its window, else the goal cell.
 pub struct RouteStep {
     pub sector: usize,
     pub goal: usize,
@@ -68,7 +68,7 @@ pub fn byte_at(bytes: &[u8], place: usize) -> u8
     0
 }
 
-// How far apart the indexes of two neighbours on a side's edge are: 1 along a row, 10 down a column.
+// By how much the indexes of two neighbours on a side's edge differ: 1 along a row, 10 down a column.
 pub fn stride_of(boundary: CompassDir) -> usize
     ensures { λ r. ⌜ r ≡ stride boundary ⌝ }
 {
@@ -114,7 +114,7 @@ pub fn facing_cell(boundary: CompassDir, index: usize) -> usize
 }
 
 impl RouteStep {
-    // Takes a step's bytes apart; a byte that is not there counts as 0.
+    // Parses a step's bytes; a byte that is not there counts as 0.
     pub fn new(step: &[u8]) -> RouteStep
         ensures { λ r. ⌜ r ≡ routeStep (now (step .entry)) ⌝ }
     {

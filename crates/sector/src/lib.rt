@@ -99,7 +99,7 @@ fn run(
     ensures sheet { λ _. ⌜ now (sheet .exit) ≡ sectorBytes (now (costs .entry)) (heldTarget target) portal «has_previous» (now (previous .entry)) ⌝ }
 {
     let field = integration_init::start(costs, target);
-    let answer = integration_build::built(costs, field);
+    let answer = integration_build::build_with_positions(costs, field);
     let built = answer.field;
     write(portal, target.window, built, has_previous, previous, sheet);
     answer

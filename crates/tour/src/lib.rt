@@ -1,6 +1,6 @@
 // The call for a tour of the windows of one sector: Job 13's number and square, and the tour over it.
-use tour_plan::PlannedTour;
-use tour_sums::WindowTour;
+use tour_plan::WindowTour;
+use tour_sums::SearchedTour;
 ghost use mathlib.Core.Path.{_≡_};
 ghost use mathlib.Core.Logic.{_↔_};
 ghost use Rattle.step_list.specs.Steps.{stepsOf};
@@ -9,11 +9,11 @@ ghost use Rattle.tour_plan.specs.Plan.{refusedTour, acceptedTour, tourIn, tourA
 ghost use Rattle.tour_plan.specs.Promise.{TourPlanned, TourRefused};
 
 // A refused answer: its number, and every other part zero.
-fn refused(number: u8) -> PlannedTour
+fn refused(number: u8) -> WindowTour
     ensures { λ r. ⌜ r ≡ refusedTour number ⌝ }
 {
     let order = [0u8; 8];
-    PlannedTour {
+    WindowTour {
         number,
         found: false,
         order,
@@ -24,11 +24,11 @@ fn refused(number: u8) -> PlannedTour
 }
 
 // An accepted answer: number 0, and the tour.
-fn accepted(tour: WindowTour) -> PlannedTour
+fn accepted(tour: SearchedTour) -> WindowTour
     ensures { λ r. ⌜ r ≡ acceptedTour tour ⌝ }
 {
     let order = tour.order;
-    PlannedTour {
+    WindowTour {
         number: 0,
         found: tour.found,
         order,
@@ -39,7 +39,7 @@ fn accepted(tour: WindowTour) -> PlannedTour
 }
 
 // The call for a tour: nothing that is lent is written.
-pub fn plan_tour(costs: &[u8], steps: &[u8], limit: u16) -> PlannedTour
+pub fn window_tour(costs: &[u8], steps: &[u8], limit: u16) -> WindowTour
     ensures answer { λ r. ⌜ r ≡ tourAnswer (now (costs .entry)) (now (steps .entry)) limit ⌝ }
     ensures planned { λ r. ⌜ (r .number ≡ 0 → TourPlanned (now (costs .entry)) (stepsOf (now (steps .entry))) limit (tourIn r)) ⌝ }
     ensures refused { λ r. ⌜ ((r .number ≡ 0 → ⊥) → TourRefused r) ⌝ }
@@ -51,6 +51,6 @@ pub fn plan_tour(costs: &[u8], steps: &[u8], limit: u16) -> PlannedTour
         return refused(number);
     }
     let square = window_costs::window_square(costs, steps);
-    let tour = tour_search::window_tour(square, steps.len() / 8, limit);
+    let tour = tour_search::search_tours(square, steps.len() / route::STEP_LENGTH, limit);
     accepted(tour)
 }

@@ -13,7 +13,7 @@ use native.Mathlib.Decide.{decLt}
 use lib.ListN.{length, getD}
 use Rattle.tour_orders.specs.Orders.{numbersFrom, withoutPlace, ordersOf, factorial}
 use Rattle.tour_orders.specs.Told.{Earlier, differs, agrees}
-use Rattle.tour_orders.proofs.Times.{numbers-length}
+use Rattle.tour_orders.proofs.Occurrences.{numbers-length}
 use Rattle.tour_orders.proofs.Choosing.{Placed, placed, without-length}
 
 abbrev pub Rising : List ℕ → Type 0

@@ -2,7 +2,7 @@
 --     orders-length    k numbers stand in factorial k orders
 --     unranked         the order at a place, by quotient and remainder
 --     placed           the order at a place: its first number, and the rest, an order of the others
---     same-times       in an order of the numbers left each of them stands as often as among them
+--     same-occurrences       in an order of the numbers left each of them stands as often as among them
 --     complete         every such list is an order of them
 -- Assumes nothing.
 use mathlib.Core.Path.{_≡_, refl, sym, ap, _∙_}
@@ -14,9 +14,9 @@ use native.Mathlib.Nat.{div-add-mod', mod-lt, div-lt-iff-lt-mul, mul-pos}
 use lib.Dec.{eqb}
 use lib.ListN.{length, getD, length-map}
 use Rattle.tour_orders.specs.Orders.{withoutPlace, ordersOf, factorial}
-use Rattle.tour_orders.specs.Told.{times}
+use Rattle.tour_orders.specs.Told.{occurrences}
 use Rattle.tour_orders.proofs.Blocks.{within, map-at, joined-length, joined-at}
-use Rattle.tour_orders.proofs.Times.{here, stands, times-without}
+use Rattle.tour_orders.proofs.Occurrences.{here, stands, occurrences-without}
 
 pub factorial-some : (k : ℕ) → 0 < factorial k
 factorial-some zero = omega arith
@@ -79,20 +79,20 @@ placed k left p h =
 
 -- ---- an order of the numbers left holds each as often as they do
 
-pub same-times : (k : ℕ) (left : List ℕ) → length left ≡ k → (p : ℕ) → p < factorial k → (w : ℕ)
-    → times w (getD (ordersOf k left) p []) ≡ times w left
+pub same-occurrences : (k : ℕ) (left : List ℕ) → length left ≡ k → (p : ℕ) → p < factorial k → (w : ℕ)
+    → occurrences w (getD (ordersOf k left) p []) ≡ occurrences w left
 unfolding ordersOf
-same-times zero [] long zero h w = refl
-same-times zero [] long (suc p) h w = absurd (omega arith)
-same-times zero (a ∷ left) long p h w = absurd (omega arith)
-same-times (suc k) left long p h w =
+same-occurrences zero [] long zero h w = refl
+same-occurrences zero [] long (suc p) h w = absurd (omega arith)
+same-occurrences zero (a ∷ left) long p h w = absurd (omega arith)
+same-occurrences (suc k) left long p h w =
     let q = placed k left p h in
     let i = q .first in
     let inside : i < length left = omega (arith, q .inside) in
     let shorter : length (withoutPlace left i) ≡ k = omega (arith, without-length left i inside) in
-    ap (times w) (q .is)
-    ∙ ap (λ (t : ℕ). cond (eqb w (getD left i 0)) 1 0 + t) (same-times k (withoutPlace left i) shorter (q .rest) (q .rest-inside) w)
-    ∙ sym (times-without w left i inside)
+    ap (occurrences w) (q .is)
+    ∙ ap (λ (t : ℕ). cond (eqb w (getD left i 0)) 1 0 + t) (same-occurrences k (withoutPlace left i) shorter (q .rest) (q .rest-inside) w)
+    ∙ sym (occurrences-without w left i inside)
 
 pub order-length : (k : ℕ) (left : List ℕ) (p : ℕ) → p < factorial k → length (getD (ordersOf k left) p []) ≡ k
 unfolding ordersOf
@@ -107,7 +107,7 @@ order-length (suc k) left p h =
 abbrev pub Found : ℕ → List ℕ → List ℕ → Type 0
 Found k left order = (p : ℕ) × (p < factorial k) × (getD (ordersOf k left) p [] ≡ order)
 
-pub complete : (k : ℕ) (left : List ℕ) → length left ≡ k → (order : List ℕ) → ((w : ℕ) → times w order ≡ times w left) → Found k left order
+pub complete : (k : ℕ) (left : List ℕ) → length left ≡ k → (order : List ℕ) → ((w : ℕ) → occurrences w order ≡ occurrences w left) → Found k left order
 unfolding ordersOf
 complete zero [] long [] same = (0, omega arith, refl)
 complete zero [] long (a ∷ order) same = absurd (omega (arith, here a a order refl, same a))
@@ -121,8 +121,8 @@ complete (suc k) (b ∷ left) long (a ∷ order) same =
     behind (s .0) (s .1) (s .2) (complete k (withoutPlace all (s .0)) shorter order (λ w. omega (arith, same w, others (s .0) (s .1) (s .2) w)))
   where
     others : (i : ℕ) → i < length (b ∷ left) → getD (b ∷ left) i 0 ≡ a → (w : ℕ)
-        → times w (b ∷ left) ≡ times w (a ∷ withoutPlace (b ∷ left) i)
-    others i inside is w = times-without w (b ∷ left) i inside ∙ ap (λ (x : ℕ). times w (x ∷ withoutPlace (b ∷ left) i)) is
+        → occurrences w (b ∷ left) ≡ occurrences w (a ∷ withoutPlace (b ∷ left) i)
+    others i inside is w = occurrences-without w (b ∷ left) i inside ∙ ap (λ (x : ℕ). occurrences w (x ∷ withoutPlace (b ∷ left) i)) is
 
     behind : (i : ℕ) → i < length (b ∷ left) → getD (b ∷ left) i 0 ≡ a → Found k (withoutPlace (b ∷ left) i) order → Found (suc k) (b ∷ left) (a ∷ order)
     behind i inside is f = (

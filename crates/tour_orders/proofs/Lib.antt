@@ -3,4 +3,4 @@ pub mod Ascending
 pub mod Blocks
 pub mod Choosing
 pub mod Orders
-pub mod Times
+pub mod Occurrences

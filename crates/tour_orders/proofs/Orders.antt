@@ -10,10 +10,10 @@ use native.Mathlib.Omega.{arith}
 use native.Mathlib.Decide.{decLt, ℕ-discrete}
 use lib.ListN.{length, getD, length-map, List·getD-eq-default}
 use Rattle.tour_orders.specs.Orders.{otherWindows, withoutPlace, ordersOf, orders, factorial}
-use Rattle.tour_orders.specs.Told.{times, IsOrder, Earlier, agrees, AllOrders}
+use Rattle.tour_orders.specs.Told.{occurrences, IsOrder, Earlier, agrees, AllOrders}
 use Rattle.tour_orders.proofs.Blocks.{map-at}
-use Rattle.tour_orders.proofs.Times.{here, other, times-without, below-none, each-once, above-none, numbers-length}
-use Rattle.tour_orders.proofs.Choosing.{orders-length, same-times, order-length, complete}
+use Rattle.tour_orders.proofs.Occurrences.{here, other, occurrences-without, below-none, each-once, above-none, numbers-length}
+use Rattle.tour_orders.proofs.Choosing.{orders-length, same-occurrences, order-length, complete}
 use Rattle.tour_orders.proofs.Ascending.{numbers-rise, ascends}
 
 pub count : (n : ℕ) → length (orders n) ≡ factorial (n - 1)
@@ -26,7 +26,7 @@ unfolding orders
 led n k h = map-at (λ order. 0 ∷ order) (ordersOf (n - 1) (otherWindows n)) k [] [] (rw (orders-length (n - 1) (otherWindows n)) h)
 
 -- 0 before a list that holds the other windows as often as they stand
-is-order : (n : ℕ) → 1 ≤ n → (l : List ℕ) → ((w : ℕ) → times w l ≡ times w (otherWindows n)) → IsOrder n (0 ∷ l)
+is-order : (n : ℕ) → 1 ≤ n → (l : List ℕ) → ((w : ℕ) → occurrences w l ≡ occurrences w (otherWindows n)) → IsOrder n (0 ∷ l)
 is-order n some l same =
     record {
       leads = refl;
@@ -38,10 +38,10 @@ is-order n some l same =
     }
 
 pub each : (n : ℕ) → 1 ≤ n → (k : ℕ) → k < factorial (n - 1) → IsOrder n (getD (orders n) k [])
-each n some k h = rw (led n k h) (is-order n some _ (same-times (n - 1) (otherWindows n) (numbers-length 1 (n - 1)) k h))
+each n some k h = rw (led n k h) (is-order n some _ (same-occurrences (n - 1) (otherWindows n) (numbers-length 1 (n - 1)) k h))
 
 -- and what stands behind the 0 of an order
-others : (n : ℕ) → 1 ≤ n → (l : List ℕ) → IsOrder n (0 ∷ l) → (w : ℕ) → times w l ≡ times w (otherWindows n)
+others : (n : ℕ) → 1 ≤ n → (l : List ℕ) → IsOrder n (0 ∷ l) → (w : ℕ) → occurrences w l ≡ occurrences w (otherWindows n)
 others n some l o w =
     elim (ℕ-discrete w 0) [
       | yes zero-is ↦ omega (arith, here w 0 l zero-is, o .once w (omega arith), below-none w 1 (n - 1) (omega arith))
@@ -51,23 +51,23 @@ others n some l o w =
       ]
     ]
 
--- an order, taken apart
-pub record Apart (n : ℕ) (order : List ℕ) : Type 0 where
+-- an order: its first window, and the others
+pub record Split (n : ℕ) (order : List ℕ) : Type 0 where
   pub rest : List ℕ
   pub is : order ≡ 0 ∷ rest
-  pub same : (w : ℕ) → times w rest ≡ times w (otherWindows n)
+  pub same : (w : ℕ) → occurrences w rest ≡ occurrences w (otherWindows n)
 
-pub apart : (n : ℕ) → 1 ≤ n → (order : List ℕ) → IsOrder n order → Apart n order
-apart n some [] o = absurd (let bad : _≡_ {A = ℕ} 0 1 = ap length (o .leads) in omega arith)
-apart n some (a ∷ l) o =
+pub split : (n : ℕ) → 1 ≤ n → (order : List ℕ) → IsOrder n order → Split n order
+split n some [] o = absurd (let bad : _≡_ {A = ℕ} 0 1 = ap length (o .leads) in omega arith)
+split n some (a ∷ l) o =
     let first : a ≡ 0 = head-eq-of-cons-eq (o .leads) in
     let is : a ∷ l ≡ 0 ∷ l = cc (first) in
     record { rest = l; is = is; same = others n some l (rw is at o) }
 
 none-left-out : (n : ℕ) → 1 ≤ n → (order : List ℕ) → IsOrder n order → (k : ℕ) × (k < length (orders n)) × (getD (orders n) k [] ≡ order)
-none-left-out n some order o = found (apart n some order o)
+none-left-out n some order o = found (split n some order o)
   where
-    found : Apart n order → (k : ℕ) × (k < length (orders n)) × (getD (orders n) k [] ≡ order)
+    found : Split n order → (k : ℕ) × (k < length (orders n)) × (getD (orders n) k [] ≡ order)
     found a =
         let f = complete (n - 1) (otherWindows n) (numbers-length 1 (n - 1)) (a .rest) (a .same) in
         (f .0, rw (count n) (f .1), led n (f .0) (f .1) ∙ cc (f .2, a .is))
@@ -92,8 +92,8 @@ all-orders n some =
 pub order-long : (n : ℕ) → 1 ≤ n → (k : ℕ) → k < factorial (n - 1) → length (getD (orders n) k []) ≡ n
 order-long n some k h = ap length (led n k h) ∙ omega (arith, order-length (n - 1) (otherWindows n) k h)
 
-at-least-once : (l : List ℕ) (i : ℕ) → i < length l → 0 < times (getD l i 0) l
-at-least-once l i h = omega (arith, times-without (getD l i 0) l i h, here (getD l i 0) (getD l i 0) (withoutPlace l i) refl)
+at-least-once : (l : List ℕ) (i : ℕ) → i < length l → 0 < occurrences (getD l i 0) l
+at-least-once l i h = omega (arith, occurrences-without (getD l i 0) l i h, here (getD l i 0) (getD l i 0) (withoutPlace l i) refl)
 
 pub order-inside : (n : ℕ) → 1 ≤ n → (order : List ℕ) → IsOrder n order → (i : ℕ) → getD order i 0 < n
 order-inside n some order o i =

@@ -10,15 +10,15 @@ use lib.ListN.{length, getD, take}
 use Rattle.tour_orders.specs.Orders.{factorial}
 
 -- how often a number stands in a list
-abbrev pub times : ℕ → List ℕ → ℕ
-times w [] = 0
-times w (a ∷ l) = cond (eqb w a) 1 0 + times w l
+abbrev pub occurrences : ℕ → List ℕ → ℕ
+occurrences w [] = 0
+occurrences w (a ∷ l) = cond (eqb w a) 1 0 + occurrences w l
 
 -- an order of n windows: 0 first, each window number once, and no other number
 pub record IsOrder (n : ℕ) (order : List ℕ) : Type 0 where
   pub leads : take 1 order ≡ 0 ∷ []
-  pub once : (w : ℕ) → w < n → times w order ≡ 1
-  pub no-other : (w : ℕ) → n ≤ w → times w order ≡ 0
+  pub once : (w : ℕ) → w < n → occurrences w order ≡ 1
+  pub no-other : (w : ℕ) → n ≤ w → occurrences w order ≡ 0
 
 -- dictionary order: at the first place where two lists differ, the earlier has the smaller number
 pub data Earlier : List ℕ → List ℕ → Type 0 where

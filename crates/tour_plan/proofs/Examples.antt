@@ -18,8 +18,8 @@ use Rattle.integration_started.specs.Sight.{walls, withPortals}
 use Rattle.integration_started.specs.Started.{startedAt, started}
 use Rattle.window_square.specs.Square.{windowStepNumber, windowCostsNumber, windowCost, costSquare}
 use Rattle.tour_orders.specs.Orders.{ordersOf, orders}
-use Rattle.tour_sums.specs.Tours.{betterTour, leastFigure, triedCount, windowTour}
-use Rattle.tour_plan.specs.declared.PlannedTour.{PlannedTour}
+use Rattle.tour_sums.specs.Tours.{betterTour, leastFigure, triedCount, searchedTour}
+use Rattle.tour_plan.specs.declared.WindowTour.{WindowTour}
 use Rattle.tour_plan.specs.Plan.{tourAnswer}
 
 -- the one-cell window of the North edge at a column
@@ -30,10 +30,10 @@ north column = 0 ∷ 0 ∷ 1 ∷ column ∷ column ∷ 0 ∷ 0 ∷ 0 ∷ []
 abbrev corridor : List ℕ
 corridor = set (set (set (set (replicate 100 255) 0 1) 1 2) 2 3) 5 1
 
-abbrev tour : List ℕ → ℕ → ℕ → ℕ → PlannedTour
+abbrev tour : List ℕ → ℕ → ℕ → ℕ → WindowTour
 tour order sum tried least = record { number = 0; found = true; order = order; sum = sum; tried = tried; least = least }
 
-abbrev no-order : ℕ → ℕ → PlannedTour
+abbrev no-order : ℕ → ℕ → WindowTour
 no-order tried least = record { number = 0; found = false; order = replicate 8 0; sum = 0; tried = tried; least = least }
 
 -- The windows at columns 1, 2 and 0: from the first to each other costs 2, from the second to the third 5 and back 3. Read the wrong way round,
@@ -46,7 +46,7 @@ pub corridor-tours :
     ∷ []
     ≡ tour (0 ∷ 2 ∷ 1 ∷ replicate 5 0) 5 2 4 ∷ tour (0 ∷ 1 ∷ 2 ∷ replicate 5 0) 7 1 4 ∷ no-order 0 4 ∷ no-order 1 65535 ∷ []
 unfolding windowCostsNumber windowStepNumber windowCost costSquare stepsIn onEdge edge cellsBetween stepped targetOf relaxed offeredAround offeredBy
-    changedFrom next total isEmpty settle build walls withPortals startedAt started ordersOf orders betterTour leastFigure triedCount windowTour
+    changedFrom next total isEmpty settle build walls withPortals startedAt started ordersOf orders betterTour leastFigure triedCount searchedTour
 corridor-tours = refl
 
 pub refused-tour : tourAnswer corridor (north 1) 65535 ≡ record { number = 19; found = false; order = replicate 8 0; sum = 0; tried = 0; least = 0 }

@@ -27,10 +27,10 @@ use Rattle.window_square.proofs.Calls.{NumbersTold, numbers}
 use Rattle.window_square.proofs.Promise.{entry-at, row-long, rows-eight, square-told}
 use Rattle.tour_orders.specs.Orders.{orders}
 use Rattle.tour_orders.specs.Told.{AllOrders}
-use Rattle.tour_sums.specs.declared.WindowTour.{WindowTour}
-use Rattle.tour_sums.specs.Tours.{windowTour}
+use Rattle.tour_sums.specs.declared.SearchedTour.{SearchedTour}
+use Rattle.tour_sums.specs.Tours.{searchedTour}
 use Rattle.tour_sums.specs.Promise.{TourSquare, BestAnswer, LeastAnswer}
-use Rattle.tour_plan.specs.declared.PlannedTour.{PlannedTour}
+use Rattle.tour_plan.specs.declared.WindowTour.{WindowTour}
 use Rattle.tour_plan.specs.Plan.{refusedTour, acceptedTour, tourIn, tourAnswer}
 use Rattle.tour_plan.specs.Promise.{TourPlanned, TourRefused}
 
@@ -68,21 +68,21 @@ tour-square costs steps r = record { some = r .some; few = r .few; costs = squar
 
 module _ (costs steps : List ℕ) (limit : ℕ) where
   -- of a refused call nothing is promised but its answer, whatever is promised of an accepted one
-  pub refuses : {Told : Type 0} → (n : ℕ) → n ≡ windowCostsNumber costs steps → (n ≡ 0 → ⊥) → (r : PlannedTour) → r ≡ refusedTour n
+  pub refuses : {Told : Type 0} → (n : ℕ) → n ≡ windowCostsNumber costs steps → (n ≡ 0 → ⊥) → (r : WindowTour) → r ≡ refusedTour n
       → (r ≡ tourAnswer costs steps limit) × ((r .number ≡ 0 → Told) × (((r .number ≡ 0 → ⊥) → TourRefused r) × NumbersTold costs steps (r .number)))
   refuses n e h r q =
-      let z : r .number ≡ n = ap (λ (w : PlannedTour). w .number) q in
+      let z : r .number ≡ n = ap (λ (w : WindowTour). w .number) q in
       let zero-parts : TourRefused r = rw q (record { found = refl; order = all-zero 8 0; sum = refl; tried = refl; least = refl }) in
       (q ∙ rw (← e, ne-eqb n 0 h), (λ f. absurd (h (sym z ∙ f)), (λ f. zero-parts, numbers costs steps (r .number) (z ∙ e))))
 
   -- a tour of n windows over the square, as it is promised
-  abbrev pub Told : WindowTour → ℕ → Type 0
+  abbrev pub Told : SearchedTour → ℕ → Type 0
   Told t n =
       let square = costSquare costs (stepsOf steps) in
-      (t ≡ windowTour square n limit) × (AllOrders n (orders n) × (BestAnswer square n limit t × LeastAnswer square n t))
+      (t ≡ searchedTour square n limit) × (AllOrders n (orders n) × (BestAnswer square n limit t × LeastAnswer square n t))
 
-  pub accepts : ((x : ℕ) → x < 100 → getD costs x 0 ≤ 255) → windowCostsNumber costs steps ≡ 0 → (t : WindowTour) → Told t (length steps / 8)
-      → (r : PlannedTour) → r ≡ acceptedTour t
+  pub accepts : ((x : ℕ) → x < 100 → getD costs x 0 ≤ 255) → windowCostsNumber costs steps ≡ 0 → (t : SearchedTour) → Told t (length steps / 8)
+      → (r : WindowTour) → r ≡ acceptedTour t
       → (r ≡ tourAnswer costs steps limit)
       × ((r .number ≡ 0 → TourPlanned costs (stepsOf steps) limit (tourIn r))
       × (((r .number ≡ 0 → ⊥) → TourRefused r) × NumbersTold costs steps (r .number)))
@@ -94,5 +94,5 @@ module _ (costs steps : List ℕ) (limit : ℕ) where
         best = told .1 .1 .0;
         under = told .1 .1 .1;
       } in
-      let n : r .number ≡ 0 = ap (λ (w : PlannedTour). w .number) made in
+      let n : r .number ≡ 0 = ap (λ (w : WindowTour). w .number) made in
       (made ∙ ap acceptedTour (told .0) ∙ rw z, (λ f. rw made planned, (λ f. absurd (f n), numbers costs steps (r .number) (n ∙ sym z))))

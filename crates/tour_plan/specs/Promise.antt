@@ -10,11 +10,11 @@ use Rattle.window_square.specs.Square.{costSquare}
 use Rattle.window_square.specs.Promise.{WindowSquare}
 use Rattle.tour_orders.specs.Orders.{orders}
 use Rattle.tour_orders.specs.Told.{AllOrders}
-use Rattle.tour_sums.specs.declared.WindowTour.{WindowTour}
+use Rattle.tour_sums.specs.declared.SearchedTour.{SearchedTour}
 use Rattle.tour_sums.specs.Promise.{BestAnswer, LeastAnswer}
-use Rattle.tour_plan.specs.declared.PlannedTour.{PlannedTour}
+use Rattle.tour_plan.specs.declared.WindowTour.{WindowTour}
 
-pub record TourPlanned (costs : List ℕ) (steps : List (List ℕ)) (limit : ℕ) (tour : WindowTour) : Type 0 where
+pub record TourPlanned (costs : List ℕ) (steps : List (List ℕ)) (limit : ℕ) (tour : SearchedTour) : Type 0 where
   -- the costs are Job 13's: each is that of a least walk
   pub square : WindowSquare costs steps (costSquare costs steps)
   -- the orders are exactly the lists with each window once and 0 first, strictly in dictionary order, none left out
@@ -25,7 +25,7 @@ pub record TourPlanned (costs : List ℕ) (steps : List (List ℕ)) (limit : ℕ
   pub under : LeastAnswer (costSquare costs steps) (length steps) tour
 
 -- A refused call answers its number, with every other part of the answer zero (01, under the table).
-pub record TourRefused (r : PlannedTour) : Type 0 where
+pub record TourRefused (r : WindowTour) : Type 0 where
   pub found : r .found ≡ false
   pub order : AllZero 0 (r .order)
   pub sum : r .sum ≡ 0

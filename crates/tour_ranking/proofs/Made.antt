@@ -13,7 +13,7 @@ use lib.Seq.{ext-getD}
 use Rattle.utilities.specs.Padded.{padded}
 use Rattle.utilities.proofs.Padded.{padded-length}
 use Rattle.tour_orders.specs.Orders.{otherWindows, orders, factorial}
-use Rattle.tour_orders.proofs.Times.{numbers-length}
+use Rattle.tour_orders.proofs.Occurrences.{numbers-length}
 use Rattle.tour_orders.proofs.Choosing.{factorial-some}
 use Rattle.tour_orders.proofs.Ascending.{number-at}
 use Rattle.tour_orders.proofs.Orders.{led, order-long}

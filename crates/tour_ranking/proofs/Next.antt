@@ -12,7 +12,7 @@ use native.Mathlib.Nat.{suc-mul, lt-of-mul-lt-mul-right}
 use native.Mathlib.Decide.{decLt}
 use lib.ListN.{length, getD}
 use Rattle.tour_orders.specs.Orders.{otherWindows, withoutPlace, ordersOf, orders, factorial}
-use Rattle.tour_orders.proofs.Times.{numbers-length}
+use Rattle.tour_orders.proofs.Occurrences.{numbers-length}
 use Rattle.tour_orders.proofs.Choosing.{factorial-some, without-length, Placed, placed, order-at}
 use Rattle.tour_orders.proofs.Ascending.{Rising, numbers-rise, without-rises}
 use Rattle.tour_orders.proofs.Orders.{led}

@@ -203,7 +203,7 @@ module _ (order after : List ℕ) (t : Change order after) where
 
   -- those left without the one number or the next: they differ at its place alone
   behind-same : (j : ℕ) → (j ≡ place → ⊥) → getD before j 0 ≡ getD then-behind j 0
-  behind-same j apart =
+  behind-same j differ =
       elim (decLt j place) [
         | yes lower ↦ without-before left place j lower ∙ sym (without-before left (suc place) j (omega arith))
         | no higher ↦ without-behind left place j (omega arith) ∙ sym (without-behind left (suc place) j (omega arith))

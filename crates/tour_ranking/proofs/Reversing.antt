@@ -25,7 +25,7 @@ module _ (l : List ℕ) (i j : ℕ) where
   exchanged-second h = getD-set-same (set l i (getD l j 0)) j (getD l i 0) 0 (omega (arith, length-set l i (getD l j 0)))
 
   pub exchanged-first : i < length l → (i ≡ j → ⊥) → getD exchanged i 0 ≡ getD l j 0
-  exchanged-first h apart = getD-set-other (set l i (getD l j 0)) j i (getD l i 0) 0 apart ∙ getD-set-same l i (getD l j 0) 0 h
+  exchanged-first h differ = getD-set-other (set l i (getD l j 0)) j i (getD l i 0) 0 differ ∙ getD-set-same l i (getD l j 0) 0 h
 
   pub exchanged-other : (m : ℕ) → (m ≡ i → ⊥) → (m ≡ j → ⊥) → getD exchanged m 0 ≡ getD l m 0
   exchanged-other m not-i not-j =

@@ -17,8 +17,8 @@ use Rattle.tour_orders.specs.Orders.{orders, factorial}
 use Rattle.tour_orders.specs.Told.{AllOrders}
 use Rattle.tour_orders.proofs.Orders.{count, all-orders, order-long}
 use Rattle.tour_sums.specs.declared.Tour.{Tour}
-use Rattle.tour_sums.specs.declared.WindowTour.{WindowTour}
-use Rattle.tour_sums.specs.Tours.{moveCost, tourSum, tourCounts, noTour, tourOf, betterTour, bestTour, leastFigure, triedCount, windowTour}
+use Rattle.tour_sums.specs.declared.SearchedTour.{SearchedTour}
+use Rattle.tour_sums.specs.Tours.{moveCost, tourSum, tourCounts, noTour, tourOf, betterTour, bestTour, leastFigure, triedCount, searchedTour}
 use Rattle.tour_sums.specs.Promise.{TourSquare, BestAnswer, LeastAnswer}
 use Rattle.tour_sums.proofs.Best.{passed-over, first-found, not-lower, lower-taken, best-more}
 use Rattle.tour_sums.proofs.Promised.{best-answer, least-answer}
@@ -118,10 +118,10 @@ module _ (square : List (List ℕ)) (n : ℕ) (s : TourSquare square n) (place :
 module _ (square : List (List ℕ)) (n limit : ℕ) where
   pub answered : {tried least : ℕ} {best : Tour} → tried ≡ triedCount n limit
       → best ≡ bestTour square noTour (take tried (orders n)) → least ≡ leastFigure square n
-      → _≡_ {A = WindowTour} (record { found = best .found; order = best .order; sum = best .sum; tried = tried; least = least }) (windowTour square n limit)
-  unfolding windowTour
+      → _≡_ {A = SearchedTour} (record { found = best .found; order = best .order; sum = best .sum; tried = tried; least = least }) (searchedTour square n limit)
+  unfolding searchedTour
   answered t b l = rw (b, l, t)
 
-  pub promised : TourSquare square n → {answer : WindowTour} → answer ≡ windowTour square n limit
-      → (answer ≡ windowTour square n limit) × (AllOrders n (orders n) × (BestAnswer square n limit answer × LeastAnswer square n answer))
+  pub promised : TourSquare square n → {answer : SearchedTour} → answer ≡ searchedTour square n limit
+      → (answer ≡ searchedTour square n limit) × (AllOrders n (orders n) × (BestAnswer square n limit answer × LeastAnswer square n answer))
   promised s is = (is, (all-orders n (omega (arith, s .some)), (rw is (best-answer square n limit s), rw is (least-answer square n limit s))))

@@ -1,14 +1,14 @@
 // A tour of 2 to 8 windows: from the first window, each other once, no way back, with the smallest sum of the orders tried. Each order is made from
 // the one before, and the sums of its moves are kept place by place, so that they are made anew only from the first place that changed on.
+use tour_sums::SearchedTour;
 use tour_sums::Tour;
-use tour_sums::WindowTour;
 use utilities::index_of;
 ghost use mathlib.Core.Path.{_≡_};
 ghost use Prim.Native.Nat.{_-_, _<_, _≤_};
 ghost use lib.ListN.{getD, take};
 ghost use Rattle.tour_orders.specs.Orders.{orders, factorial};
 ghost use Rattle.tour_orders.specs.Told.{AllOrders};
-ghost use Rattle.tour_sums.specs.Tours.{moveCost, noTour, bestTour, triedCount, windowTour};
+ghost use Rattle.tour_sums.specs.Tours.{moveCost, noTour, bestTour, triedCount, searchedTour};
 ghost use Rattle.tour_sums.specs.Promise.{TourSquare, BestAnswer, LeastAnswer};
 ghost use Rattle.tour_search.specs.Inner.{WindowNumbers, MovesReady, weight, weighed, SumsKept, heldTour};
 
@@ -107,9 +107,9 @@ fn tried_count(n: usize, limit: u16) -> usize
 }
 
 // The best tour of the windows 0 to n - 1 over the square of their costs, of as many orders as the limit says; and the least figure.
-pub fn window_tour(square: [[u32; 8]; 8], n: usize, limit: u16) -> WindowTour
+pub fn search_tours(square: [[u32; 8]; 8], n: usize, limit: u16) -> SearchedTour
     requires { ⌜ TourSquare square n ⌝ }
-    ensures answer { λ r. ⌜ r ≡ windowTour square n limit ⌝ }
+    ensures answer { λ r. ⌜ r ≡ searchedTour square n limit ⌝ }
     ensures orders { λ r. ⌜ AllOrders n (orders n) ⌝ }
     ensures best { λ r. ⌜ BestAnswer square n limit r ⌝ }
     ensures least { λ r. ⌜ LeastAnswer square n r ⌝ }
@@ -118,7 +118,7 @@ pub fn window_tour(square: [[u32; 8]; 8], n: usize, limit: u16) -> WindowTour
     let best = best_tour(&square, n, tried);
     let least = tour_entries::least_figure(square, n);
     let order = best.order;
-    WindowTour {
+    SearchedTour {
         found: best.found,
         order,
         sum: best.sum,

@@ -14,9 +14,9 @@ use native.Mathlib.Decide.{decLe, ℕ-discrete}
 use lib.ListN.{length, getD}
 use borrow.Author.Tests.{eq-eqb, ne-eqb}
 use Rattle.tour_orders.specs.Orders.{otherWindows, withoutPlace}
-use Rattle.tour_orders.specs.Told.{times, IsOrder}
-use Rattle.tour_orders.proofs.Times.{here, stands, times-without}
-use Rattle.tour_orders.proofs.Orders.{Apart, apart}
+use Rattle.tour_orders.specs.Told.{occurrences, IsOrder}
+use Rattle.tour_orders.proofs.Occurrences.{here, stands, occurrences-without}
+use Rattle.tour_orders.proofs.Orders.{Split, split}
 use Rattle.tour_sums.specs.Tours.{moveCost, sumFrom, tourSum, cheapestEntry, summed, leastFigure}
 use Rattle.tour_sums.specs.Promise.{TourSquare, CheapestEntry}
 
@@ -88,15 +88,15 @@ summed-without f [] i h = absurd (omega arith)
 summed-without f (a ∷ l) zero h = refl
 summed-without f (a ∷ l) (suc i) h = omega (arith, summed-without f l i (omega arith))
 
-pub summed-same : (f : ℕ → ℕ) (l m : List ℕ) → ((w : ℕ) → times w l ≡ times w m) → summed f l ≡ summed f m
+pub summed-same : (f : ℕ → ℕ) (l m : List ℕ) → ((w : ℕ) → occurrences w l ≡ occurrences w m) → summed f l ≡ summed f m
 summed-same f [] [] same = refl
 summed-same f [] (b ∷ m) same = absurd (omega (arith, here b b m refl, same b))
 summed-same f (a ∷ l) m same =
     let s = stands a m (omega (arith, here a a l refl, same a)) in
     taken (s .0) (s .1) (s .2) (summed-same f l (withoutPlace m (s .0)) (rests (s .0) (s .1) (s .2)))
   where
-    rests : (i : ℕ) → i < length m → getD m i 0 ≡ a → (w : ℕ) → times w l ≡ times w (withoutPlace m i)
-    rests i h e w = omega (arith, same w, times-without w m i h, ap (λ (x : ℕ). times w (x ∷ withoutPlace m i)) e)
+    rests : (i : ℕ) → i < length m → getD m i 0 ≡ a → (w : ℕ) → occurrences w l ≡ occurrences w (withoutPlace m i)
+    rests i h e w = omega (arith, same w, occurrences-without w m i h, ap (λ (x : ℕ). occurrences w (x ∷ withoutPlace m i)) e)
 
     taken : (i : ℕ) → i < length m → getD m i 0 ≡ a → summed f l ≡ summed f (withoutPlace m i) → f a + summed f l ≡ summed f m
     taken i h e known = omega (arith, known, summed-without f m i h, ap f e)
@@ -104,27 +104,27 @@ summed-same f (a ∷ l) m same =
 -- ---- the moves of an order
 
 module _ (square : List (List ℕ)) (n : ℕ) (s : TourSquare square n) where
-  sum-under : (a : ℕ) (l : List ℕ) → ((w : ℕ) → times w (a ∷ l) ≤ 1) → ((w : ℕ) → n ≤ w → times w (a ∷ l) ≡ 0)
+  sum-under : (a : ℕ) (l : List ℕ) → ((w : ℕ) → occurrences w (a ∷ l) ≤ 1) → ((w : ℕ) → n ≤ w → occurrences w (a ∷ l) ≡ 0)
       → summed (λ b. cheapestEntry square b n) l ≤ sumFrom square a l
   sum-under a [] once inside = omega arith
   sum-under a (b ∷ l) once inside =
       let known = sum-under b l (λ w. omega (arith, once w)) (λ w h. omega (arith, inside w h)) in
-      omega (arith, entry-most square b n a within apart-from)
+      omega (arith, entry-most square b n a within differ)
     where
-      apart-from : a ≡ b → ⊥
-      apart-from e = omega (arith, here a a (b ∷ l) refl, here a b l e, once a)
+      differ : a ≡ b → ⊥
+      differ e = omega (arith, here a a (b ∷ l) refl, here a b l e, once a)
 
       within : a < n
       within = elim (decLe n a) [ yes out ↦ absurd (omega (arith, here a a (b ∷ l) refl, inside a out)) | no not-out ↦ omega arith ]
 
   pub under : (order : List ℕ) → IsOrder n order → leastFigure square n ≤ tourSum square order
   unfolding leastFigure
-  under order o = from (apart n (omega (arith, s .some)) order o)
+  under order o = from (split n (omega (arith, s .some)) order o)
     where
-      most : (w : ℕ) → times w order ≤ 1
+      most : (w : ℕ) → occurrences w order ≤ 1
       most w = elim (decLe n w) [ yes out ↦ omega (arith, o .no-other w out) | no not-out ↦ omega (arith, o .once w (omega arith)) ]
 
-      from : Apart n order → summed (λ b. cheapestEntry square b n) (otherWindows n) ≤ tourSum square order
+      from : Split n order → summed (λ b. cheapestEntry square b n) (otherWindows n) ≤ tourSum square order
       from p =
           let same = summed-same (λ b. cheapestEntry square b n) (p .rest) (otherWindows n) (p .same) in
           let below = sum-under 0 (p .rest) (λ w. rw (p .is) at (most w)) (λ w h. rw (p .is) at (o .no-other w h)) in

@@ -15,8 +15,8 @@ use Rattle.tour_orders.specs.Orders.{numbersFrom, orders, factorial}
 use Rattle.tour_orders.specs.Told.{IsOrder}
 use Rattle.tour_orders.proofs.Orders.{count, all-orders}
 use Rattle.tour_sums.specs.declared.Tour.{Tour}
-use Rattle.tour_sums.specs.declared.WindowTour.{WindowTour}
-use Rattle.tour_sums.specs.Tours.{tourSum, noTour, bestTour, cheapestEntry, summed, leastFigure, triedCount, windowTour}
+use Rattle.tour_sums.specs.declared.SearchedTour.{SearchedTour}
+use Rattle.tour_sums.specs.Tours.{tourSum, noTour, bestTour, cheapestEntry, summed, leastFigure, triedCount, searchedTour}
 use Rattle.tour_sums.specs.Promise.{TourSquare, CountingOrder, Tried, BestTried, NoneTried, BestAnswer, overOthers, LeastAnswer}
 use Rattle.tour_sums.proofs.Counting.{counts-told, told-counts}
 use Rattle.tour_sums.proofs.Best.{None, At, Best, best-first, never}
@@ -34,8 +34,8 @@ over-others entry a (suc m) =
     omega (arith, over-others entry (suc a) m, ap (overOthers entry) next)
 
 module _ (square : List (List ℕ)) (n limit : ℕ) (s : TourSquare square n) where
-  abbrev answer : WindowTour
-  answer = windowTour square n limit
+  abbrev answer : SearchedTour
+  answer = searchedTour square n limit
 
   abbrev best : Tour
   best = bestTour square noTour (take (triedCount n limit) (orders n))
@@ -54,7 +54,7 @@ module _ (square : List (List ℕ)) (n limit : ℕ) (s : TourSquare square n) wh
   known = best-first square (orders n) (min limit (length (orders n))) (omega arith)
 
   best-tried : At square (orders n) (triedCount n limit) best → (k : ℕ) × BestTried square n limit k answer
-  unfolding windowTour
+  unfolding searchedTour
   best-tried a =
       let sum : answer .sum ≡ tourSum square (getD (orders n) (a .place) []) = ap (λ (t : Tour). t .sum) (a .is) in (
         a .place,
@@ -77,7 +77,7 @@ module _ (square : List (List ℕ)) (n limit : ℕ) (s : TourSquare square n) wh
           ]
 
   none-tried : None square (orders n) (triedCount n limit) best → NoneTried square n limit answer
-  unfolding windowTour
+  unfolding searchedTour
   none-tried a =
       record {
         none-counts = λ j t c. a .none-counts j (below-tried j t) (told-counts square (getD (orders n) j []) c);
@@ -86,11 +86,11 @@ module _ (square : List (List ℕ)) (n limit : ℕ) (s : TourSquare square n) wh
       }
 
   found-at : At square (orders n) (triedCount n limit) best → answer .found ≡ true
-  unfolding windowTour
+  unfolding searchedTour
   found-at a = ap (λ (t : Tour). t .found) (a .is)
 
   none-found : None square (orders n) (triedCount n limit) best → answer .found ≡ false
-  unfolding windowTour
+  unfolding searchedTour
   none-found a = ap (λ (t : Tour). t .found) (a .is)
 
   whole : factorial (n - 1) ≤ limit → (order : List ℕ) → IsOrder n order → CountingOrder square order
@@ -107,7 +107,7 @@ module _ (square : List (List ℕ)) (n limit : ℕ) (s : TourSquare square n) wh
           (λ a. (found-at a, omega (arith, best-tried a .1 .at-most k t counts, ap (tourSum square) e)))
           known
 
-  pub best-answer : BestAnswer square n limit (windowTour square n limit)
+  pub best-answer : BestAnswer square n limit (searchedTour square n limit)
   best-answer =
       record {
         found = λ f. ⊎-elim (λ z. absurd (never (sym f ∙ none-found z))) best-tried known;
@@ -117,10 +117,10 @@ module _ (square : List (List ℕ)) (n limit : ℕ) (s : TourSquare square n) wh
       }
     where
       answer-tried : answer .tried ≡ triedCount n limit
-      answer-tried = unfold windowTour in refl
+      answer-tried = unfold searchedTour in refl
 
-  pub least-answer : LeastAnswer square n (windowTour square n limit)
-  unfolding windowTour leastFigure
+  pub least-answer : LeastAnswer square n (searchedTour square n limit)
+  unfolding searchedTour leastFigure
   least-answer =
       let all : 0 + (n - 1) ≡ n - 1 = omega arith in
       record {

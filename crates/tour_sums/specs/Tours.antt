@@ -8,7 +8,7 @@ use lib.ListN.{length, getD, take, replicate}
 use Rattle.utilities.specs.Padded.{padded}
 use Rattle.tour_orders.specs.Orders.{otherWindows, orders}
 use Rattle.tour_sums.specs.declared.Tour.{Tour}
-use Rattle.tour_sums.specs.declared.WindowTour.{WindowTour}
+use Rattle.tour_sums.specs.declared.SearchedTour.{SearchedTour}
 
 -- a move from window a to window b costs row a, place b
 abbrev pub moveCost : List (List ℕ) → ℕ → ℕ → ℕ
@@ -80,7 +80,7 @@ unfoldable pub triedCount : ℕ → ℕ → ℕ
 triedCount n limit = min limit (length (orders n))
 
 -- the best order tried and its sum, the number tried and the least figure
-unfoldable pub windowTour : List (List ℕ) → ℕ → ℕ → WindowTour
-windowTour square n limit =
+unfoldable pub searchedTour : List (List ℕ) → ℕ → ℕ → SearchedTour
+searchedTour square n limit =
     let best = bestTour square noTour (take (triedCount n limit) (orders n)) in
     record { found = best .found; order = best .order; sum = best .sum; tried = triedCount n limit; least = leastFigure square n }

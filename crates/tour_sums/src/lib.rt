@@ -9,7 +9,7 @@ pub struct Tour {
 }
 
 // What a tour of windows answers: the best order tried and its sum, the number of orders tried, and the least figure.
-pub struct WindowTour {
+pub struct SearchedTour {
     pub found: bool,
     pub order: [u8; 8],
     pub sum: u32,

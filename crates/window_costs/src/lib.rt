@@ -16,7 +16,7 @@ fn column_at(costs: &[u8], steps: &[u8], j: usize) -> [u32; 8]
     requires { ⌜ WindowsReady (now costs) (now steps) ⌝ }
     ensures { λ r. ⌜ r ≡ map (λ i. squareEntry (now (costs .entry)) (stepsOf (now (steps .entry))) i j) (below 8) ⌝ }
 {
-    if j >= steps.len() / 8 {
+    if j >= steps.len() / route::STEP_LENGTH {
         return [65535; 8];
     }
     let target = window_columns::target_at(steps, j);

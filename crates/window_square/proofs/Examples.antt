@@ -26,22 +26,22 @@ north sector first last = sector ∷ 0 ∷ 1 ∷ first ∷ last ∷ 0 ∷ 0 ∷ 
 abbrev goal : List ℕ
 goal = 0 ∷ 0 ∷ 0 ∷ 0 ∷ 0 ∷ 0 ∷ 0 ∷ 0 ∷ []
 
-abbrev times : ℕ → List ℕ → List ℕ
-times zero step = []
-times (suc n) step = step ++ times n step
+abbrev repeated : ℕ → List ℕ → List ℕ
+repeated zero step = []
+repeated (suc n) step = step ++ repeated n step
 
 -- 1 before 3, and 3 before 19, also for 7 bytes; 19 for no step, one, nine and seventeen; two and eight are taken. Of one step 16 comes before 20,
 -- and 20 before the next step's 4, which comes before its own 20. 20 for a goal, and for another sector than the first's.
 pub numbers :
     windowCostsNumber (replicate 99 1) (replicate 7 0)
     ∷ windowCostsNumber (replicate 100 1) (replicate 7 0)
-    ∷ windowCostsNumber (replicate 100 1) (times 17 goal ++ (0 ∷ []))
+    ∷ windowCostsNumber (replicate 100 1) (repeated 17 goal ++ (0 ∷ []))
     ∷ windowCostsNumber (replicate 100 1) []
     ∷ windowCostsNumber (replicate 100 1) (replicate 8 255)
-    ∷ windowCostsNumber (replicate 100 1) (times 9 (north 0 0 0))
-    ∷ windowCostsNumber (replicate 100 1) (times 17 (north 0 0 0))
-    ∷ windowCostsNumber (replicate 100 1) (times 2 (north 0 0 0))
-    ∷ windowCostsNumber (replicate 100 1) (times 8 (north 63 0 9))
+    ∷ windowCostsNumber (replicate 100 1) (repeated 9 (north 0 0 0))
+    ∷ windowCostsNumber (replicate 100 1) (repeated 17 (north 0 0 0))
+    ∷ windowCostsNumber (replicate 100 1) (repeated 2 (north 0 0 0))
+    ∷ windowCostsNumber (replicate 100 1) (repeated 8 (north 63 0 9))
     ∷ windowCostsNumber (set (replicate 100 1) 0 255) (goal ++ north 0 1 1)
     ∷ windowCostsNumber (replicate 100 1) (goal ++ north 64 1 1)
     ∷ windowCostsNumber (replicate 100 1) (north 0 1 1 ++ north 64 1 1)

@@ -6,7 +6,7 @@ use Prim.Native.Nat.{ℕ, _<_, _≤_}
 use native.Mathlib.Nat.{le-of-lt}
 use borrow.Author.Needs.{needs}
 use Rattle.fields.specs.declared.FieldCell.{FieldCell}
-use Rattle.line_nearest.specs.Line.{apart, shallow, steep}
+use Rattle.line_nearest.specs.Line.{distance, shallow, steep}
 use Rattle.line_nearest.proofs.Calls.{shallow-forth, shallow-back, steep-forth, steep-back}
 use Rattle.bresenham.specs.Inner.{DrawnIn}
 use Rattle.bresenham.proofs.draw_cells_between_points.Statement.{statement}
@@ -26,10 +26,10 @@ abbrev target : Measured → FieldCell
 target m = start m .args .target
 
 -- what the test of the spans told
-flat : (c : tie.Then1) → let m = c .before in apart (source m .row) (target m .row) < apart (source m .column) (target m .column)
+flat : (c : tie.Then1) → let m = c .before in distance (source m .row) (target m .row) < distance (source m .column) (target m .column)
 flat c = rw (← c .before .before .distance .ensures, ← c .before .distance2 .ensures) (c .if1 .taken)
 
-tall : (c : tie.Else1) → let m = c .before in apart (source m .column) (target m .column) ≤ apart (source m .row) (target m .row)
+tall : (c : tie.Else1) → let m = c .before in distance (source m .column) (target m .column) ≤ distance (source m .row) (target m .row)
 tall c = rw (← c .before .before .distance .ensures, ← c .before .distance2 .ensures) (c .if1 .left)
 
 -- what a walk drew is the line, where its cells are the line's

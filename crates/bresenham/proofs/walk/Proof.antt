@@ -9,7 +9,7 @@ use borrow.Author.Needs.{needs}
 use lib.ListN.{set}
 use Rattle.fields.specs.declared.FieldCell.{FieldCell}
 use Rattle.fields.specs.Cell.{indexOf}
-use Rattle.line_nearest.specs.Line.{toward, offsetAt, placed, walkAt}
+use Rattle.line_nearest.specs.Line.{toward, offsetAt, cellOnAxes, walkAt}
 use Rattle.line_nearest.proofs.Offset.{State, start, at-step, within, up, level}
 use Rattle.line_nearest.proofs.Walks.{cells-many}
 use Rattle.bresenham.proofs.Places.{written, none-written, one-more}
@@ -64,7 +64,7 @@ moved-requires : tie.Need-moved-requires Inv-loop μ-loop
 moved-requires c κs = (omega arith, omega arith, rw (← c .before .before .distance .ensures) (low c))
 
 -- what is known once a step's place and the index of its cell are
-module _ (c : tie.After-placed-index Inv-loop μ-loop) where
+module _ (c : tie.After-index-on-axes Inv-loop μ-loop) where
   abbrev round : Round
   round = c .before .before .before
 
@@ -72,19 +72,19 @@ module _ (c : tie.After-placed-index Inv-loop μ-loop) where
   at = round .before
 
   -- the index is that of the definition's cell, and is written at its place
-  index : c .placed-index .result ≡ indexOf (step at (at .loop .k))
+  index : c .index-on-axes .result ≡ indexOf (step at (at .loop .k))
   index =
       let a = begun at .args in
       let k = at .loop .k in
       let aside = near round ∙ ap (λ (d : ℕ). offsetAt d (span at) k) (at .before .distance .ensures) in
       let minor = c .before .before .moved .ensures .0 ∙ ap (toward (a .minor-0) (a .minor-1)) aside in
-      c .placed-index .ensures ∙ ap (λ (b : ℕ). indexOf (placed (a .steep) (a .major-0 + k) b)) minor
+      c .index-on-axes .ensures ∙ ap (λ (b : ℕ). indexOf (cellOnAxes (a .steep) (a .major-0 + k) b)) minor
 
-  put : set (at .loop .drawn) (c .before .place-of .result) (c .placed-index .result)
+  put : set (at .loop .drawn) (c .before .list-place .result) (c .index-on-axes .result)
       ≡ written (begun at .args .back) (span at) (at .loop .k + 1) (λ j. indexOf (step at j))
   put =
       one-more (span at) (λ j. indexOf (step at j)) (omega arith) (begun at .args .back) (at .loop .k) (at .loop .drawn) (at .loop .inv .2)
-      (c .before .place-of .result) (c .placed-index .result) (omega arith) (c .before .place-of .ensures .0) index
+      (c .before .list-place .result) (c .index-on-axes .result) (omega arith) (c .before .list-place .ensures .0) index
 
 loop-again : tie.Need-loop-again Inv-loop μ-loop
 loop-again c =

@@ -11,8 +11,8 @@ use borrow.Author.Tests.{not-true, not-false}
 use lib.ListN.{length}
 use Rattle.fields.specs.declared.FieldCell.{FieldCell}
 use Rattle.fields.specs.Cell.{inside}
-use Rattle.line_nearest.specs.Line.{placed, walkCells, answered}
-use Rattle.line_nearest.proofs.Calls.{both-in, outside, accepted, placed-in, none-back}
+use Rattle.line_nearest.specs.Line.{cellOnAxes, walkCells, answered}
+use Rattle.line_nearest.proofs.Calls.{both-in, outside, accepted, on-axes-in, none-back}
 use Rattle.bresenham.proofs.Drawn.{drawn-full, drawn-answer, walk-few, walk-inside}
 use Rattle.bresenham.proofs.walk_alone.Statement.{statement}
 use Rattle.bresenham.proofs.walk_alone.Tie as tie
@@ -25,17 +25,17 @@ abbrev begun : Tested → tie.Start
 begun m = m .before .before .before
 
 abbrev source : Tested → FieldCell
-source m = let a = begun m .args in placed (a .steep) (a .major-0) (a .minor-0)
+source m = let a = begun m .args in cellOnAxes (a .steep) (a .major-0) (a .minor-0)
 
 abbrev target : Tested → FieldCell
-target m = let a = begun m .args in placed (a .steep) (a .major-1) (a .minor-1)
+target m = let a = begun m .args in cellOnAxes (a .steep) (a .major-1) (a .minor-1)
 
 abbrev cells : Tested → List FieldCell
 cells m = let a = begun m .args in walkCells (a .steep) (a .major-0) (a .minor-0) (a .major-1) (a .minor-1)
 
 -- the test is that of these cells
 tested : (m : Tested) → m .both-inside .result ≡ (inside (source m) && inside (target m))
-tested m = rw (← m .before .before .placed-cell .ensures, ← m .before .placed-cell2 .ensures) (m .both-inside .ensures)
+tested m = rw (← m .before .before .cell-on-axes .ensures, ← m .before .cell-on-axes2 .ensures) (m .both-inside .ensures)
 
 within : (c : tie.Else1) → (inside (source (c .before)) && inside (target (c .before))) ≡ true
 within c = sym (tested (c .before)) ∙ not-false _ (c .if1 .left)
@@ -59,8 +59,8 @@ within-ten c =
     let m = c .before .before in
     let a = begun m .args in
     let i = both-in (source m) (target m) (within (c .before)) in
-    let p = placed-in (a .steep) (a .major-0) (a .minor-0) (i .0) in
-    let q = placed-in (a .steep) (a .major-1) (a .minor-1) (i .1) in
+    let p = on-axes-in (a .steep) (a .major-0) (a .minor-0) (i .0) in
+    let q = on-axes-in (a .steep) (a .major-1) (a .minor-1) (i .1) in
     (c .if2 .left, q .0, p .1, q .1)
 
 walk-requires : tie.Need-walk-requires

@@ -27,8 +27,8 @@ module _ (c : tie.After-differences) where
   abbrev δ : Differences
   δ = c .differences .result
 
-  apart : Small (start .args .dir) δ
-  apart = small (start .args .dir) (c .differences .ensures)
+  small-step : Small (start .args .dir) δ
+  small-step = small (start .args .dir) (c .differences .ensures)
 
   told : Indexed (start .args .index) δ beside
   told =
@@ -39,7 +39,7 @@ module _ (c : tie.After-differences) where
   ten = toZ w64 (ofZ w64 (δ .row)) *ℤ pos 10
 
   ten-made : Made ten (δ .row *ℤ pos 10)
-  ten-made = tenfold (δ .row) (single-read (δ .row) (apart .rows)) (apart .rows)
+  ten-made = tenfold (δ .row) (single-read (δ .row) (small-step .rows)) (small-step .rows)
 
   abbrev down : ℤ
   down = toZ w64 (start .args .index) +ℤ toZ w64 (ofZ w64 ten)
@@ -53,7 +53,7 @@ module _ (c : tie.After-differences) where
   across = toZ w64 (ofZ w64 down) +ℤ toZ w64 (ofZ w64 (δ .column))
 
   across-made : Made across (pos (start .args .index) +ℤ δ .row *ℤ pos 10 +ℤ δ .column)
-  across-made = added (down-made .read) (single-read (δ .column) (apart .columns)) (natural-fits (told .sum) (omega (arith, told .few)))
+  across-made = added (down-made .read) (single-read (δ .column) (small-step .columns)) (natural-fits (told .sum) (omega (arith, told .few)))
 
   across-is : toZ w64 (ofZ w64 across) ≡ pos (indexOf beside)
   across-is = across-made .read ∙ sym (told .sum)

@@ -63,15 +63,15 @@ accepts c = record {
   corners-in = sym (c .before .corners-inside .ensures) ∙ c .if3 .taken;
 }
 
-built-requires : tie.Need-built-requires
-built-requires c κs = accepts c
+build-with-positions-requires : tie.Need-build-with-positions-requires
+build-with-positions-requires c κs = accepts c
 
 returns-3 : tie.Need-returns-3
 returns-3 c =
     let s = start (c .before .before) in
     let costs = now (s .args .costs) in
     let f = s .args .t2 in
-    promised costs f (given (lent (c .before .before))) 0 (number-accepted costs f (accepts (c .before))) _ (c .built .ensures)
+    promised costs f (given (lent (c .before .before))) 0 (number-accepted costs f (accepts (c .before))) _ (c .build-with-positions .ensures)
 
 refused-requires-3 : tie.Need-refused-requires-3
 refused-requires-3 c κs = search needs
@@ -95,7 +95,7 @@ build-spec =
     refused-requires-2
     returns-2
     corners-inside-requires
-    built-requires
+    build-with-positions-requires
     returns-3
     refused-requires-3
     returns-4)

@@ -14,13 +14,13 @@ use Rattle.integration_started.specs.Sight.{Sight, sightAfter}
 use Rattle.integration_started.proofs.Waves.{ended}
 use Rattle.integration_init.specs.Held.{sightOf, Holds}
 use Rattle.integration_init.proofs.Held.{held-all, all-ready}
-use Rattle.integration_init.proofs.Looks.{all-begins}
+use Rattle.integration_init.proofs.Spreads.{all-begins}
 use Rattle.integration_init.proofs.Walls.{lent-wave}
 use Rattle.integration_init.proofs.Waves.{wave-next, held-as, held-same, held-wavefront}
 use Rattle.integration_init.proofs.propagate_los.Reads as go
 use Rattle.integration_init.proofs.propagate_los.Kinds as kinds
 use Rattle.integration_init.proofs.+propagate_los.Lts-propagate_los as lts
-use Rattle.integration_init.proofs.look_wave.Reads as wave
+use Rattle.integration_init.proofs.spread_wave.Reads as wave
 use Rattle.integration_init.proofs.+propagate_los.{statement}
 use Rattle.integration_init.proofs.+propagate_los.Tie.{close}
 
@@ -38,29 +38,29 @@ abbrev calls : ℕ → lts.Claims
 calls t = (wave.Asked, wave.Learnt, below t, go.Post)
 
 module _ (t : ℕ) where
-  -- the places: what the function is given; where it was seen that neither falling nor size is 0; where the next wave is queued
+  -- the places: what the function is given; where it was seen that neither falling nor wavefront-count is 0; where the next wave is queued
   abbrev Start : Type 0
   Start = lts.Start (calls t) (at t) go.Post
 
   abbrev Left : Type 0
   Left = lts.Else2 (calls t) (at t) go.Post
 
-  abbrev Looked : Type 0
-  Looked = lts.After-look-wave (calls t) (at t) go.Post
+  abbrev Spread : Type 0
+  Spread = lts.After-spread-wave (calls t) (at t) go.Post
 
   abbrev start : Left → Start
   start c = c .before .before
 
-  abbrev left : Looked → Left
+  abbrev left : Spread → Left
   left c = c .before .before .before .before .before
 
   -- the sight at entry
   abbrev entry : Start → Sight
-  entry s = let a = s .args in sightOf (now (a .cells)) (now (a .corners)) (a .count) (take (a .size) (now (a .wavefront)))
+  entry s = let a = s .args in sightOf (now (a .cells)) (now (a .corners)) (a .count) (take (a .wavefront-count) (now (a .wavefront)))
 
   -- arrays that are left as they are hold the sight at entry
   same : (s : Start) (t : Sight) → entry s ≡ t → Holds t (now (s .args .cells)) (now (s .args .corners)) (s .args .count)
-  same s t e = let a = s .args in held-as (take (a .size) (now (a .wavefront))) (s .pre .1 .0) e
+  same s t e = let a = s .args in held-as (take (a .wavefront-count) (now (a .wavefront))) (s .pre .1 .0) e
 
   -- there is a wave left
   falls-on : (c : Left) → 0 < start c .args .falling
@@ -81,51 +81,51 @@ module _ (t : ℕ) where
   returns-2 c before k e f =
       let s = c .before .before in
       let a = s .args in
-      let empty : take (a .size) (now (a .wavefront)) ≡ [] = ap (λ (n : ℕ). take n (now (a .wavefront))) (c .if2 .taken) in
+      let empty : take (a .wavefront-count) (now (a .wavefront)) ≡ [] = ap (λ (n : ℕ). take n (now (a .wavefront))) (c .if2 .taken) in
       let over = sym (ap (λ (s : Sight). s .queue) f) ∙ empty in
       same s _ (f ∙ sym (ended (cornerLine (a .goal)) before (a .goal) k (k + a .falling) (omega arith) over))
 
-  look-wave-requires : lts.Need-look-wave-requires (calls t) (at t) go.Post
-  look-wave-requires c κs =
+  spread-wave-requires : lts.Need-spread-wave-requires (calls t) (at t) go.Post
+  spread-wave-requires c κs =
       let l = c .before .before .before .before in
       let p = start l .pre .1 in
       let q = p .1 .1 .1 in
       (p .0, (p .1 .0, (p .1 .1 .0, record { wave-in = wave-in l; goal-in = q .0; from-in = q .0; ends = q .1 .1 })))
 
   add-cost : lts.Need-add-propagate-los (calls t) (at t) go.Post
-  add-cost c = let looked = c .before .before .before .before in omega (arith, wave-in (left looked))
+  add-cost c = let spread = c .before .before .before .before in omega (arith, wave-in (left spread))
 
   sub-falling : lts.Need-sub-propagate-los (calls t) (at t) go.Post
-  sub-falling c = let looked = c .before .before .before .before in falls-on (left looked)
+  sub-falling c = let spread = c .before .before .before .before in falls-on (left spread)
 
   propagate-los-requires : lts.Need-propagate-los-requires (calls t) (at t) go.Post
   propagate-los-requires c κs =
-      let looked = c .before .before .before .before in
-      let s = start (left looked) in
+      let spread = c .before .before .before .before in
+      let s = start (left spread) in
       let a = s .args in
       let given = s .pre .1 .1 in
       let p = given .1 .1 in
-      let h = falls-on (left looked) in
+      let h = falls-on (left spread) in
       let less : a .falling - 1 < t = omega (arith, s .pre .0) in
       let sum : a .wavefront-cost + 1 + (a .falling - 1) ≤ 101 = omega (arith, p .1 .0) in
-      let ready = all-ready (looked .look-wave .ensures) in
+      let ready = all-ready (spread .spread-wave .ensures) in
       let begun = sightOf (now (a .cells)) (now (a .corners)) (a .count) [] in
-      let lent = lent-wave (cornerLine (a .goal)) (a .wavefront-cost) (wave-in (left looked)) _ _ begun (take (a .size) (now (a .wavefront))) (p .1 .1) in
-      (less, (all-begins ready, (held-wavefront ready, (given .0 .full, (p .0, (sum, rw (looked .look-wave .ensures .held .cells-held) lent))))))
+      let lent = lent-wave (cornerLine (a .goal)) (a .wavefront-cost) (wave-in (left spread)) _ _ begun (take (a .wavefront-count) (now (a .wavefront))) (p .1 .1) in
+      (less, (all-begins ready, (held-wavefront ready, (given .0 .full, (p .0, (sum, rw (spread .spread-wave .ensures .held .cells-held) lent))))))
 
   returns-3 : lts.Need-returns-3 (calls t) (at t) go.Post
   returns-3 c before k e f =
-      let looked = c .before .before .before .before .before in
-      let s = start (left looked) in
+      let spread = c .before .before .before .before .before in
+      let s = start (left spread) in
       let a = s .args in
       let line = cornerLine (a .goal) in
-      let h = falls-on (left looked) in
+      let h = falls-on (left spread) in
       let more : a .wavefront-cost + 1 ≡ suc (suc k) = omega arith in
       let p : suc k + (a .falling - 1) ≡ k + a .falling = omega arith in
-      let wave-is = held-all (looked .look-wave .ensures) ∙ wave-next line before (a .goal) k (a .wavefront-cost) (entry s) e f in
+      let wave-is = held-all (spread .spread-wave .ensures) ∙ wave-next line before (a .goal) k (a .wavefront-cost) (entry s) e f in
       held-same (c .propagate-los .ensures before (suc k) more wave-is) (ap (sightAfter line before (a .goal)) p)
 
 pub +propagate-los-spec : {M : Type 1} → statement M
 +propagate-los-spec =
     close μ λ t. lts.spec (calls t) (at t) go.Post
-    (returns t) (returns-2 t) (look-wave-requires t) (add-cost t) (sub-falling t) (propagate-los-requires t) (returns-3 t)
+    (returns t) (returns-2 t) (spread-wave-requires t) (add-cost t) (sub-falling t) (propagate-los-requires t) (returns-3 t)

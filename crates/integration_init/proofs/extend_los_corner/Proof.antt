@@ -23,14 +23,14 @@ use Rattle.integration_init.proofs.extend_los_corner.Tie as tie
 abbrev Ended : Type 0
 Ended = tie.After-from-index2
 
-abbrev placed : Ended → tie.After-from-index
-placed c = c .before .before .before
+abbrev begun : Ended → tie.After-from-index
+begun c = c .before .before .before
 
 abbrev start : Ended → tie.Start
-start c = placed c .before
+start c = begun c .before
 
 abbrev from : Ended → FieldCell
-from c = placed c .from-index .result
+from c = begun c .from-index .result
 
 abbrev end : Ended → FieldCell
 end c = c .from-index2 .result
@@ -40,7 +40,7 @@ abbrev defined : Ended → FieldCell
 defined c = lineEnd (cellAt (start c .args .corner)) (cellAt (start c .args .goal))
 
 from-inside : (c : Ended) → Inside (from c)
-from-inside c = subst Inside (sym (placed c .from-index .ensures)) (cell-inside (start c .args .corner) (start c .pre .1 .from-in))
+from-inside c = subst Inside (sym (begun c .from-index .ensures)) (cell-inside (start c .args .corner) (start c .pre .1 .from-in))
 
 defined-inside : (c : Ended) → Inside (defined c)
 defined-inside c = end-inside _ (cellAt (start c .args .goal)) (cell-inside (start c .args .corner) (start c .pre .1 .from-in))
@@ -82,7 +82,7 @@ returns c =
     let e = ended d in
     let l = d .draw-cells-between-points in
     let cells : take (l .result) (l .last .1 .1 .0) ≡ map indexOf (line (cellAt (start e .args .corner)) (defined e)) =
-    drawn-list (l .ensures) ∙ ap (map indexOf) (ap₂ line (placed e .from-index .ensures) (end-is e)) in
+    drawn-list (l .ensures) ∙ ap (map indexOf) (ap₂ line (begun e .from-index .ensures) (end-is e)) in
     rw (← cells) (c .mark-line .ensures)
 
 pub extend-los-corner-spec : {M : Type 1} → statement M

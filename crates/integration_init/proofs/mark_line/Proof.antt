@@ -12,16 +12,16 @@ use Rattle.integration_init.proofs.mark_line.Statement.{statement}
 use Rattle.integration_init.proofs.mark_line.Tie as tie
 
 abbrev Inv-loop : tie.InvT-loop
-Inv-loop cells₀ corners₀ count corner drawn size wavefront-cost listed₀ previous₀ value₀ i₀ cells corners listed previous value i =
-    Walking wavefront-cost corner drawn size cells₀ corners₀ count cells corners listed previous value i
+Inv-loop cells₀ corners₀ count corner drawn drawn-count wavefront-cost listed₀ previous₀ value₀ i₀ cells corners listed previous value i =
+    Walking wavefront-cost corner drawn drawn-count cells₀ corners₀ count cells corners listed previous value i
 
 abbrev μ-loop : tie.MeasureT-loop
-μ-loop cells₀ corners₀ count corner drawn size wavefront-cost listed₀ previous₀ value₀ i₀ cells corners listed previous value i = size - i
+μ-loop cells₀ corners₀ count corner drawn drawn-count wavefront-cost listed₀ previous₀ value₀ i₀ cells corners listed previous value i = drawn-count - i
 
 loop-holds : tie.Need-loop-holds Inv-loop μ-loop
 loop-holds c =
     let a = c .args in
-    walk-starts (a .wavefront-cost) (a .corner) (now (a .drawn)) (a .size) (now (a .cells)) (now (a .corners)) (a .count) (c .pre .1 .1 .0) (c .pre .0)
+    walk-starts (a .wavefront-cost) (a .corner) (now (a .drawn)) (a .drawn-count) (now (a .cells)) (now (a .corners)) (a .count) (c .pre .1 .1 .0) (c .pre .0)
 
 -- from a turn of the loop: the call, the index of the i-th cell, and that the turn is one of the line's
 module _ (r : tie.In-loop Inv-loop μ-loop) where
@@ -31,17 +31,17 @@ module _ (r : tie.In-loop Inv-loop μ-loop) where
   abbrev index : ℕ
   index = getD (now (start .args .drawn)) (r .before .loop .i) 0
 
-  turn : r .before .loop .i < start .args .size
+  turn : r .before .loop .i < start .args .drawn-count
   turn = r .loop-test .taken
 
   cell : index < 100
   cell = start .pre .1 .0 .cells-in (r .before .loop .i) turn
 
-  few : start .args .size ≤ 10
+  few : start .args .drawn-count ≤ 10
   few = start .pre .1 .0 .count-in
 
   -- the line fits its array
-  long : start .args .size ≤ length (now (start .args .drawn))
+  long : start .args .drawn-count ≤ length (now (start .args .drawn))
   long = omega (arith, start .pre .1 .0 .full, few)
 
   -- the i-th value is below the flags

@@ -1,4 +1,4 @@
--- `integration_init::try_side` meets its contract: both side cells are taken apart, and the corner is the cell beside the wall.
+-- `integration_init::try_side` meets its contract: both side cells are bound, and the corner is the cell beside the wall.
 -- Assumes nothing.
 use mathlib.Core.Path.{_≡_, sym, _∙_}
 use Prim.Native.Nat.{_<_}
@@ -10,11 +10,11 @@ use Rattle.fields.specs.Cell.{Inside, stepped, cellAt, indexOf}
 use Rattle.fields.proofs.Steps.{stepped-cell, index-told}
 use Rattle.integration_started.specs.Sight.{unlessWall, sideTried}
 use Rattle.integration_init.proofs.Held.{applied-still}
-use Rattle.integration_init.proofs.Looks.{open-cell}
+use Rattle.integration_init.proofs.Spreads.{open-cell}
 use Rattle.integration_init.proofs.try_side.Statement.{statement}
 use Rattle.integration_init.proofs.try_side.Tie as tie
 
--- the places: behind the look beside the cell, and behind the one beside the wall, with what the function is given
+-- the places: behind the step beside the cell, and behind the one beside the wall, with what the function is given
 abbrev start₁ : tie.After-open-side → tie.Start
 start₁ c = c .before .before
 

@@ -33,13 +33,13 @@ place-corners-requires c κs =
 
 returns : tie.Need-returns-2
 returns c =
-    let spread = c .before .before in
-    let made = spread .before .before .before in
+    let flood = c .before .before in
+    let made = flood .before .before .before in
     let s = made .before .before .before in
     let a = s .args in
     let f = given _ (now (a .before)) (now (a .corners)) (now (a .built)) _ (a .count) (s .pre .1 .0) (s .pre .1 .1 .0) (s .pre .1 .1 .1)
     (made .entered-from .ensures) in
-    c .keep .ensures ∙ keeps-all _ _ _ _ _ f _ (spread .place-corners .ensures (now (a .costs)) (now (a .before)) f)
+    c .keep .ensures ∙ keeps-all _ _ _ _ _ f _ (flood .place-corners .ensures (now (a .costs)) (now (a .before)) f)
 
 pub corner-positions-spec : {M : Type 1} → statement M
 corner-positions-spec = tie.close (tie.spec none-listed entered-from-requires place-corners-requires (λ c κs. search needs) returns)

@@ -1,4 +1,4 @@
--- `integration_positions::place_corner` meets its contract: the corner is tried, and its position spreads from what was queued.
+-- `integration_positions::place_corner` meets its contract: the corner is tried, and its position is handed on from what was queued.
 -- Assumes nothing.
 use mathlib.Core.Path.{_≡_}
 use mathlib.Core.List.{List}
@@ -6,10 +6,10 @@ use Prim.Native.Nat.{ℕ, _<_, _+_}
 use native.Mathlib.Omega.{arith}
 use denote.Ref.{now}
 use lib.ListN.{length, getD}
-use Rattle.integration_positions.specs.Inner.{Placing, placing, placedAt, Written, BuiltOn, Spread, SpreadOn, GoneOn}
+use Rattle.integration_positions.specs.Inner.{Placing, placing, placedAt, Written, BuiltOn, Flood, FloodedOn, GoneOn}
 use Rattle.integration_positions.proofs.Room.{tried, grown-at}
 use Rattle.integration_positions.proofs.Standing.{has-next, has-more, written-same, written-grown}
-use Rattle.integration_positions.proofs.Starting.{corner-spread, gone-next}
+use Rattle.integration_positions.proofs.Starting.{corner-flood, gone-next}
 use Rattle.integration_positions.proofs.place_corner.Statement.{statement}
 use Rattle.integration_positions.proofs.place_corner.Tie as tie
 
@@ -30,21 +30,21 @@ module _ (s : tie.Start) (costs before corners values : List ℕ) (f : BuiltOn c
     abbrev after : Placing
     after = go s values (s .args .position) (entry s)
 
-    spreads : Spread costs before corners (now (s .args .built)) values (s .args .position) (s .args .queued) after
-    spreads = rw (← c) (corner-spread costs before corners _ _ f (s .args .position) (s .pre .1 .0) h (entry s) (g .stands .room) (g .gone) (rw c (s .pre .0)))
+    floods : Flood costs before corners (now (s .args .built)) values (s .args .position) (s .args .queued) after
+    floods = rw (← c) (corner-flood costs before corners _ _ f (s .args .position) (s .pre .1 .0) h (entry s) (g .stands .room) (g .gone) (rw c (s .pre .0)))
 
     written : Written (s .args .queued) (now (s .args .positions)) after
     written =
         written-grown (s .args .queued) _ (entry s) after (grown-at _ _ _ (s .args .corner) (entry s) (tried _ _ _ _ (entry s))) (omega arith)
-        (g .gone .spread .queued-placed) (written-same (s .args .queued) (entry s) (g .stands .room))
+        (g .gone .flood .queued-placed) (written-same (s .args .queued) (entry s) (g .stands .room))
 
-    gone-on : (entries : List ℕ) (t : Placing) → SpreadOn costs before corners (now (s .args .built)) values (s .args .position) entries after t
+    gone-on : (entries : List ℕ) (t : Placing) → FloodedOn costs before corners (now (s .args .built)) values (s .args .position) entries after t
         → GoneTo (s .args .position + 1) entries t
     gone-on entries t o = record {
       stands = o .stands;
       gone =
           gone-next costs before corners _ _ f (s .args .position) (s .pre .1 .0) h (entry s) (g .stands .room) (g .gone) (rw c (s .pre .0)) t
-          (rw c (o .grown)) (o .spread);
+          (rw c (o .grown)) (o .flood);
     }
 
 -- the call's start, from behind its first call
@@ -54,8 +54,8 @@ start c = c .before .before .before
 place-at-requires : tie.Need-place-at-requires
 place-at-requires c κs = let s = c .before .before in (s .pre .0, (omega arith, s .pre .1 .1))
 
-spread-requires : tie.Need-spread-requires
-spread-requires c κs =
+flood-requires : tie.Need-flood-requires
+flood-requires c κs =
     let try = c .before .before .before in
     let s = start try in
     let steps = try .place-at .ensures in
@@ -66,13 +66,13 @@ returns : tie.Need-returns
 returns c =
     let try = c .before .before .before .before in
     let s = start try in
-    let end = c .spread .ensures in (
+    let end = c .flood .ensures in (
       end .0,
       λ costs before corners values f h q g.
           gone-on s costs before corners values f h q g _ _
           (end .1 costs before corners values _ f (try .place-at .ensures values (s .args .position) (entry s) (s .pre .1 .0) (g .stands))
-          (written s costs before corners values f h q g) (spreads s costs before corners values f h q g)),
+          (written s costs before corners values f h q g) (floods s costs before corners values f h q g)),
     )
 
 pub place-corner-spec : {M : Type 1} → statement M
-place-corner-spec = tie.close (tie.spec place-at-requires spread-requires returns)
+place-corner-spec = tie.close (tie.spec place-at-requires flood-requires returns)

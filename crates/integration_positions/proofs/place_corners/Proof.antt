@@ -1,4 +1,4 @@
--- `integration_positions::place_corners` meets its contract. The loop's invariant: there is room, and the positions of the corners before i have spread.
+-- `integration_positions::place_corners` meets its contract. The loop's invariant: there is room, and the positions of the corners before i were handed on.
 -- Assumes nothing.
 use mathlib.Core.Path.{_≡_, refl}
 use mathlib.Core.List.{List}

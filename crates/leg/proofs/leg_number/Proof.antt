@@ -55,8 +55,8 @@ returns-5 c sheet e =
     let each = sym (judged .each-step .ensures) ∙ ordered .before .if4 .left in
     sym (number-9 _ _ sheet (lent .before .if1 .left) (e ∙ lent .if2 .left) list each (sym (ordered .is-out-of-order .ensures) ∙ c .if5 .taken))
 
-is-apart-requires : tie.Need-is-apart-requires
-is-apart-requires c κs =
+is-disconnected-requires : tie.Need-is-disconnected-requires
+is-disconnected-requires c κs =
     let judged = c .before .before .before in
     let some = accepted-list _ (sym (judged .before .before .is-no-step-list .ensures) ∙ judged .before .if3 .left) in
     omega arith
@@ -71,7 +71,7 @@ returns-6 c sheet e =
     let list = sym (listed .is-no-step-list .ensures) ∙ judged .before .if3 .left in
     let each = sym (judged .each-step .ensures) ∙ ordered .before .if4 .left in
     let order = sym (ordered .is-out-of-order .ensures) ∙ faced .before .if5 .left in
-    sym (number-10 _ _ sheet (lent .before .if1 .left) (e ∙ lent .if2 .left) list each order (sym (faced .is-apart .ensures) ∙ c .if6 .taken))
+    sym (number-10 _ _ sheet (lent .before .if1 .left) (e ∙ lent .if2 .left) list each order (sym (faced .is-disconnected .ensures) ∙ c .if6 .taken))
 
 returns-7 : tie.Need-returns-7
 returns-7 c sheet e =
@@ -83,7 +83,7 @@ returns-7 c sheet e =
     let list = sym (listed .is-no-step-list .ensures) ∙ judged .before .if3 .left in
     let each = sym (judged .each-step .ensures) ∙ ordered .before .if4 .left in
     let order = sym (ordered .is-out-of-order .ensures) ∙ faced .before .if5 .left in
-    sym (number-0 _ _ sheet (lent .before .if1 .left) (e ∙ lent .if2 .left) list each order (sym (faced .is-apart .ensures) ∙ c .if6 .left))
+    sym (number-0 _ _ sheet (lent .before .if1 .left) (e ∙ lent .if2 .left) list each order (sym (faced .is-disconnected .ensures) ∙ c .if6 .left))
 
 pub leg-number-spec : {M : Type 1} → statement M
 leg-number-spec =
@@ -97,6 +97,6 @@ leg-number-spec =
     returns-4
     is-out-of-order-requires
     returns-5
-    is-apart-requires
+    is-disconnected-requires
     returns-6
     returns-7)

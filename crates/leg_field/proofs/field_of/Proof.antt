@@ -31,8 +31,8 @@ costs w = let n = w .index-of .result in take (n * 100 + 100 - n * 100) (drop (n
 hundred : (w : tie.After-index-of) → length (costs w) ≡ 100
 hundred w = simp (length-take, length-drop) (omega (arith, on-floor w, start w .pre .0 .floor-full, w .index-of .ensures))
 
-built-requires : tie.Need-built-requires
-built-requires c κs =
+build-with-positions-requires : tie.Need-build-with-positions-requires
+build-with-positions-requires c κs =
     let w = c .before .before in
     let t = start w .args .target in
     rw (c .start .ensures) (accepts-started _ (heldTarget t) (hundred w) (held-in t (start w .pre .1)))
@@ -43,7 +43,7 @@ returns c =
     let w = begun .before .before in
     let a = start w .args in
     let n = w .index-of .result in
-    c .built .ensures ∙ ap (answerOf 0 (costs w)) (begun .start .ensures)
+    c .build-with-positions .ensures ∙ ap (answerOf 0 (costs w)) (begun .start .ensures)
     ∙ ap (λ (l : List ℕ). answerOf 0 l (started l (heldTarget (a .target))))
     (lent-part (now (a .floor)) (sectorOf (now (a .step))) n (w .index-of .ensures) (n * 100 + 100 - n * 100) (omega arith))
 
@@ -54,4 +54,4 @@ field-of-spec = tie.close (tie.spec
     (λ c. omega (arith, on-floor c)) (λ c. omega (arith, on-floor c))
     (λ c. search needs) (λ c. search needs) (λ c. omega (arith, on-floor c, start c .pre .0 .floor-full))
     (λ c κs. (hundred (c .before), start (c .before) .pre .1))
-    built-requires returns)
+    build-with-positions-requires returns)

@@ -35,18 +35,18 @@ module _ (m : tie.After-differences) where
   read-is : m .before .before .before .get-compass-dir-from-bits .result ≡ dirOf (start .args .byte)
   read-is = m .before .before .before .get-compass-dir-from-bits .ensures
 
-  apart : δ ≡ differences (dirOf (start .args .byte))
-  apart = m .differences .ensures ∙ ap differences read-is
+  δ-is : δ ≡ differences (dirOf (start .args .byte))
+  δ-is = m .differences .ensures ∙ ap differences read-is
 
   column-made : Made (toZ w64 (start .args .place .column) +ℤ toZ w64 (ofZ w64 (δ .column))) (columnSum (start .args .byte) from)
   column-made =
-      rw (← apart)
-      (sum (start .args .place .column) (δ .column) (omega (arith, start .pre .column-on)) (small (dirOf (start .args .byte)) apart .columns))
+      rw (← δ-is)
+      (sum (start .args .place .column) (δ .column) (omega (arith, start .pre .column-on)) (small (dirOf (start .args .byte)) δ-is .columns))
 
   row-made : Made (toZ w64 (start .args .place .row) +ℤ toZ w64 (ofZ w64 (δ .row))) (rowSum (start .args .byte) from)
   row-made =
-      rw (← apart)
-      (sum (start .args .place .row) (δ .row) (omega (arith, start .pre .row-on)) (small (dirOf (start .args .byte)) apart .rows))
+      rw (← δ-is)
+      (sum (start .args .place .row) (δ .row) (omega (arith, start .pre .row-on)) (small (dirOf (start .args .byte)) δ-is .rows))
 
   pointing : points (dirOf (start .args .byte)) ≡ true
   pointing = ap points (sym read-is) ∙ sym (m .before .before .points .ensures) ∙ not-false _ (m .before .if1 .left)

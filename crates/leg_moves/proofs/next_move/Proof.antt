@@ -8,7 +8,7 @@ use Rattle.leg_journey.specs.Place.{arrowAt, FloorMove}
 use Rattle.leg_journey.proofs.Places.{landed}
 use Rattle.leg_moves.specs.declared.Spot.{Spot}
 use Rattle.leg_moves.specs.Moving.{stillOutcome, Still}
-use Rattle.leg_moves.specs.Answers.{cartNumber, placed}
+use Rattle.leg_moves.specs.Answers.{cartNumber, acceptedMove}
 use Rattle.leg_moves.specs.Inner.{placeAt, LeadsOn}
 use Rattle.leg_moves.specs.Promise.{CartAccepted}
 use Rattle.leg_moves.proofs.Numbers.{taken}
@@ -76,8 +76,8 @@ byte-at-requires c κs = let f = found (asked-still c) in (ok (f .before) .full,
 still-outcome-requires : tie.Need-still-outcome-requires
 still-outcome-requires c κs = search needs
 
-placed-at-requires : tie.Need-placed-at-requires
-placed-at-requires c κs = search needs
+accepted-move-requires : tie.Need-accepted-move-requires
+accepted-move-requires c κs = search needs
 
 returns-2 : tie.Need-returns-2
 returns-2 c =
@@ -88,15 +88,15 @@ returns-2 c =
     = subst (LeadsOn (arrowAt (sheet m) (placeAt (here m))) (here m)) (told .enum-told .given .1) (m .move-from .ensures) in
     let outcome = c .before .still-outcome .ensures ∙ ap stillOutcome (read .byte-at .ensures) in
     stays (sheet m) _ _ (accepted (found m .before)) (found m .place-of .ensures .0) still _
-    (c .placed-at .ensures ∙ ap (λ (o : ℕ). placed o (placeAt (here m))) outcome)
+    (c .accepted-move .ensures ∙ ap (λ (o : ℕ). acceptedMove o (placeAt (here m))) outcome)
 
-placed-at-requires-2 : tie.Need-placed-at-requires-2
-placed-at-requires-2 c κs = landed (move-made c)
+accepted-move-requires-2 : tie.Need-accepted-move-requires-2
+accepted-move-requires-2 c κs = landed (move-made c)
 
 returns-3 : tie.Need-returns-3
 returns-3 c =
     let m = asked-on (c .before) in
-    moves (sheet m) _ _ (accepted (found m .before)) (found m .place-of .ensures .0) (move-made (c .before)) _ (c .placed-at2 .ensures)
+    moves (sheet m) _ _ (accepted (found m .before)) (found m .place-of .ensures .0) (move-made (c .before)) _ (c .accepted-move2 .ensures)
 
 pub next-move-spec : {M : Type 1} → statement M
 next-move-spec =
@@ -110,7 +110,7 @@ next-move-spec =
     enum-told
     byte-at-requires
     still-outcome-requires
-    placed-at-requires
+    accepted-move-requires
     returns-2
-    placed-at-requires-2
+    accepted-move-requires-2
     returns-3)

@@ -8,11 +8,11 @@ use Rattle.line_end.proofs.corner_line_end.Tie as tie
 
 returns : tie.Need-returns
 unfolding lineEnd endBy
-returns c = simp (eq-eqb _ _ (c .before .if1 .taken), c .edge .ensures)
+returns c = simp (eq-eqb _ _ (c .before .if1 .taken), c .edge-away .ensures)
 
 returns-2 : tie.Need-returns-2
 unfolding lineEnd endBy
-returns-2 c = let rows = c .before in simp (ne-eqb _ _ (rows .before .before .if1 .left), eq-eqb _ _ (rows .if2 .taken), c .edge2 .ensures)
+returns-2 c = let rows = c .before in simp (ne-eqb _ _ (rows .before .before .if1 .left), eq-eqb _ _ (rows .if2 .taken), c .edge-away2 .ensures)
 
 returns-3 : tie.Need-returns-3
 unfolding lineEnd endBy

@@ -37,11 +37,11 @@ byte-at-requires c κs = omega arith
 array-write-positions : tie.Need-array-write-positions Inv-loop μ-loop
 array-write-positions c = omega arith
 
-add-size-at : tie.Need-add-size-at Inv-loop μ-loop
-add-size-at c = omega arith
+add-usize-at : tie.Need-add-usize-at Inv-loop μ-loop
+add-usize-at c = omega arith
 
-size-at-requires : tie.Need-size-at-requires Inv-loop μ-loop
-size-at-requires c κs = omega arith
+usize-at-requires : tie.Need-usize-at-requires Inv-loop μ-loop
+usize-at-requires c κs = omega arith
 
 mul-los-corners : tie.Need-mul-los-corners Inv-loop μ-loop
 mul-los-corners c = omega arith
@@ -58,8 +58,8 @@ loop-less c = omega arith
 loop-again : tie.Need-loop-again Inv-loop μ-loop
 loop-again c = (omega arith, simp length-set (c .before .before .before .before .loop .inv .1))
 
-size-at-requires-2 : tie.Need-size-at-requires-2 Inv-loop μ-loop
-size-at-requires-2 c κs = omega arith
+usize-at-requires-2 : tie.Need-usize-at-requires-2 Inv-loop μ-loop
+usize-at-requires-2 c κs = omega arith
 
 returns : tie.Need-returns Inv-loop μ-loop
 returns c = c .before .before .loop .inv .1
@@ -78,12 +78,12 @@ field-of-spec =
     add-byte-at
     byte-at-requires
     array-write-positions
-    add-size-at
-    size-at-requires
+    add-usize-at
+    usize-at-requires
     mul-los-corners
     array-write-los-corners
     add-i
     loop-less
     loop-again
-    size-at-requires-2
+    usize-at-requires-2
     returns)

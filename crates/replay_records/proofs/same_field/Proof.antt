@@ -15,8 +15,8 @@ Inv-loop bytes count positions los-corners cells i₀ i = (i ≤ 100) × SameFir
 abbrev μ-loop : tie.MeasureT-loop
 μ-loop bytes count positions los-corners cells i₀ i = 100 - i
 
-size-at-requires : tie.Need-size-at-requires Inv-loop μ-loop
-size-at-requires c κs = omega arith
+usize-at-requires : tie.Need-usize-at-requires Inv-loop μ-loop
+usize-at-requires c κs = omega arith
 
 returns : tie.Need-returns Inv-loop μ-loop
 returns c = λ e. absurd (true≢false (sym e))
@@ -42,11 +42,11 @@ mul-if3 c = omega arith
 array-read-if3 : tie.Need-array-read-if3 Inv-loop μ-loop
 array-read-if3 c = omega arith
 
-add-size-at : tie.Need-add-size-at Inv-loop μ-loop
-add-size-at c = omega arith
+add-usize-at : tie.Need-add-usize-at Inv-loop μ-loop
+add-usize-at c = omega arith
 
-size-at-requires-2 : tie.Need-size-at-requires-2 Inv-loop μ-loop
-size-at-requires-2 c κs = omega arith
+usize-at-requires-2 : tie.Need-usize-at-requires-2 Inv-loop μ-loop
+usize-at-requires-2 c κs = omega arith
 
 returns-3 : tie.Need-returns-3 Inv-loop μ-loop
 returns-3 c = λ e. absurd (true≢false (sym e))
@@ -83,14 +83,14 @@ loop-again c =
     let l = position .before .before .loop in (
       omega arith,
       below-more _ (l .i) (l .inv .1)
-          (omega (arith, position .byte-at .ensures), (omega (arith, corner .size-at2 .ensures .0), omega (arith, word .word-at .ensures))),
+          (omega (arith, position .byte-at .ensures), (omega (arith, corner .usize-at2 .ensures .0), omega (arith, word .word-at .ensures))),
     )
 
 returns-5 : tie.Need-returns-5 Inv-loop μ-loop
 returns-5 c =
     let counted = c .before .before .before .before .before in
     let k : c .before .loop .i ≡ 100 = omega arith in
-    λ e. (counted .if1 .left ∙ counted .before .size-at .ensures .0, rw k at (c .before .loop .inv .1))
+    λ e. (counted .if1 .left ∙ counted .before .usize-at .ensures .0, rw k at (c .before .loop .inv .1))
 
 pub same-field-spec : {M : Type 1} → statement M
 same-field-spec =
@@ -98,7 +98,7 @@ same-field-spec =
     (tie.spec
     Inv-loop
     μ-loop
-    size-at-requires
+    usize-at-requires
     returns
     loop-holds
     array-read-if2
@@ -107,8 +107,8 @@ same-field-spec =
     returns-2
     mul-if3
     array-read-if3
-    add-size-at
-    size-at-requires-2
+    add-usize-at
+    usize-at-requires-2
     returns-3
     mul-if4
     array-read-if4

@@ -23,14 +23,14 @@ module _ (c : tie.After-differences) where
   abbrev δ : Differences
   δ = c .differences .result
 
-  apart : Small (c .before .args .boundary) δ
-  apart = small (c .before .args .boundary) (c .differences .ensures)
+  small-step : Small (c .before .args .boundary) δ
+  small-step = small (c .before .args .boundary) (c .differences .ensures)
 
   column-made : Made (ten (c .before .args .index % 10) (δ .column)) (pos (c .before .args .index % 10 + 10) +ℤ δ .column)
-  column-made = sum (c .before .args .index % 10 + 10) (δ .column) (omega arith) (apart .columns)
+  column-made = sum (c .before .args .index % 10 + 10) (δ .column) (omega arith) (small-step .columns)
 
   row-made : Made (ten (c .before .args .index / 10) (δ .row)) (pos (c .before .args .index / 10 + 10) +ℤ δ .row)
-  row-made = sum (c .before .args .index / 10 + 10) (δ .row) (omega (arith, c .before .fits .index)) (apart .rows)
+  row-made = sum (c .before .args .index / 10 + 10) (δ .row) (omega (arith, c .before .fits .index)) (small-step .rows)
 
 -- from where both are made
 abbrev known : tie.After-struct-told2 → tie.After-differences
@@ -39,13 +39,13 @@ known c = c .before .before .before .before
 cast-result : tie.Need-cast-result
 cast-result c =
     let m = known c in
-    cast-back _ (row-made m .read ∙ sym (ten-more (m .before .args .index / 10) (δ m .row) (apart m .rows)))
-    (omega (arith, m .before .fits .index, apart m .rows .one))
+    cast-back _ (row-made m .read ∙ sym (ten-more (m .before .args .index / 10) (δ m .row) (small-step m .rows)))
+    (omega (arith, m .before .fits .index, small-step m .rows .one))
 
 cast-result-2 : tie.Need-cast-result-2
 cast-result-2 c =
     let m = known c in
-    cast-back _ (column-made m .read ∙ sym (ten-more (m .before .args .index % 10) (δ m .column) (apart m .columns))) (omega (arith, apart m .columns .one))
+    cast-back _ (column-made m .read ∙ sym (ten-more (m .before .args .index % 10) (δ m .column) (small-step m .columns))) (omega (arith, small-step m .columns .one))
 
 returns : tie.Need-returns
 returns c = let m = known c in rw (row-made m .read, column-made m .read, ← m .differences .ensures)

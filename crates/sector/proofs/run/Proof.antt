@@ -11,14 +11,14 @@ use Rattle.sector.proofs.run.Statement.{statement}
 use Rattle.sector.proofs.run.Tie as tie
 
 -- the places: where the field is built, and started; the call
-abbrev started : tie.After-built → tie.After-start
+abbrev started : tie.After-build-with-positions → tie.After-start
 started c = c .before
 
 abbrev start : tie.After-start → tie.Start
 start c = c .before .before .before .before
 
-built-requires : tie.Need-built-requires
-built-requires c κs =
+build-with-positions-requires : tie.Need-build-with-positions-requires
+build-with-positions-requires c κs =
     let s = start c in
     let t = s .args .target in
     rw (c .start .ensures) (accepts-started (now (s .args .costs)) (heldTarget t) (s .pre .costs-hundred) (held-in t (s .pre .target-held)))
@@ -32,8 +32,8 @@ returns c =
     let a = s .args in
     let t = a .target in
     runs (now (a .costs)) (heldTarget t) (a .portal) (s .pre .costs-hundred) (held-in t (s .pre .target-held)) (a .has-previous) (now (a .previous))
-    (f .start .result) (b .built .result) (heldCells (t .window)) _
-    (f .start .ensures) (b .built .ensures) (sym (held-window t (s .pre .target-held))) (wrote .write .ensures)
+    (f .start .result) (b .build-with-positions .result) (heldCells (t .window)) _
+    (f .start .ensures) (b .build-with-positions .ensures) (sym (held-window t (s .pre .target-held))) (wrote .write .ensures)
 
 pub run-spec : {M : Type 1} → statement M
-run-spec = tie.close (tie.spec (λ c κs. search needs) built-requires (λ c κs. search needs) (λ c. search needs) returns)
+run-spec = tie.close (tie.spec (λ c κs. search needs) build-with-positions-requires (λ c κs. search needs) (λ c. search needs) returns)

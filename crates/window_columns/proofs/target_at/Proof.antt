@@ -37,10 +37,10 @@ returns c =
     let s = n .before .before .before in
     let steps = now (s .args .steps) in
     let k = s .args .k in
-    let apart : n .new .result ≡ routeStep (stepAt steps k) = n .new .ensures ∙ ap routeStep (lent-step steps k) in
+    let parsed : n .new .result ≡ routeStep (stepAt steps k) = n .new .ensures ∙ ap routeStep (lent-step steps k) in
     let made = c .as-target .ensures in (
-      made-held (stepAt steps k) (n .new .result) _ apart made (s .pre .0 .accepted k (s .pre .1)),
-      made-target (stepAt steps k) (n .new .result) _ apart made,
+      made-held (stepAt steps k) (n .new .result) _ parsed made (s .pre .0 .accepted k (s .pre .1)),
+      made-target (stepAt steps k) (n .new .result) _ parsed made,
     )
 
 pub target-at-spec : {M : Type 1} → statement M

@@ -22,11 +22,11 @@ mul-first c = search needs
 add-last : tie.Need-add-last Inv-loop μ-loop
 add-last c = search needs
 
-mul-size-at : tie.Need-mul-size-at Inv-loop μ-loop
-mul-size-at c = search needs
+mul-usize-at : tie.Need-mul-usize-at Inv-loop μ-loop
+mul-usize-at c = search needs
 
-size-at-requires : tie.Need-size-at-requires Inv-loop μ-loop
-size-at-requires c κs = search needs
+usize-at-requires : tie.Need-usize-at-requires Inv-loop μ-loop
+usize-at-requires c κs = search needs
 
 part-requires : tie.Need-part-requires Inv-loop μ-loop
 part-requires c κs = search needs
@@ -58,8 +58,8 @@ put-sectors-spec =
     loop-holds
     mul-first
     add-last
-    mul-size-at
-    size-at-requires
+    mul-usize-at
+    usize-at-requires
     part-requires
     put-sector-requires
     add-k

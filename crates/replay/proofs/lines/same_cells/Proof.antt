@@ -23,8 +23,8 @@ array-copy-out-cell c = omega arith
 as-1d-index-requires : tie.Need-as-1d-index-requires Inv-loop μ-loop
 as-1d-index-requires c κs = omega arith
 
-size-at-requires : tie.Need-size-at-requires Inv-loop μ-loop
-size-at-requires c κs = omega arith
+usize-at-requires : tie.Need-usize-at-requires Inv-loop μ-loop
+usize-at-requires c κs = omega arith
 
 returns : tie.Need-returns Inv-loop μ-loop
 returns c = tt
@@ -51,7 +51,7 @@ same-cells-spec =
     mul-cell
     array-copy-out-cell
     as-1d-index-requires
-    size-at-requires
+    usize-at-requires
     returns
     add-i
     loop-less

@@ -5,8 +5,8 @@ use borrow.Author.Needs.{needs}
 use Rattle.replay.proofs.seeds.text_agrees.Statement.{statement}
 use Rattle.replay.proofs.seeds.text_agrees.Tie as tie
 
-size-at-requires : tie.Need-size-at-requires
-size-at-requires c κs = search needs
+usize-at-requires : tie.Need-usize-at-requires
+usize-at-requires c κs = search needs
 
 returns : tie.Need-returns
 returns c = search needs
@@ -20,8 +20,8 @@ part-requires c κs = search needs
 report-requires : tie.Need-report-requires
 report-requires c κs = search needs
 
-size-at-requires-2 : tie.Need-size-at-requires-2
-size-at-requires-2 c κs = search needs
+usize-at-requires-2 : tie.Need-usize-at-requires-2
+usize-at-requires-2 c κs = search needs
 
 slice-aggregate-same : tie.Need-slice-aggregate-same
 slice-aggregate-same c = rw (c .before .before .before .report .ensures .1) (simp length-sets)
@@ -42,12 +42,12 @@ pub text-agrees-spec : {M : Type 1} → statement M
 text-agrees-spec =
     tie.close
     (tie.spec
-    size-at-requires
+    usize-at-requires
     returns
     add-part
     part-requires
     report-requires
-    size-at-requires-2
+    usize-at-requires-2
     slice-aggregate-same
     part-requires-2
     same-requires

@@ -1,4 +1,4 @@
--- `integration_build::built` meets its contract: the waves run as they do without positions, and positions are sought in what they leave.
+-- `integration_build::build_with_positions` meets its contract: the waves run as they do without positions, and positions are sought in what they leave.
 -- Assumes nothing.
 use mathlib.Core.Path.{_≡_, refl, sym, ap, ap₂, _∙_}
 use mathlib.Core.List.{List}
@@ -11,8 +11,8 @@ use Rattle.integration_field.specs.Listed.{listOf}
 use Rattle.integration_field.specs.Build.{Built, build}
 use Rattle.integration_field.specs.Position.{positions as positionsOf}
 use Rattle.integration_build.proofs.Recursion.{builtWith, same-list, places-in, wave-in, waves-leave, built-is}
-use Rattle.integration_build.proofs.built.Statement.{statement}
-use Rattle.integration_build.proofs.built.Tie as tie
+use Rattle.integration_build.proofs.build_with_positions.Statement.{statement}
+use Rattle.integration_build.proofs.build_with_positions.Tie as tie
 
 -- the places: where the waves have run, the first wave is made, the places beyond the list are cleared; the call
 abbrev first : tie.After-run-waves → tie.After-corner-wave
@@ -85,5 +85,5 @@ returns c =
     ∙ ap (builtWith (costs (s r)) (given (s r))) sought in
     ap₂ (λ (x : IntegrationField) (n : ℕ). record { number = 0; field = x; waves = n }) field (ap (λ (b : Built). b .waves) (left r))
 
-pub built-spec : {M : Type 1} → statement M
-built-spec = tie.close (tie.spec (λ c κs. search needs) corner-wave-requires run-waves-requires positions-requires (λ c κs. search needs) returns)
+pub build-with-positions-spec : {M : Type 1} → statement M
+build-with-positions-spec = tie.close (tie.spec (λ c κs. search needs) corner-wave-requires run-waves-requires positions-requires (λ c κs. search needs) returns)

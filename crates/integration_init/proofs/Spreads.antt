@@ -1,4 +1,4 @@
--- A look at one neighbour, in arrays, and the waves that are made of looks.
+-- Sight that comes to one neighbour, in arrays, and the waves that are made of such steps.
 --     all-begins              the arrays without their queue
 --     wall-held               a wall met
 --     seen-room, seen-held    a cell that comes into sight
@@ -20,7 +20,7 @@ use Rattle.fields.specs.declared.Stepped.the-variants.{Cell, Outside}
 use Rattle.fields.specs.Cell.{indexOf}
 use Rattle.integration_field.specs.Word.{isLos, isBlocked}
 use Rattle.integration_field.specs.Diagonal.{wallAt}
-use Rattle.integration_started.specs.Sight.{Sight, sightWord, unlessWall, seen, lookedAround, waveLooked}
+use Rattle.integration_started.specs.Sight.{Sight, sightWord, unlessWall, seen, spreadAround, waveSpread}
 use Rattle.integration_started.proofs.Room.{room-queue, room-seen, room-begins}
 use Rattle.integration_init.specs.Held.{sightOf, Ready, ReadyAll, HoldsAll, Applied}
 
@@ -65,15 +65,15 @@ module _ {cells corners : List ℕ} {count : ℕ} {queue : List ℕ} {queued : �
 
 module _ (line : ℕ → List ℕ) (wave : ℕ) (cells : List ℕ) (count : ℕ) where
   pub wave-step : (i : ℕ) (s : Sight) → i < count → count ≤ length cells
-      → waveLooked line wave (slice i count cells) s ≡ waveLooked line wave (slice (i + 1) count cells) (lookedAround line wave (getD cells i 0) orthogonal s)
-  unfolding waveLooked
+      → waveSpread line wave (slice i count cells) s ≡ waveSpread line wave (slice (i + 1) count cells) (spreadAround line wave (getD cells i 0) orthogonal s)
+  unfolding waveSpread
   wave-step i s h k =
-      ap (λ (l : List ℕ). waveLooked line wave l s) (slice-cons i count cells 0 h k)
-      ∙ ap (λ (m : ℕ). waveLooked line wave (slice m count cells) (lookedAround line wave (getD cells i 0) orthogonal s)) (sym (add-one i))
+      ap (λ (l : List ℕ). waveSpread line wave l s) (slice-cons i count cells 0 h k)
+      ∙ ap (λ (m : ℕ). waveSpread line wave (slice m count cells) (spreadAround line wave (getD cells i 0) orthogonal s)) (sym (add-one i))
 
-  pub wave-end : (s : Sight) → waveLooked line wave (slice count count cells) s ≡ s
-  unfolding waveLooked
-  wave-end s = ap (λ (l : List ℕ). waveLooked line wave l s) (slice-empty count cells)
+  pub wave-end : (s : Sight) → waveSpread line wave (slice count count cells) s ≡ s
+  unfolding waveSpread
+  wave-end s = ap (λ (l : List ℕ). waveSpread line wave l s) (slice-empty count cells)
 
 no-wall : (t : Bool) (m n : FieldCell) → cond t Outside (Cell m) ≡ Cell n → Cell m ≡ Cell n
 no-wall true m n e = let z : _≡_ {A = ℕ} 0 1 = cc in absurd (omega arith)

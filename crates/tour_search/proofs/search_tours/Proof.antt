@@ -1,4 +1,4 @@
--- `tour_search::window_tour` meets its contract.
+-- `tour_search::search_tours` meets its contract.
 -- Assumes nothing.
 use Prim.Native.Nat.{_-_, _≤_}
 use native.Mathlib.Omega.{arith}
@@ -7,8 +7,8 @@ use Rattle.tour_sums.proofs.Promised.{tried-is}
 use Rattle.tour_ranking.proofs.Loops.{factorial-few}
 use Rattle.tour_search.proofs.Answers.{answered, promised}
 use borrow.Author.Needs.{needs}
-use Rattle.tour_search.proofs.window_tour.Statement.{statement}
-use Rattle.tour_search.proofs.window_tour.Tie as tie
+use Rattle.tour_search.proofs.search_tours.Statement.{statement}
+use Rattle.tour_search.proofs.search_tours.Tie as tie
 
 -- the number tried is at most that of all orders, and so at most 5040
 at-most-all : (m : tie.After-tried-count) → m .tried-count .result ≤ factorial (m .before .args .n - 1)
@@ -35,7 +35,7 @@ returns c =
     promised (a .t1) (a .n) (a .limit) (m .before .pre)
     (answered (a .t1) (a .n) (a .limit) (m .tried-count .ensures) (c .before .before .best-tour .ensures) (c .before .least-figure .ensures))
 
-pub window-tour-spec : {M : Type 1} → statement M
-window-tour-spec =
+pub search-tours-spec : {M : Type 1} → statement M
+search-tours-spec =
     tie.close
     (tie.spec tried-count-requires best-tour-requires least-figure-requires cast-t11 returns)

@@ -1,4 +1,4 @@
--- `tour::plan_tour` meets its contract: refused by its number, or the tour over its square.
+-- `tour::window_tour` meets its contract: refused by its number, or the tour over its square.
 -- Assumes nothing.
 use mathlib.Core.Path.{_≡_, sym, subst, _∙_}
 use mathlib.Core.List.{List}
@@ -11,8 +11,8 @@ use Rattle.window_square.specs.Square.{windowCostsNumber}
 use Rattle.window_square.proofs.Numbers.{ready}
 use Rattle.tour_sums.specs.Promise.{TourSquare}
 use Rattle.tour_plan.proofs.Planned.{tour-square, refuses, Told, accepts}
-use Rattle.tour.proofs.plan_tour.Statement.{statement}
-use Rattle.tour.proofs.plan_tour.Tie as tie
+use Rattle.tour.proofs.window_tour.Statement.{statement}
+use Rattle.tour.proofs.window_tour.Tie as tie
 
 window-costs-number-requires : tie.Need-window-costs-number-requires
 window-costs-number-requires c κs = search needs
@@ -47,8 +47,8 @@ module _ (m : tie.Else1) where
 window-square-requires : tie.Need-window-square-requires
 window-square-requires c κs = ready (costs c) (steps c) (number c)
 
-window-tour-requires : tie.Need-window-tour-requires
-window-tour-requires c κs =
+search-tours-requires : tie.Need-search-tours-requires
+search-tours-requires c κs =
     let m = c .before in
     subst (λ (s : List (List ℕ)). TourSquare s (length (steps m) / 8)) (sym (c .window-square .ensures))
     (tour-square (costs m) (steps m) (ready (costs m) (steps m) (number m)))
@@ -62,18 +62,18 @@ returns-2 c =
     let q = t .before in
     let m = q .before in
     let limit = start m .args .limit in
-    let tour = t .window-tour .result in
-    let told : Told (costs m) (steps m) limit tour (length (steps m) / 8) = rw (q .window-square .ensures) at (t .window-tour .ensures) in
+    let tour = t .search-tours .result in
+    let told : Told (costs m) (steps m) limit tour (length (steps m) / 8) = rw (q .window-square .ensures) at (t .search-tours .ensures) in
     accepts (costs m) (steps m) limit (byte m) (number m) tour told _ (c .accepted .ensures)
 
-pub plan-tour-spec : {M : Type 1} → statement M
-plan-tour-spec =
+pub window-tour-spec : {M : Type 1} → statement M
+window-tour-spec =
     tie.close
     (tie.spec
     window-costs-number-requires
     refused-requires
     returns
     window-square-requires
-    window-tour-requires
+    search-tours-requires
     accepted-requires
     returns-2)

@@ -1,4 +1,4 @@
--- `leg::is_apart` meets its contract. The loop's invariant: the steps from place k on decide, with the one before them.
+-- `leg::is_disconnected` meets its contract. The loop's invariant: the steps from place k on decide, with the one before them.
 -- Assumes nothing.
 use borrow.Author.Tests.{not-true, not-false}
 use mathlib.Core.Path.{_≡_, sym, ap, _∙_}
@@ -9,20 +9,20 @@ use borrow.Author.Needs.{needs}
 use denote.Ref.{now}
 use lib.ListN.{length}
 use Rattle.step_list.specs.Steps.{stepsOf}
-use Rattle.leg_plan.specs.Leg.{apartFrom, apart}
+use Rattle.leg_plan.specs.Leg.{disconnectedFrom, disconnected}
 use Rattle.step_list.specs.Inner.{stepAt}
 use Rattle.step_list.proofs.Steps.{stepsFrom, first-step, from-here, from-done, sector-at, boundary-at, before-at}
-use Rattle.leg.proofs.is_apart.Statement.{statement}
-use Rattle.leg.proofs.is_apart.Tie as tie
+use Rattle.leg.proofs.is_disconnected.Statement.{statement}
+use Rattle.leg.proofs.is_disconnected.Tie as tie
 
 abbrev Inv-loop : tie.InvT-loop
-Inv-loop steps count k₀ k = (1 ≤ k) × ((k ≤ length steps / 8) × (apart (stepsOf steps) ≡ apartFrom (stepAt steps (k - 1)) (stepsFrom steps k)))
+Inv-loop steps count k₀ k = (1 ≤ k) × ((k ≤ length steps / 8) × (disconnected (stepsOf steps) ≡ disconnectedFrom (stepAt steps (k - 1)) (stepsFrom steps k)))
 
 abbrev μ-loop : tie.MeasureT-loop
 μ-loop steps count k₀ k = length steps / 8 - k
 
 loop-holds : tie.Need-loop-holds Inv-loop μ-loop
-loop-holds c = (omega arith, (omega arith, ap apart (first-step (now (c .before .args .steps)) (omega arith))))
+loop-holds c = (omega arith, (omega arith, ap disconnected (first-step (now (c .before .args .steps)) (omega arith))))
 
 mul-at : tie.Need-mul-at Inv-loop μ-loop
 mul-at c = omega arith
@@ -73,8 +73,8 @@ loop-again c =
 returns-2 : tie.Need-returns-2 Inv-loop μ-loop
 returns-2 c = search (c .before .loop .inv .1 .1, from-done)
 
-pub is-apart-spec : {M : Type 1} → statement M
-is-apart-spec =
+pub is-disconnected-spec : {M : Type 1} → statement M
+is-disconnected-spec =
     tie.close
     (tie.spec
     Inv-loop

@@ -1,4 +1,4 @@
--- `integration_init::look_at` meets its contract: case by case of what the neighbour is. A neighbour in sight is no wall, so it is left as it is.
+-- `integration_init::spread_to` meets its contract: case by case of what the neighbour is. A neighbour in sight is no wall, so it is left as it is.
 -- Assumes nothing.
 use mathlib.Core.Path.{_≡_, sym, _∙_}
 use mathlib.Core.Bool.{false}
@@ -8,24 +8,24 @@ use borrow.Author.Needs.{needs}
 use denote.Ref.{now}
 use lib.ListN.{getD, take}
 use Rattle.integration_field.specs.Word.{isLos, isGoal, isBlocked, isImpassable}
-use Rattle.integration_started.specs.Sight.{wallMet, seen, neighbourLooked}
+use Rattle.integration_started.specs.Sight.{wallMet, seen, spreadTo}
 use Rattle.integration_started.specs.CornerLine.{cornerLine}
 use Rattle.integration_init.specs.Held.{sightOf}
-use Rattle.integration_init.proofs.Looks.{all-begins, wall-held, seen-room, seen-held}
+use Rattle.integration_init.proofs.Spreads.{all-begins, wall-held, seen-room, seen-held}
 use Rattle.integration_init.proofs.Masks.{none-set, one-set}
 use Rattle.integration_init.proofs.Walls.{ends-met}
-use Rattle.integration_init.proofs.look_at.Statement.{statement}
-use Rattle.integration_init.proofs.look_at.Tie as tie
+use Rattle.integration_init.proofs.spread_to.Statement.{statement}
+use Rattle.integration_init.proofs.spread_to.Tie as tie
 
 -- the places: where it was asked whether the neighbour is left as it is; where it is not, and was asked whether it is a wall
 abbrev start : tie.After-is-left-alone → tie.Start
 start c = c .before .before
 
-abbrev looks : tie.After-is-impassable → tie.Else1
-looks c = c .before
+abbrev not-left : tie.After-is-impassable → tie.Else1
+not-left c = c .before
 
 abbrev begun : tie.After-is-impassable → tie.Start
-begun c = start (looks c .before)
+begun c = start (not-left c .before)
 
 -- the word of the neighbour, and what the answers say of it
 abbrev word : tie.Start → ℕ
@@ -37,12 +37,12 @@ none c =
     none-set (isBlocked x) (isGoal x) (isLos x) (sym (c .before .is-left-alone .ensures) ∙ c .if1 .left)
 
 returns : tie.Need-returns
-unfolding neighbourLooked
+unfolding spreadTo
 returns c =
     let s = start (c .before) in
     let a = s .args in
     let x = word s in
-    let sight = sightOf (now (a .cells)) (now (a .corners)) (a .counts .corners) (take (a .counts .queued) (now (a .queue))) in
+    let sight = sightOf (now (a .cells)) (now (a .corners)) (a .lengths .corners) (take (a .lengths .queued) (now (a .queue))) in
     let line = cornerLine (a .goal) in
     rw (one-set (isBlocked x) (isGoal x) (isImpassable x) (isLos x) sight
     (wallMet line (a .wavefront-cost) (a .from) (a .n) (a .dir) sight) (seen (a .wavefront-cost) (a .n) sight)
@@ -58,32 +58,32 @@ meet-wall-requires c κs =
     (all-begins (s .pre .0), (record { wave-in = w .wave-in; goal-in = w .goal-in; from-in = w .from-in; ends = met }, s .pre .1 .1))
 
 returns-2 : tie.Need-returns-2
-unfolding neighbourLooked
+unfolding spreadTo
 returns-2 c =
     let wall = c .before .before .before in
     let s = begun (wall .before) in
     let a = s .args in
-    let n = none (looks (wall .before)) in
+    let n = none (not-left (wall .before)) in
     rw (n .0, n .1, sym (wall .before .is-impassable .ensures) ∙ wall .if2 .taken)
     (wall-held (s .pre .0) (wallMet (cornerLine (a .goal)) (a .wavefront-cost) (a .from) (a .n) (a .dir)) (c .meet-wall .ensures))
 
 -- one that comes into sight: there is room for it
-room : (c : tie.Else2) → begun (c .before) .args .counts .queued < 100
+room : (c : tie.Else2) → begun (c .before) .args .lengths .queued < 100
 room c =
     let s = begun (c .before) in
-    let n = none (looks (c .before)) in
+    let n = none (not-left (c .before)) in
     seen-room (s .pre .0) (s .args .n) (s .pre .1 .1) (n .2) (n .0)
 
 returns-3 : tie.Need-returns-3
-unfolding neighbourLooked
+unfolding spreadTo
 returns-3 c =
     let s = begun (c .before) in
-    let n = none (looks (c .before)) in
+    let n = none (not-left (c .before)) in
     rw (n .0, n .1, n .2, sym (c .before .is-impassable .ensures) ∙ c .if2 .left)
     (seen-held (s .pre .0) (s .args .n) (s .pre .1 .1) (n .2) (n .0) (s .args .wavefront-cost) (s .pre .1 .0 .wave-in))
 
-pub look-at-spec : {M : Type 1} → statement M
-look-at-spec = tie.close (tie.spec
+pub spread-to-spec : {M : Type 1} → statement M
+spread-to-spec = tie.close (tie.spec
     (λ c. search needs) (λ c. search needs) (λ c κs. search needs)
     returns
     (λ c κs. search needs)

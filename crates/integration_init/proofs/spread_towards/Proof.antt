@@ -1,4 +1,4 @@
--- `integration_init::look` meets its contract: the neighbour is where a step arrives.
+-- `integration_init::spread_towards` meets its contract: the neighbour is where a step arrives.
 -- Assumes nothing.
 use mathlib.Core.Path.{_≡_}
 use Prim.Native.Nat.{_<_}
@@ -6,8 +6,8 @@ use borrow.Author.Needs.{needs}
 use Rattle.fields.specs.declared.Stepped.the-variants.{Cell, Outside}
 use Rattle.fields.specs.Cell.{stepped, cellAt, indexOf}
 use Rattle.fields.proofs.Steps.{near-made, step-told}
-use Rattle.integration_init.proofs.look.Statement.{statement}
-use Rattle.integration_init.proofs.look.Tie as tie
+use Rattle.integration_init.proofs.spread_towards.Statement.{statement}
+use Rattle.integration_init.proofs.spread_towards.Tie as tie
 
 -- the places: where the step is taken, where its cell is known, where that is an index, and what the function is given
 abbrev start : tie.After-get-in-compass-direction → tie.Start
@@ -35,8 +35,8 @@ arrives c =
 index : (c : tie.After-index-beside) → let i = c .index-beside .result in (i ≡ indexOf (known c .before .neighbour .given .0 .0)) × (i < 100)
 index c = c .index-beside .ensures _ (arrives (known c))
 
-look-at-requires : tie.Need-look-at-requires
-look-at-requires c κs =
+spread-to-requires : tie.Need-spread-to-requires
+spread-to-requires c κs =
     let told = c .before .before .before in
     let s = start (step (known told)) in
     (s .pre .0, (s .pre .1, index told .1))
@@ -44,11 +44,11 @@ look-at-requires c κs =
 returns-2 : tie.Need-returns-2
 returns-2 c =
     let told = c .before .before .before .before in
-    rw (arrives (known told), ← index told .0) (c .look-at .ensures)
+    rw (arrives (known told), ← index told .0) (c .spread-to .ensures)
 
-pub look-spec : {M : Type 1} → statement M
-look-spec = tie.close (tie.spec
+pub spread-towards-spec : {M : Type 1} → statement M
+spread-towards-spec = tie.close (tie.spec
     (λ c κs. search needs) (λ c κs. near-made (c .from-index .ensures) (c .before .fits .from)) (λ c. search needs) (λ c. search needs)
     returns
     (λ c κs. (c .before .neighbour .given .0 .0, arrives c))
-    look-at-requires returns-2)
+    spread-to-requires returns-2)

@@ -1,8 +1,8 @@
--- `bresenham::placed_index`: the index of the cell of a major and a minor coordinate.
+-- `bresenham::index_on_axes`: the index of the cell of a major and a minor coordinate.
 -- Assumes nothing.
 use borrow.Author.Needs.{needs}
-use Rattle.bresenham.proofs.placed_index.Statement.{statement}
-use Rattle.bresenham.proofs.placed_index.Tie as tie
+use Rattle.bresenham.proofs.index_on_axes.Statement.{statement}
+use Rattle.bresenham.proofs.index_on_axes.Tie as tie
 
 returns : tie.Need-returns
 returns c = rw (c .if1 .taken)
@@ -10,6 +10,6 @@ returns c = rw (c .if1 .taken)
 returns-2 : tie.Need-returns-2
 returns-2 c = rw (c .if1 .left)
 
-pub placed-index-spec : {M : Type 1} → statement M
-placed-index-spec =
+pub index-on-axes-spec : {M : Type 1} → statement M
+index-on-axes-spec =
     tie.close (tie.spec (λ c. search needs) (λ c. search needs) returns (λ c. search needs) (λ c. search needs) returns-2)

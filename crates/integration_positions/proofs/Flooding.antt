@@ -1,6 +1,6 @@
--- Positions spread: from a queued cell each neighbour into which a move keeps the built costs exact takes its position, unless it has one.
+-- How positions are handed on: from a queued cell each neighbour into which a move keeps the built costs exact takes its position, unless it has one.
 --     move-mine     what a move that keeps the built costs exact makes of a walk
---     spread-at     one cell tried
+--     flood-at     one cell tried
 --     gone-more     one cell of the queue gone around from
 -- Assumes nothing.
 use mathlib.Core.Path.{_≡_, refl, sym, ap, _∙_}
@@ -30,8 +30,8 @@ use Rattle.integration_field.specs.Walks.{MayEnter, Permitted}
 use Rattle.integration_field.specs.Promise.{Walked, LeastWalks}
 use Rattle.integration_field.proofs.Least.{least-walks, last-entered}
 use Rattle.integration_field.proofs.Neighbours.{Neighbour, later, neighbour-beside, beside-neighbour}
-use Rattle.integration_positions.specs.Inner.{enteredFrom, Placing, placing, QueueRoom, Grown, placedTo, placedAround, BuiltOn, Mine, Spread}
-use Rattle.integration_positions.proofs.Room.{Tried, taken, held, apart, tried, grown-none, grown-then, grown-at, behind-queue, has-room, room-to}
+use Rattle.integration_positions.specs.Inner.{enteredFrom, Placing, placing, QueueRoom, Grown, placedTo, placedAround, BuiltOn, Mine, Flood}
+use Rattle.integration_positions.proofs.Room.{Tried, taken, held, passed-by, tried, grown-none, grown-then, grown-at, behind-queue, has-room, room-to}
 
 module _ (costs before corners built entered : List ℕ) (f : BuiltOn costs before corners built entered) where
   -- ---- moves that keep the built costs exact
@@ -101,12 +101,12 @@ module _ (costs before corners built entered : List ℕ) (f : BuiltOn costs befo
   -- ---- one cell tried
 
   module _ (i gone value : ℕ) (small : i < 255) where
-    abbrev Spreads : Placing → Type 0
-    Spreads = Spread costs before corners built entered i gone
+    abbrev Floods : Placing → Type 0
+    Floods = Flood costs before corners built entered i gone
 
     -- what is written behind the queue is not read
-    spread-behind : (x : ℕ) (s : Placing) → Spreads s → Spreads (placing (s .places) (set (s .queue) (s .queued) x) (s .queued))
-    spread-behind x s d = record {
+    flood-behind : (x : ℕ) (s : Placing) → Floods s → Floods (placing (s .places) (set (s .queue) (s .queued) x) (s .queued))
+    flood-behind x s d = record {
       behind = d .behind;
       listed = λ z l p. (let o = d .listed z l p in (o .0, o .1, behind-queue s x (o .0) (o .1) ∙ o .2));
       queued-placed = λ j l. rw (behind-queue s x j l) (d .queued-placed j l);
@@ -116,11 +116,11 @@ module _ (costs before corners built entered : List ℕ) (f : BuiltOn costs befo
       closed = λ j z k. (let l : j < s .queued = omega (arith, d .behind) in rw (behind-queue s x j l) (d .closed j z k));
     }
 
-    pub spread-at : (x : ℕ) (s : Placing) {t : Placing} → x < 100 → QueueRoom s → (getD entered x 0 ≡ value → Mine costs before corners built entered x i)
-        → Spreads s → Tried entered value i x s t → Spreads t
-    spread-at x s h r m d (held e n) = rw e (spread-behind x s d)
-    spread-at x s h r m d (apart e n) = rw e (spread-behind x s d)
-    spread-at x s h r m d (taken e n v) =
+    pub flood-at : (x : ℕ) (s : Placing) {t : Placing} → x < 100 → QueueRoom s → (getD entered x 0 ≡ value → Mine costs before corners built entered x i)
+        → Floods s → Tried entered value i x s t → Floods t
+    flood-at x s h r m d (held e n) = rw e (flood-behind x s d)
+    flood-at x s h r m d (passed-by e n) = rw e (flood-behind x s d)
+    flood-at x s h r m d (taken e n v) =
         let full : x < length (s .places) = omega (arith, r .full) in
         let room : s .queued < length (s .queue) = omega (arith, r .indexes .full, r .indexes .count-in, has-room s x r h n) in
         let same : getD (set (s .queue) (s .queued) x) (s .queued) 0 ≡ x = getD-set-same (s .queue) (s .queued) x 0 room in
@@ -158,33 +158,33 @@ module _ (costs before corners built entered : List ℕ) (f : BuiltOn costs befo
           closed = λ j z k b a.
               (let l′ : j < s .queued = omega (arith, d .behind) in
               let y = getD (s .queue) j 0 in
-              let apart-y : y ≡ x → ⊥ = λ q. d .queued-placed j l′ (ap (λ (k : ℕ). getD (s .places) k 0) q ∙ n) in
+              let other-y : y ≡ x → ⊥ = λ q. d .queued-placed j l′ (ap (λ (k : ℕ). getD (s .places) k 0) q ∙ n) in
               let old = d .closed j z k (rw (queue-other j l′) at b) (rw (queue-other j l′) at a) in
               let few : getD (s .places) y 0 < 100 =
               omega (arith, f .few-corners, d .mine y (r .indexes .cells-in j l′) (d .queued-placed j l′) .corner-of) in
-              let apart-z : z ≡ x → ⊥ = λ q. absurd (omega (arith, ap (λ (k : ℕ). getD (s .places) k 0) q, n)) in
-              rw (queue-other j l′, other y apart-y, other z apart-z) old);
+              let other-z : z ≡ x → ⊥ = λ q. absurd (omega (arith, ap (λ (k : ℕ). getD (s .places) k 0) q, n)) in
+              rw (queue-other j l′, other y other-y, other z other-z) old);
         })
 
     -- a cell that was tried holds the position or an earlier one, if a move into it keeps the built costs exact
-    pub tried-least : (x : ℕ) (s : Placing) {t : Placing} → x < 100 → QueueRoom s → Spreads s → Tried entered value i x s t → getD entered x 0 ≡ value
+    pub tried-least : (x : ℕ) (s : Placing) {t : Placing} → x < 100 → QueueRoom s → Floods s → Tried entered value i x s t → getD entered x 0 ≡ value
         → getD (t .places) x 0 ≤ i
     tried-least x s h r d (held e n) v = rw e (d .no-later x h n)
-    tried-least x s h r d (apart e n) v = absurd (n v)
+    tried-least x s h r d (passed-by e n) v = absurd (n v)
     tried-least x s h r d (taken e n w) v = rw (e, getD-set-same (s .places) x i 0 (omega (arith, r .full))) (omega arith)
 
     -- ---- the neighbours of a cell, one direction after the other
 
     -- what trying the cells of a list of directions has come to
     pub record Around (c : FieldCell) (ds : List CompassDir) (s t : Placing) : Type 0 where
-      pub around-spread : Spreads t
+      pub around-flood : Floods t
       pub around-grown : Grown s t
       pub around-least : (z : ℕ) → Neighbour c ds z → getD entered z 0 ≡ value → getD (t .places) z 0 ≤ i
 
     abbrev Mines : FieldCell → List CompassDir → Type 0
     Mines c ds = (z : ℕ) → Neighbour c ds z → getD entered z 0 ≡ value → Mine costs before corners built entered z i
 
-    step-around : (c : FieldCell) (d : CompassDir) (t : Stepped) → stepped c d ≡ t → (s : Placing) → QueueRoom s → Mines c (d ∷ []) → Spreads s
+    step-around : (c : FieldCell) (d : CompassDir) (t : Stepped) → stepped c d ≡ t → (s : Placing) → QueueRoom s → Mines c (d ∷ []) → Floods s
         → Around c (d ∷ []) s (placedTo entered value i t s)
     step-around c d (Cell n) e s r m q =
         let x = indexOf n in
@@ -192,7 +192,7 @@ module _ (costs before corners built entered : List ℕ) (f : BuiltOn costs befo
         let t = tried entered value i x s in
         let only : (z : ℕ) → Neighbour c (d ∷ []) z → z ≡ x = λ z b. one z b (List·Memᴰ·cases-cons (b .listed)) in
         record {
-          around-spread = spread-at x s h r (λ v. m x (record { way = d; listed = List·Memᴰ·head refl; cell = n; step = e; index = refl }) v) q t;
+          around-flood = flood-at x s h r (λ v. m x (record { way = d; listed = List·Memᴰ·head refl; cell = n; step = e; index = refl }) v) q t;
           around-grown = grown-at entered value i x s t;
           around-least = λ z b v. (let w = only z b in rw w (tried-least x s h r q t (rw w at v)));
         }
@@ -201,7 +201,7 @@ module _ (costs before corners built entered : List ℕ) (f : BuiltOn costs befo
         one z b (inl w) = let same : Cell (b .cell) ≡ Cell n = sym (b .step) ∙ ap (stepped c) w ∙ e in b .index ∙ ap indexOf cc
         one z b (inr w) = absurd (List·Memᴰ·not-nil w)
     step-around c d Outside e s r m q = record {
-      around-spread = q;
+      around-flood = q;
       around-grown = grown-none s;
       around-least = λ z b v. absurd (none z b (List·Memᴰ·cases-cons (b .listed)));
     }
@@ -223,16 +223,16 @@ module _ (costs before corners built entered : List ℕ) (f : BuiltOn costs befo
           index = b .index;
         }
 
-    pub around : (c : FieldCell) (ds : List CompassDir) (s : Placing) → QueueRoom s → Mines c ds → Spreads s
+    pub around : (c : FieldCell) (ds : List CompassDir) (s : Placing) → QueueRoom s → Mines c ds → Floods s
         → Around c ds s (placedAround entered value i c ds s)
     unfolding placedAround
-    around c [] s r m q = record { around-spread = q; around-grown = grown-none s; around-least = λ z b v. absurd (List·Memᴰ·not-nil (b .listed)) }
+    around c [] s r m q = record { around-flood = q; around-grown = grown-none s; around-least = λ z b v. absurd (List·Memᴰ·not-nil (b .listed)) }
     around c (d ∷ ds) s r m q =
         let mid = placedTo entered value i (stepped c d) s in
         let one = step-around c d (stepped c d) refl s r (λ z b v. m z (first-of b) v) q in
-        let rest = around c ds mid (room-to entered value i small c d (stepped c d) refl s r) (λ z b v. m z (later b) v) (one .around-spread) in
+        let rest = around c ds mid (room-to entered value i small c d (stepped c d) refl s r) (λ z b v. m z (later b) v) (one .around-flood) in
         record {
-          around-spread = rest .around-spread;
+          around-flood = rest .around-flood;
           around-grown = grown-then (one .around-grown) (rest .around-grown);
           around-least = λ z b v. (⊎-elim
               (λ (w : b .way ≡ d).
@@ -245,9 +245,9 @@ module _ (costs before corners built entered : List ℕ) (f : BuiltOn costs befo
 
   -- ---- one cell of the queue gone around from
 
-  pub gone-more : (i gone : ℕ) (s : Placing) → i < 255 → QueueRoom s → gone < s .queued → Spread costs before corners built entered i gone s
+  pub gone-more : (i gone : ℕ) (s : Placing) → i < 255 → QueueRoom s → gone < s .queued → Flood costs before corners built entered i gone s
       → let y = getD (s .queue) gone 0 in
-      Spread costs before corners built entered i (suc gone) (placedAround entered (Now y) i (cellAt y) orthogonal s)
+      Flood costs before corners built entered i (suc gone) (placedAround entered (Now y) i (cellAt y) orthogonal s)
   gone-more i gone s small r h d =
       let y = getD (s .queue) gone 0 in
       let y-in : y < 100 = r .indexes .cells-in gone h in
@@ -257,7 +257,7 @@ module _ (costs before corners built entered : List ℕ) (f : BuiltOn costs befo
       let all = around i gone (Now y) small (cellAt y) orthogonal s r
       (λ z b v. (let beside = neighbour-beside y y-in z b in move-mine i y z mine beside (beside-below y z beside .1) v)) d in
       let g = all .around-grown in
-      let t = all .around-spread in
+      let t = all .around-flood in
       let same-y = g .queue-kept gone h in
       let same-place : getD (placedAround entered (Now y) i (cellAt y) orthogonal s .places) y 0 ≡ i = g .places-kept y y-placed ∙ y-is in
       record {

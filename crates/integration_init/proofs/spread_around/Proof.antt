@@ -1,4 +1,4 @@
--- `integration_init::look_around` meets its contract: the invariant: the directions that are left do what all four do.
+-- `integration_init::spread_around` meets its contract: the invariant: the directions that are left do what all four do.
 -- Assumes nothing.
 use mathlib.Core.Path.{_≡_, refl, sym, ap, _∙_}
 use Prim.Native.Nat.{ℕ, _+_, _-_, _≤_}
@@ -8,25 +8,25 @@ use lib.ListN.{take, drop}
 use Rattle.utilities.specs.declared.CompassDir.{CompassDir}
 use Rattle.utilities.specs.Compass.{orthogonal}
 use Rattle.fields.specs.Cell.{cellAt, stepped}
-use Rattle.integration_started.specs.Sight.{Sight, looked, lookedAround}
+use Rattle.integration_started.specs.Sight.{Sight, spreadTowards, spreadAround}
 use Rattle.integration_started.specs.CornerLine.{cornerLine}
 use Rattle.integration_init.specs.Held.{sightOf, ReadyAll, Lent}
 use Rattle.integration_init.proofs.Held.{held-all, all-ready}
-use Rattle.integration_init.proofs.Walls.{lent-looked}
+use Rattle.integration_init.proofs.Walls.{lent-towards}
 use Rattle.integration_init.proofs.Waves.{around-step, around-end}
-use Rattle.integration_init.proofs.look_around.Statement.{statement}
-use Rattle.integration_init.proofs.look_around.Tie as tie
+use Rattle.integration_init.proofs.spread_around.Statement.{statement}
+use Rattle.integration_init.proofs.spread_around.Tie as tie
 
 abbrev Inv-loop : tie.InvT-loop
-Inv-loop cells₀ corners₀ queue₀ from goal wavefront-cost ends counted₀ side₀ cells corners queue counted side =
+Inv-loop cells₀ corners₀ queue₀ from goal wavefront-cost ends so-far₀ side₀ cells corners queue so-far side =
     (side ≤ 4)
-    × ReadyAll cells corners (counted .corners) queue (counted .queued)
-    × (lookedAround (cornerLine goal) wavefront-cost from orthogonal (sightOf cells₀ corners₀ (counted₀ .corners) (take (counted₀ .queued) queue₀))
-    ≡ lookedAround (cornerLine goal) wavefront-cost from (drop side orthogonal) (sightOf cells corners (counted .corners) (take (counted .queued) queue)))
+    × ReadyAll cells corners (so-far .corners) queue (so-far .queued)
+    × (spreadAround (cornerLine goal) wavefront-cost from orthogonal (sightOf cells₀ corners₀ (so-far₀ .corners) (take (so-far₀ .queued) queue₀))
+    ≡ spreadAround (cornerLine goal) wavefront-cost from (drop side orthogonal) (sightOf cells corners (so-far .corners) (take (so-far .queued) queue)))
     × Lent goal ends cells
 
 abbrev μ-loop : tie.MeasureT-loop
-μ-loop cells₀ corners₀ queue₀ from goal wavefront-cost ends counted₀ side₀ cells corners queue counted side = 4 - side
+μ-loop cells₀ corners₀ queue₀ from goal wavefront-cost ends so-far₀ side₀ cells corners queue so-far side = 4 - side
 
 -- the turn of the loop, where the direction is known, and the call
 abbrev Turn : Type 0
@@ -35,15 +35,15 @@ Turn = tie.At-loop Inv-loop μ-loop
 abbrev start : Turn → tie.Start Inv-loop μ-loop
 start l = l .before
 
--- what the arrays hold before a look
+-- what the arrays hold before sight spreads in one direction
 abbrev held : Turn → Sight
-held c = let l = c .loop in sightOf (l .cells) (l .corners) (l .counted .corners) (take (l .counted .queued) (l .queue))
+held c = let l = c .loop in sightOf (l .cells) (l .corners) (l .so-far .corners) (take (l .so-far .queued) (l .queue))
 
 loop-holds : tie.Need-loop-holds Inv-loop μ-loop
 loop-holds c = (search needs, c .pre .0, refl, c .pre .1 .ends)
 
-look-requires : tie.Need-look-requires Inv-loop μ-loop
-look-requires c κs =
+spread-towards-requires : tie.Need-spread-towards-requires Inv-loop μ-loop
+spread-towards-requires c κs =
     let known = c .before .before .before in
     let turn = known .before .before in
     let w = start turn .pre .1 in
@@ -58,15 +58,15 @@ loop-again c =
     let l = turn .loop in
     let line = cornerLine (a .goal) in
     let dir = told .from-boundary .result in
-    let towards : CompassDir → Sight = λ d. looked line (a .wavefront-cost) (a .from) d (stepped (cellAt (a .from)) d) (held turn) in (
+    let towards : CompassDir → Sight = λ d. spreadTowards line (a .wavefront-cost) (a .from) d (stepped (cellAt (a .from)) d) (held turn) in (
       search needs,
-      all-ready (c .look .ensures),
+      all-ready (c .spread-towards .ensures),
       l .inv .2
           ∙ around-step line (a .wavefront-cost) (a .from) (l .side) (held turn) (tested .loop-test .taken)
-          ∙ ap (lookedAround line (a .wavefront-cost) (a .from) (drop (l .side + 1) orthogonal))
-          (ap towards (sym (told .from-boundary .ensures)) ∙ sym (held-all (c .look .ensures))),
-      rw (c .look .ensures .held .cells-held)
-          (lent-looked line (a .wavefront-cost) (start turn .pre .1 .wave-in) _ _ (held turn) (a .from) dir (stepped (cellAt (a .from)) dir) (l .inv .3)),
+          ∙ ap (spreadAround line (a .wavefront-cost) (a .from) (drop (l .side + 1) orthogonal))
+          (ap towards (sym (told .from-boundary .ensures)) ∙ sym (held-all (c .spread-towards .ensures))),
+      rw (c .spread-towards .ensures .held .cells-held)
+          (lent-towards line (a .wavefront-cost) (start turn .pre .1 .wave-in) _ _ (held turn) (a .from) dir (stepped (cellAt (a .from)) dir) (l .inv .3)),
     )
 
 returns : tie.Need-returns Inv-loop μ-loop
@@ -76,13 +76,13 @@ returns c =
     let l = turn .loop in
     let e : l .side ≡ 4 = omega arith in
     rw (l .inv .2
-    ∙ ap (λ (k : ℕ). lookedAround (cornerLine (a .goal)) (a .wavefront-cost) (a .from) (drop k orthogonal) (held turn)) e
+    ∙ ap (λ (k : ℕ). spreadAround (cornerLine (a .goal)) (a .wavefront-cost) (a .from) (drop k orthogonal) (held turn)) e
     ∙ around-end (cornerLine (a .goal)) (a .wavefront-cost) (a .from) (held turn)) (l .inv .1)
 
-pub look-around-spec : {M : Type 1} → statement M
-look-around-spec = tie.close (tie.spec
+pub spread-around-spec : {M : Type 1} → statement M
+spread-around-spec = tie.close (tie.spec
     Inv-loop μ-loop loop-holds
     (λ c κs. search needs)
-    look-requires
+    spread-towards-requires
     (λ c. search needs) (λ c. search needs)
     loop-again returns)

@@ -1,4 +1,4 @@
--- `integration_positions::spread` meets its contract. The loop's invariant: there is room, and whichever positions the arrays stood for at first, they
+-- `integration_positions::flood` meets its contract. The loop's invariant: there is room, and whichever positions the arrays stood for at first, they
 -- stand for those after the first i cells of the queue have been gone around from, and the positions of these are written.
 -- Assumes nothing.
 use mathlib.Core.Path.{_≡_, ap, _∙_}
@@ -11,12 +11,12 @@ use lib.ListN.{getD, set}
 use Rattle.utilities.specs.Compass.{orthogonal}
 use Rattle.fields.specs.Cell.{cellAt}
 use Rattle.integration_field.specs.Word.{low}
-use Rattle.integration_positions.specs.Inner.{Placing, placing, Grown, placedAround, StandsFor, HasRoom, Written, BuiltOn, Spread, SpreadOn}
+use Rattle.integration_positions.specs.Inner.{Placing, placing, Grown, placedAround, StandsFor, HasRoom, Written, BuiltOn, Flood, FloodedOn}
 use Rattle.integration_positions.proofs.Room.{grown-none, grown-then, grown-around}
 use Rattle.integration_positions.proofs.Standing.{has-few, has-cells, has-next, has-more, written-next, written-grown, written-all}
-use Rattle.integration_positions.proofs.Spreading.{gone-more}
-use Rattle.integration_positions.proofs.spread.Statement.{statement}
-use Rattle.integration_positions.proofs.spread.Tie as tie
+use Rattle.integration_positions.proofs.Flooding.{gone-more}
+use Rattle.integration_positions.proofs.flood.Statement.{statement}
+use Rattle.integration_positions.proofs.flood.Tie as tie
 
 -- ---- the positions that the arrays stand for
 
@@ -27,19 +27,19 @@ module _ (costs before corners built values : List ℕ) (position : ℕ) (first 
     pub stands : StandsFor values entries queue count state
     pub written : Written i positions state
     pub grown : Grown first state
-    pub spread : Spread costs before corners built values position i state
+    pub flood : Flood costs before corners built values position i state
 
   -- after the last
   ended : (entries positions queue : List ℕ) (count : ℕ) → Turned entries positions queue count count
-      → SpreadOn costs before corners built values position entries first (placing positions queue count)
+      → FloodedOn costs before corners built values position entries first (placing positions queue count)
   ended entries positions queue count o =
       let s = o .state in
       let n = o .stands .same-queued in
-      let p : positions ≡ s .places = written-all positions s (o .stands .room) (o .spread .listed) (rw n at (o .written)) in
+      let p : positions ≡ s .places = written-all positions s (o .stands .room) (o .flood .listed) (rw n at (o .written)) in
       rw (p, o .stands .same-queue, n) (record {
         stands = rw (o .stands .same-queue, n) at (o .stands);
         grown = o .grown;
-        spread = rw n at (o .spread);
+        flood = rw n at (o .flood);
       })
 
   module _ (f : BuiltOn costs before corners built values) (small : position < 255) where
@@ -53,15 +53,15 @@ module _ (costs before corners built values : List ℕ) (position : ℕ) (first 
         let here : i < s .queued = omega (arith, o .stands .same-queued) in
         let is : y ≡ getD (s .queue) i 0 = at ∙ ap (λ (q : List ℕ). getD q i 0) (o .stands .same-queue) in
         let g = grown-around values v position (cellAt y) orthogonal s in
-        let next = gone-more costs before corners built values f position i s small (o .stands .room) here (o .spread) in
+        let next = gone-more costs before corners built values f position i s small (o .stands .room) here (o .flood) in
         let inside = o .stands .room .indexes .cells-in i here in
-        let wrote = written-next position i positions s small inside (o .spread .recent i (omega arith) here) (o .written) in
+        let wrote = written-next position i positions s small inside (o .flood .recent i (omega arith) here) (o .written) in
         record {
           state = placedAround values v position (cellAt y) orthogonal s;
           stands = m;
-          written = written-grown (suc i) _ s _ g (omega arith) (o .spread .queued-placed) (rw is wrote);
+          written = written-grown (suc i) _ s _ g (omega arith) (o .flood .queued-placed) (rw is wrote);
           grown = grown-then (o .grown) g;
-          spread = rw (value, is) next;
+          flood = rw (value, is) next;
         }
 
 -- ---- the loop
@@ -70,7 +70,7 @@ pub record Holds (built entries₀ positions₀ queue₀ : List ℕ) (gone queue
   pub room : HasRoom entries queue count
   pub within : i ≤ count
   pub turned : (costs before corners values : List ℕ) (s : Placing) → BuiltOn costs before corners built values → StandsFor values entries₀ queue₀ queued s
-      → Written gone positions₀ s → Spread costs before corners built values position gone s
+      → Written gone positions₀ s → Flood costs before corners built values position gone s
       → Turned costs before corners built values position s entries positions queue count i
 
 abbrev Inv-loop : tie.InvT-loop
@@ -84,7 +84,7 @@ loop-holds : tie.Need-loop-holds Inv-loop μ-loop
 loop-holds c = record {
   room = c .pre .1 .1;
   within = omega (arith, c .pre .1 .0);
-  turned = λ costs before corners values s f m w d. record { state = s; stands = m; written = w; grown = grown-none s; spread = d };
+  turned = λ costs before corners values s f m w d. record { state = s; stands = m; written = w; grown = grown-none s; flood = d };
 }
 
 -- the places of a turn: its cell is read; the cell's value is read; the cell's neighbours are tried
@@ -158,8 +158,8 @@ returns c =
           ended costs before corners _ values _ s _ _ _ _ (rw e at (l .inv .turned costs before corners values s f m w d)),
     )
 
-pub spread-spec : {M : Type 1} → statement M
-spread-spec =
+pub flood-spec : {M : Type 1} → statement M
+flood-spec =
     tie.close
     (tie.spec
     Inv-loop
