@@ -17,12 +17,6 @@ use Rattle.bounds.proofs.Laws.{refuses, accepts}
 use Rattle.bounds.proofs.bounds.Statement.{statement}
 use Rattle.bounds.proofs.bounds.Tie as tie
 
-new-requires : tie.Need-new-requires
-new-requires c κs = search needs
-
-as-target-requires : tie.Need-as-target-requires
-as-target-requires c κs = search needs
-
 bounds-number-requires : tie.Need-bounds-number-requires
 bounds-number-requires c κs = c .as-target .ensures ∙ ap (λ (s : RouteStep). listedTarget (routeTarget s)) (c .before .new .ensures)
 
@@ -32,9 +26,6 @@ known n = n .before .before .before
 
 abbrev start : tie.After-bounds-number → tie.Start
 start n = known n .before .before .before
-
-refused-requires : tie.Need-refused-requires
-refused-requires c κs = search needs
 
 returns : tie.Need-returns
 returns c =
@@ -81,13 +72,5 @@ returns-2 c =
     accepts (low m) (high m) (step m) byte (number m) _ (c .run .ensures ∙ ap (acceptedBounds (low m) (high m)) (target m))
 
 pub bounds-spec : {M : Type 1} → statement M
-bounds-spec =
-    tie.close
-    (tie.spec
-    new-requires
-    as-target-requires
-    bounds-number-requires
-    refused-requires
-    returns
-    run-requires
-    returns-2)
+bounds-spec = tie.close (tie.spec
+    (λ c κs. search needs) (λ c κs. search needs) bounds-number-requires (λ c κs. search needs) returns run-requires returns-2)

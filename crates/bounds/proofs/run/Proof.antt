@@ -13,21 +13,6 @@ use Rattle.bounds.proofs.Laws.{runs}
 use Rattle.bounds.proofs.run.Statement.{statement}
 use Rattle.bounds.proofs.run.Tie as tie
 
-build-window-requires : tie.Need-build-window-requires
-build-window-requires c κs = search needs
-
-costs-of-requires : tie.Need-costs-of-requires
-costs-of-requires c κs = search needs
-
-build-window-requires-2 : tie.Need-build-window-requires-2
-build-window-requires-2 c κs = search needs
-
-costs-of-requires-2 : tie.Need-costs-of-requires-2
-costs-of-requires-2 c κs = search needs
-
-sure-cells-requires : tie.Need-sure-cells-requires
-sure-cells-requires c κs = search needs
-
 returns : tie.Need-returns
 returns c =
     let counted-2 = c .before .before .before .before in
@@ -44,12 +29,5 @@ returns c =
     (counted .costs-of .ensures) (counted-2 .costs-of2 .ensures) (c .sure-cells .ensures)
 
 pub run-spec : {M : Type 1} → statement M
-run-spec =
-    tie.close
-    (tie.spec
-    build-window-requires
-    costs-of-requires
-    build-window-requires-2
-    costs-of-requires-2
-    sure-cells-requires
-    returns)
+run-spec = tie.close (tie.spec
+    (λ c κs. search needs) (λ c κs. search needs) (λ c κs. search needs) (λ c κs. search needs) (λ c κs. search needs) returns)

@@ -47,21 +47,9 @@ module _ (m : tie.After-permitted-from) where
       let portal : isPortal (getD cells (start .args .index) 0) ≡ false = sym (unflagged .before .is-portal .ensures) ∙ unflagged .if2 .left in
       sure-flagged cells window least greatest (start .args .index) (start .pre) portals neighbours (m .permitted-from .ensures .0) ∙ rw (wall, portal)
 
-mul-word : tie.Need-mul-word
-mul-word c = search needs
-
-element-copy-out-word : tie.Need-element-copy-out-word
-element-copy-out-word c = search needs
-
-is-impassable-requires : tie.Need-is-impassable-requires
-is-impassable-requires c κs = search needs
-
 returns : tie.Need-returns
 unfolding isSure
 returns c window portals = rw (sym (c .before .is-impassable .ensures) ∙ c .if1 .taken)
-
-is-portal-requires : tie.Need-is-portal-requires
-is-portal-requires c κs = search needs
 
 returns-2 : tie.Need-returns-2
 unfolding isSure
@@ -71,19 +59,10 @@ returns-2 c window portals =
     let wall : wallAt (now (s .args .cells)) (s .args .index) ≡ false = sym (open-cell .before .is-impassable .ensures) ∙ open-cell .if1 .left in
     rw (wall, ← (portals (s .args .index) (s .pre)), sym (c .before .is-portal .ensures) ∙ c .if2 .taken)
 
-permitted-from-requires : tie.Need-permitted-from-requires
-permitted-from-requires c κs = search needs
-
-has-window-requires : tie.Need-has-window-requires
-has-window-requires c κs = search needs
-
 returns-3 : tie.Need-returns-3
 returns-3 c window portals =
     let asked = c .before in
     sym (decided (asked .before) window portals ∙ rw (sym (asked .has-window .ensures) ∙ c .if3 .taken))
-
-has-least-requires : tie.Need-has-least-requires
-has-least-requires c κs = search needs
 
 returns-4 : tie.Need-returns-4
 returns-4 c window portals =
@@ -91,17 +70,6 @@ returns-4 c window portals =
     c .has-least .ensures ∙ sym (decided (asked .before) window portals ∙ rw (sym (asked .has-window .ensures) ∙ c .before .if3 .left))
 
 pub is-sure-spec : {M : Type 1} → statement M
-is-sure-spec =
-    tie.close
-    (tie.spec
-    mul-word
-    element-copy-out-word
-    is-impassable-requires
-    returns
-    is-portal-requires
-    returns-2
-    permitted-from-requires
-    has-window-requires
-    returns-3
-    has-least-requires
-    returns-4)
+is-sure-spec = tie.close (tie.spec
+    (λ c. search needs) (λ c. search needs) (λ c κs. search needs) returns (λ c κs. search needs) returns-2 (λ c κs. search needs)
+    (λ c κs. search needs) returns-3 (λ c κs. search needs) returns-4)

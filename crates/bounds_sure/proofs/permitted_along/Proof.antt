@@ -13,18 +13,6 @@ use Rattle.bounds_sure.proofs.Loops.{along-more}
 use Rattle.bounds_sure.proofs.permitted_along.Statement.{statement}
 use Rattle.bounds_sure.proofs.permitted_along.Tie as tie
 
-permitted-towards-requires : tie.Need-permitted-towards-requires
-permitted-towards-requires c κs = search needs
-
-permitted-towards-requires-2 : tie.Need-permitted-towards-requires-2
-permitted-towards-requires-2 c κs = search needs
-
-permitted-towards-requires-3 : tie.Need-permitted-towards-requires-3
-permitted-towards-requires-3 c κs = search needs
-
-permitted-towards-requires-4 : tie.Need-permitted-towards-requires-4
-permitted-towards-requires-4 c κs = search needs
-
 returns : tie.Need-returns
 returns c =
     let three = c .before in
@@ -60,11 +48,4 @@ returns c =
     }
 
 pub permitted-along-spec : {M : Type 1} → statement M
-permitted-along-spec =
-    tie.close
-    (tie.spec
-    permitted-towards-requires
-    permitted-towards-requires-2
-    permitted-towards-requires-3
-    permitted-towards-requires-4
-    returns)
+permitted-along-spec = tie.close (tie.spec (λ c κs. search needs) (λ c κs. search needs) (λ c κs. search needs) (λ c κs. search needs) returns)

@@ -13,12 +13,6 @@ use Rattle.bounds_sure.proofs.Loops.{along-both}
 use Rattle.bounds_sure.proofs.permitted_from.Statement.{statement}
 use Rattle.bounds_sure.proofs.permitted_from.Tie as tie
 
-permitted-along-requires : tie.Need-permitted-along-requires
-permitted-along-requires c κs = search needs
-
-permitted-along-requires-2 : tie.Need-permitted-along-requires-2
-permitted-along-requires-2 c κs = search needs
-
 returns : tie.Need-returns
 returns c =
     let sides = c .before in
@@ -31,5 +25,4 @@ returns c =
     )
 
 pub permitted-from-spec : {M : Type 1} → statement M
-permitted-from-spec =
-    tie.close (tie.spec permitted-along-requires permitted-along-requires-2 returns)
+permitted-from-spec = tie.close (tie.spec (λ c κs. search needs) (λ c κs. search needs) returns)

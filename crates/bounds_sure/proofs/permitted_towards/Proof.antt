@@ -61,17 +61,8 @@ tested m =
     let f : indexOf (from (m .before)) ≡ s .args .index = ap indexOf (made (m .before) .from-index .ensures) ∙ index-of-cell (s .args .index) in
     ap (λ (i : ℕ). isPassedOver (now (s .args .cells)) i (indexOf (to (m .before)))) (sym f) ∙ sym (m .is-passed-over .ensures)
 
-from-index-requires : tie.Need-from-index-requires
-from-index-requires c κs = search needs
-
 get-in-compass-direction-requires : tie.Need-get-in-compass-direction-requires
 get-in-compass-direction-requires c κs = near-made (c .from-index .ensures) (c .before .fits .index)
-
-enum-known-to : tie.Need-enum-known-to
-enum-known-to c = search needs
-
-enum-told : tie.Need-enum-told
-enum-told c = search needs
 
 returns : tie.Need-returns
 returns c =
@@ -93,18 +84,6 @@ returns-2 c =
     let none = along-passed (now (a .cells)) (a .index) (a .dir) (to m) (arrives m) (tested (c .before) ∙ c .if1 .taken) in
     stays (now (a .cells)) (a .index) (a .dir) (a .found) none (s .pre .1 .0)
 
-as-1d-index-requires : tie.Need-as-1d-index-requires
-as-1d-index-requires c κs = search needs
-
-mul-places : tie.Need-mul-places
-mul-places c = search needs
-
-array-write-places : tie.Need-array-write-places
-array-write-places c = search needs
-
-add-t11 : tie.Need-add-t11
-add-t11 c = search needs
-
 returns-3 : tie.Need-returns-3
 returns-3 c =
     let open-cell = c .before .before in
@@ -123,18 +102,6 @@ returns-3 c =
     }
 
 pub permitted-towards-spec : {M : Type 1} → statement M
-permitted-towards-spec =
-    tie.close
-    (tie.spec
-    from-index-requires
-    get-in-compass-direction-requires
-    enum-known-to
-    enum-told
-    returns
-    is-passed-over-requires
-    returns-2
-    as-1d-index-requires
-    mul-places
-    array-write-places
-    add-t11
-    returns-3)
+permitted-towards-spec = tie.close (tie.spec
+    (λ c κs. search needs) get-in-compass-direction-requires (λ c. search needs) (λ c. search needs) returns is-passed-over-requires returns-2
+    (λ c κs. search needs) (λ c. search needs) (λ c. search needs) (λ c. search needs) returns-3)

@@ -5,12 +5,6 @@ use borrow.Author.Needs.{needs}
 use Rattle.bresenham.proofs.moved.Statement.{statement}
 use Rattle.bresenham.proofs.moved.Tie as tie
 
-add-result : tie.Need-add-result
-add-result c = search needs
-
-sub-result : tie.Need-sub-result
-sub-result c = search needs
-
 returns : tie.Need-returns
 unfolding toward
 returns c = search needs
@@ -20,4 +14,4 @@ unfolding toward
 returns-2 c = search needs
 
 pub moved-spec : {M : Type 1} → statement M
-moved-spec = tie.close (tie.spec add-result sub-result returns returns-2)
+moved-spec = tie.close (tie.spec (λ c. search needs) (λ c. search needs) returns returns-2)

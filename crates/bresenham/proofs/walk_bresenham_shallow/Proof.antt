@@ -7,9 +7,6 @@ use Rattle.line_nearest.proofs.Calls.{places, shallow-held}
 use Rattle.bresenham.proofs.walk_bresenham_shallow.Statement.{statement}
 use Rattle.bresenham.proofs.walk_bresenham_shallow.Tie as tie
 
-walk-alone-requires : tie.Need-walk-alone-requires
-walk-alone-requires c κs = search needs
-
 returns : tie.Need-returns
 unfolding shallow
 returns c =
@@ -21,4 +18,4 @@ returns c =
     (e, (shallow-held s t r e, places s t (shallow s t) r e))
 
 pub walk-bresenham-shallow-spec : {M : Type 1} → statement M
-walk-bresenham-shallow-spec = tie.close (tie.spec walk-alone-requires returns)
+walk-bresenham-shallow-spec = tie.close (tie.spec (λ c κs. search needs) returns)

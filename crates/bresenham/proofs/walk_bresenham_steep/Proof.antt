@@ -7,9 +7,6 @@ use Rattle.line_nearest.proofs.Calls.{places, steep-held}
 use Rattle.bresenham.proofs.walk_bresenham_steep.Statement.{statement}
 use Rattle.bresenham.proofs.walk_bresenham_steep.Tie as tie
 
-walk-alone-requires : tie.Need-walk-alone-requires
-walk-alone-requires c κs = search needs
-
 returns : tie.Need-returns
 unfolding steep
 returns c =
@@ -21,4 +18,4 @@ returns c =
     (e, (steep-held s t r e, places s t (steep s t) r e))
 
 pub walk-bresenham-steep-spec : {M : Type 1} → statement M
-walk-bresenham-steep-spec = tie.close (tie.spec walk-alone-requires returns)
+walk-bresenham-steep-spec = tie.close (tie.spec (λ c κs. search needs) returns)

@@ -10,9 +10,6 @@ use borrow.Author.Needs.{needs}
 use Rattle.flow_bits.proofs.has_line_of_sight.Statement.{statement}
 use Rattle.flow_bits.proofs.has_line_of_sight.Tie as tie
 
-is-pathable-requires : tie.Need-is-pathable-requires
-is-pathable-requires c κs = search needs
-
 returns : tie.Need-returns
 returns c =
     let byte = c .before .before .args .byte in
@@ -24,4 +21,4 @@ returns-2 c =
     and-left (bitAnd byte (2 ^ 5)) (2 ^ 5) (flag 5 byte) (isPathable byte) (mask-flag byte 5) (c .if1 .left)
 
 pub has-line-of-sight-spec : {M : Type 1} → statement M
-has-line-of-sight-spec = tie.close (tie.spec is-pathable-requires returns returns-2)
+has-line-of-sight-spec = tie.close (tie.spec (λ c κs. search needs) returns returns-2)

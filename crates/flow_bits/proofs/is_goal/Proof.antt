@@ -10,9 +10,6 @@ use borrow.Author.Needs.{needs}
 use Rattle.flow_bits.proofs.is_goal.Statement.{statement}
 use Rattle.flow_bits.proofs.is_goal.Tie as tie
 
-is-pathable-requires : tie.Need-is-pathable-requires
-is-pathable-requires c κs = search needs
-
 returns : tie.Need-returns
 returns c =
     let byte = c .before .before .args .byte in
@@ -24,4 +21,4 @@ returns-2 c =
     and-left (bitAnd byte (2 ^ 6)) (2 ^ 6) (flag 6 byte) (isPathable byte) (mask-flag byte 6) (c .if1 .left)
 
 pub is-goal-spec : {M : Type 1} → statement M
-is-goal-spec = tie.close (tie.spec is-pathable-requires returns returns-2)
+is-goal-spec = tie.close (tie.spec (λ c κs. search needs) returns returns-2)

@@ -10,9 +10,6 @@ use borrow.Author.Needs.{needs}
 use Rattle.flow_bits.proofs.is_portal_goal.Statement.{statement}
 use Rattle.flow_bits.proofs.is_portal_goal.Tie as tie
 
-is-pathable-requires : tie.Need-is-pathable-requires
-is-pathable-requires c κs = search needs
-
 returns : tie.Need-returns
 returns c =
     let byte = c .before .before .args .byte in
@@ -24,4 +21,4 @@ returns-2 c =
     and-left (bitAnd byte (2 ^ 7)) (2 ^ 7) (flag 7 byte) (isPathable byte) (mask-flag byte 7) (c .if1 .left)
 
 pub is-portal-goal-spec : {M : Type 1} → statement M
-is-portal-goal-spec = tie.close (tie.spec is-pathable-requires returns returns-2)
+is-portal-goal-spec = tie.close (tie.spec (λ c κs. search needs) returns returns-2)

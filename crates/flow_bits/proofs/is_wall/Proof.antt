@@ -9,9 +9,6 @@ use borrow.Author.Needs.{needs}
 use Rattle.flow_bits.proofs.is_wall.Statement.{statement}
 use Rattle.flow_bits.proofs.is_wall.Tie as tie
 
-is-pathable-requires : tie.Need-is-pathable-requires
-is-pathable-requires c κs = search needs
-
 returns : tie.Need-returns
 returns c =
     let byte = c .before .before .args .byte in
@@ -23,4 +20,4 @@ returns-2 c =
     and-left (bitAnd byte 0xE0) 0xE0 (isImpassable byte) (not (isPathable byte)) (all-mask byte) (c .if1 .left)
 
 pub is-wall-spec : {M : Type 1} → statement M
-is-wall-spec = tie.close (tie.spec is-pathable-requires returns returns-2)
+is-wall-spec = tie.close (tie.spec (λ c κs. search needs) returns returns-2)

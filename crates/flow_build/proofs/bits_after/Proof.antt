@@ -5,9 +5,6 @@ use borrow.Author.Needs.{needs}
 use Rattle.flow_build.proofs.bits_after.Statement.{statement}
 use Rattle.flow_build.proofs.bits_after.Tie as tie
 
-is-noted-requires : tie.Need-is-noted-requires
-is-noted-requires c κs = search needs
-
 returns : tie.Need-returns
 unfolding bitsAfter
 returns c = rw (← (c .before .is-noted .ensures), c .if1 .taken)
@@ -17,4 +14,4 @@ unfolding bitsAfter
 returns-2 c = rw (← (c .before .is-noted .ensures), c .if1 .left)
 
 pub bits-after-spec : {M : Type 1} → statement M
-bits-after-spec = tie.close (tie.spec is-noted-requires returns returns-2)
+bits-after-spec = tie.close (tie.spec (λ c κs. search needs) returns returns-2)

@@ -19,12 +19,6 @@ returns c =
     let e = ne-eqb (length (now (a .sheet))) 100 other in
     (rw e, (rw e, build-arrows (a .field .field) (now (a .sheet)) (now (a .sheet)) (λ h. absurd (other h))))
 
-calculate-flow-cells-requires : tie.Need-calculate-flow-cells-requires
-calculate-flow-cells-requires c κs = search needs
-
-same-length : tie.Need-same-length
-same-length c = search needs
-
 returns-2 : tie.Need-returns-2
 unfolding buildNumber
 returns-2 c =
@@ -34,4 +28,4 @@ returns-2 c =
     (rw e, (rw e w, build-arrows (a .field .field) (now (a .sheet)) _ (λ h. w)))
 
 pub build-spec : {M : Type 1} → statement M
-build-spec = tie.close (tie.spec returns calculate-flow-cells-requires same-length returns-2)
+build-spec = tie.close (tie.spec returns (λ c κs. search needs) (λ c. search needs) returns-2)

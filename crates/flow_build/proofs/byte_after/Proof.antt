@@ -5,18 +5,11 @@ use borrow.Author.Needs.{needs}
 use Rattle.flow_build.proofs.byte_after.Statement.{statement}
 use Rattle.flow_build.proofs.byte_after.Tie as tie
 
-is-kept-requires : tie.Need-is-kept-requires
-is-kept-requires c κs = search needs
-
 returns : tie.Need-returns
 returns c = rw (sym (c .before .is-kept .ensures) ∙ c .if1 .taken)
-
-looked-byte-requires : tie.Need-looked-byte-requires
-looked-byte-requires c κs = search needs
 
 returns-2 : tie.Need-returns-2
 returns-2 c = rw (sym (c .before .before .is-kept .ensures) ∙ c .before .if1 .left) (c .looked-byte .ensures)
 
 pub byte-after-spec : {M : Type 1} → statement M
-byte-after-spec =
-    tie.close (tie.spec is-kept-requires returns looked-byte-requires returns-2)
+byte-after-spec = tie.close (tie.spec (λ c κs. search needs) returns (λ c κs. search needs) returns-2)

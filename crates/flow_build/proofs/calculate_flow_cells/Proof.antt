@@ -10,22 +10,13 @@ use Rattle.flow_build.proofs.calculate_flow_cells.Tie as tie
 none-looks-requires : tie.Need-none-looks-requires
 none-looks-requires c κs = c .before .before .pre
 
-same-length : tie.Need-same-length
-same-length c = search needs
-
 returns : tie.Need-returns
 returns c =
     let s = c .before .before .before .before in
     none-looks (now (s .args .cells)) (now (s .args .sheet)) (s .pre) (c .before .none-looks .ensures (c .if1 .taken))
 
-look-around-requires : tie.Need-look-around-requires
-look-around-requires c κs = search needs
-
 point-cells-requires : tie.Need-point-cells-requires
 point-cells-requires c κs = c .before .before .before .before .before .before .before .before .before .before .pre
-
-same-length-2 : tie.Need-same-length-2
-same-length-2 c = search needs
 
 returns-2 : tie.Need-returns-2
 returns-2 c =
@@ -36,4 +27,4 @@ returns-2 c =
 
 pub calculate-flow-cells-spec : {M : Type 1} → statement M
 calculate-flow-cells-spec = tie.close (tie.spec
-    none-looks-requires same-length returns look-around-requires point-cells-requires same-length-2 returns-2)
+    none-looks-requires (λ c. search needs) returns (λ c κs. search needs) point-cells-requires (λ c. search needs) returns-2)

@@ -6,9 +6,6 @@ use borrow.Author.Needs.{needs}
 use Rattle.flow_build.proofs.key_after.Statement.{statement}
 use Rattle.flow_build.proofs.key_after.Tie as tie
 
-is-noted-requires : tie.Need-is-noted-requires
-is-noted-requires c κs = search needs
-
 returns : tie.Need-returns
 unfolding keyAfter
 returns c = rw (sym (c .before .is-noted .ensures) ∙ c .if1 .taken)
@@ -18,4 +15,4 @@ unfolding keyAfter
 returns-2 c = rw (sym (c .before .is-noted .ensures) ∙ c .if1 .left)
 
 pub key-after-spec : {M : Type 1} → statement M
-key-after-spec = tie.close (tie.spec is-noted-requires returns returns-2)
+key-after-spec = tie.close (tie.spec (λ c κs. search needs) returns returns-2)

@@ -19,29 +19,17 @@ no-goal c = sym (c .before .is-goal .ensures) ∙ c .if2 .left
 no-portal : (c : tie.Else3) → isPortal (c .before .before .before .before .before .before .args .word) ≡ false
 no-portal c = sym (c .before .is-portal .ensures) ∙ c .if3 .left
 
-is-impassable-requires : tie.Need-is-impassable-requires
-is-impassable-requires c κs = search needs
-
 returns : tie.Need-returns
 unfolding cellKey
 returns c = rw (sym (c .before .is-impassable .ensures) ∙ c .if1 .taken)
-
-is-goal-requires : tie.Need-is-goal-requires
-is-goal-requires c κs = search needs
 
 returns-2 : tie.Need-returns-2
 unfolding cellKey
 returns-2 c = rw (no-wall (c .before .before), sym (c .before .is-goal .ensures) ∙ c .if2 .taken)
 
-is-portal-requires : tie.Need-is-portal-requires
-is-portal-requires c κs = search needs
-
 returns-3 : tie.Need-returns-3
 unfolding cellKey
 returns-3 c = rw (no-wall (c .before .before .before .before), no-goal (c .before .before), sym (c .before .is-portal .ensures) ∙ c .if3 .taken)
-
-low-bits-requires : tie.Need-low-bits-requires
-low-bits-requires c κs = search needs
 
 returns-4 : tie.Need-returns-4
 unfolding cellKey
@@ -53,9 +41,6 @@ returns-4 c =
       no-portal m,
       eq-eqb _ 65535 (sym (c .before .low-bits .ensures) ∙ c .if4 .taken),
     )
-
-add-result : tie.Need-add-result
-add-result c = search needs
 
 returns-5 : tie.Need-returns-5
 unfolding cellKey
@@ -71,16 +56,6 @@ returns-5 c =
     )
 
 pub key-of-spec : {M : Type 1} → statement M
-key-of-spec =
-    tie.close
-    (tie.spec
-    is-impassable-requires
-    returns
-    is-goal-requires
-    returns-2
-    is-portal-requires
-    returns-3
-    low-bits-requires
-    returns-4
-    add-result
-    returns-5)
+key-of-spec = tie.close (tie.spec
+    (λ c κs. search needs) returns (λ c κs. search needs) returns-2 (λ c κs. search needs) returns-3 (λ c κs. search needs) returns-4
+    (λ c. search needs) returns-5)

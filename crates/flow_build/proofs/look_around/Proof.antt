@@ -54,9 +54,6 @@ pass7 m = m .before .before .before .before
 abbrev keys8 : tie.After-look-in-direction8 → tie.After-keys-of
 keys8 m = keys7 (pass7 m)
 
-keys-of-requires : tie.Need-keys-of-requires
-keys-of-requires c κs = search needs
-
 look-in-direction-requires : tie.Need-look-in-direction-requires
 look-in-direction-requires c κs = c .before .before .before .keys-of .ensures
 
@@ -104,7 +101,5 @@ returns c =
 
 pub look-around-spec : {M : Type 1} → statement M
 look-around-spec = tie.close (tie.spec
-    keys-of-requires
-    look-in-direction-requires look-in-direction-requires-2 look-in-direction-requires-3 look-in-direction-requires-4
-    look-in-direction-requires-5 look-in-direction-requires-6 look-in-direction-requires-7 look-in-direction-requires-8
-    returns)
+    (λ c κs. search needs) look-in-direction-requires look-in-direction-requires-2 look-in-direction-requires-3 look-in-direction-requires-4
+    look-in-direction-requires-5 look-in-direction-requires-6 look-in-direction-requires-7 look-in-direction-requires-8 returns)

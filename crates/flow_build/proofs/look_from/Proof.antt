@@ -36,15 +36,6 @@ module _ (c : tie.After-known-told) where
   arrives : stepped (cellAt (indexOf (start .args .from))) (start .args .dir) ≡ Cell to
   arrives = from-index step ∙ c .before .to .given .1
 
-get-in-compass-direction-requires : tie.Need-get-in-compass-direction-requires
-get-in-compass-direction-requires c κs = search needs
-
-enum-known-to : tie.Need-enum-known-to
-enum-known-to c = search needs
-
-enum-told : tie.Need-enum-told
-enum-told c = search needs
-
 returns : tie.Need-returns
 returns c =
     let step = c .before .before in
@@ -58,39 +49,6 @@ seen-key-requires c κs =
     let p = start c .pre in
     let e = sym (step c .get-in-compass-direction .ensures .0) ∙ c .before .to .given .1 in
     ((p .0, stepped-cell _ _ _ e .within), p .1)
-
-convert-compass-dir-to-bits-dir-requires : tie.Need-convert-compass-dir-to-bits-dir-requires
-convert-compass-dir-to-bits-dir-requires c κs = search needs
-
-mul-index : tie.Need-mul-index
-mul-index c = search needs
-
-add-index : tie.Need-add-index
-add-index c = search needs
-
-mul-key : tie.Need-mul-key
-mul-key c = search needs
-
-element-copy-out-key : tie.Need-element-copy-out-key
-element-copy-out-key c = search needs
-
-element-copy-out-found : tie.Need-element-copy-out-found
-element-copy-out-found c = search needs
-
-key-after-requires : tie.Need-key-after-requires
-key-after-requires c κs = search needs
-
-mul-best : tie.Need-mul-best
-mul-best c = search needs
-
-element-write-best : tie.Need-element-write-best
-element-write-best c = search needs
-
-bits-after-requires : tie.Need-bits-after-requires
-bits-after-requires c κs = search needs
-
-element-write-bits : tie.Need-element-write-bits
-element-write-bits c = search needs
 
 returns-2 : tie.Need-returns-2
 returns-2 c =
@@ -113,23 +71,7 @@ returns-2 c =
     rw (k, b) (on-cell cells i (index-below (a .from) (s .pre .0)) (a .dir) (now (a .best)) (now (a .bits)) (to m) (arrives m))
 
 pub look-from-spec : {M : Type 1} → statement M
-look-from-spec =
-    tie.close
-    (tie.spec
-    get-in-compass-direction-requires
-    enum-known-to
-    enum-told
-    returns
-    seen-key-requires
-    convert-compass-dir-to-bits-dir-requires
-    mul-index
-    add-index
-    mul-key
-    element-copy-out-key
-    element-copy-out-found
-    key-after-requires
-    mul-best
-    element-write-best
-    bits-after-requires
-    element-write-bits
-    returns-2)
+look-from-spec = tie.close (tie.spec
+    (λ c κs. search needs) (λ c. search needs) (λ c. search needs) returns seen-key-requires (λ c κs. search needs) (λ c. search needs)
+    (λ c. search needs) (λ c. search needs) (λ c. search needs) (λ c. search needs) (λ c κs. search needs) (λ c. search needs) (λ c. search needs)
+    (λ c κs. search needs) (λ c. search needs) returns-2)

@@ -5,23 +5,14 @@ use borrow.Author.Needs.{needs}
 use Rattle.flow_following.proofs.is_arrival.Statement.{statement}
 use Rattle.flow_following.proofs.is_arrival.Tie as tie
 
-is-goal-requires : tie.Need-is-goal-requires
-is-goal-requires c κs = search needs
-
 returns : tie.Need-returns
 returns c = sym (rw (sym (c .before .is-goal .ensures) ∙ c .if1 .taken))
-
-has-line-of-sight-requires : tie.Need-has-line-of-sight-requires
-has-line-of-sight-requires c κs = search needs
 
 returns-2 : tie.Need-returns-2
 returns-2 c =
     let sight = c .before in
     let goal = sight .before .before in
     sym (rw (sym (goal .is-goal .ensures) ∙ sight .before .if1 .left, sym (sight .has-line-of-sight .ensures) ∙ c .if2 .taken))
-
-is-portal-goal-requires : tie.Need-is-portal-goal-requires
-is-portal-goal-requires c κs = search needs
 
 returns-3 : tie.Need-returns-3
 returns-3 c =
@@ -31,12 +22,4 @@ returns-3 c =
     ∙ sym (rw (sym (goal .is-goal .ensures) ∙ sight .before .if1 .left, sym (sight .has-line-of-sight .ensures) ∙ c .before .if2 .left))
 
 pub is-arrival-spec : {M : Type 1} → statement M
-is-arrival-spec =
-    tie.close
-    (tie.spec
-    is-goal-requires
-    returns
-    has-line-of-sight-requires
-    returns-2
-    is-portal-goal-requires
-    returns-3)
+is-arrival-spec = tie.close (tie.spec (λ c κs. search needs) returns (λ c κs. search needs) returns-2 (λ c κs. search needs) returns-3)

@@ -7,12 +7,6 @@ use Rattle.fields.proofs.Steps.{near-made}
 use Rattle.flow_following.proofs.next_cell.Statement.{statement}
 use Rattle.flow_following.proofs.next_cell.Tie as tie
 
-from-index-requires : tie.Need-from-index-requires
-from-index-requires c κs = search needs
-
-get-compass-dir-from-bits-requires : tie.Need-get-compass-dir-from-bits-requires
-get-compass-dir-from-bits-requires c κs = search needs
-
 get-in-compass-direction-requires : tie.Need-get-in-compass-direction-requires
 get-in-compass-direction-requires c κs = near-made (c .before .from-index .ensures) (c .before .before .fits .index)
 
@@ -22,10 +16,4 @@ returns c =
     c .get-in-compass-direction .ensures .0 ∙ ap₂ stepped (read .before .from-index .ensures) (read .get-compass-dir-from-bits .ensures)
 
 pub next-cell-spec : {M : Type 1} → statement M
-next-cell-spec =
-    tie.close
-    (tie.spec
-    from-index-requires
-    get-compass-dir-from-bits-requires
-    get-in-compass-direction-requires
-    returns)
+next-cell-spec = tie.close (tie.spec (λ c κs. search needs) (λ c κs. search needs) get-in-compass-direction-requires returns)

@@ -7,12 +7,6 @@ use borrow.Author.Needs.{needs}
 use Rattle.flow_new.proofs.optimise_portal_direction.Statement.{statement}
 use Rattle.flow_new.proofs.optimise_portal_direction.Tie as tie
 
-seen-values-requires : tie.Need-seen-values-requires
-seen-values-requires c κs = search needs
-
-facing-bits-requires : tie.Need-facing-bits-requires
-facing-bits-requires c κs = search needs
-
 returns : tie.Need-returns
 unfolding facingChoice
 returns c =
@@ -21,4 +15,4 @@ returns c =
     c .facing-bits .ensures ∙ ap (λ (s : SeenValues). facingBits (w .boundary) (s .lower) (s .straight) (s .higher)) (seen .seen-values .ensures)
 
 pub optimise-portal-direction-spec : {M : Type 1} → statement M
-optimise-portal-direction-spec = tie.close (tie.spec seen-values-requires facing-bits-requires returns)
+optimise-portal-direction-spec = tie.close (tie.spec (λ c κs. search needs) (λ c κs. search needs) returns)

@@ -13,23 +13,8 @@ use borrow.Author.Needs.{needs}
 use Rattle.flow_new.proofs.seen_values.Statement.{statement}
 use Rattle.flow_new.proofs.seen_values.Tie as tie
 
-stride-of-requires : tie.Need-stride-of-requires
-stride-of-requires c κs = search needs
-
-lower-by-requires : tie.Need-lower-by-requires
-lower-by-requires c κs = search needs
-
 add-after : tie.Need-add-after
 add-after c = omega (arith, c .before .stride-of .ensures, stride-within (c .before .before .before .args .window .boundary) .1)
-
-side-value-requires : tie.Need-side-value-requires
-side-value-requires c κs = search needs
-
-facing-value-requires : tie.Need-facing-value-requires
-facing-value-requires c κs = search needs
-
-side-value-requires-2 : tie.Need-side-value-requires-2
-side-value-requires-2 c κs = search needs
 
 -- the three costs, each with what it is
 alike : {a b d x y z : ℕ} → a ≡ x → b ≡ y → d ≡ z
@@ -54,13 +39,5 @@ returns c =
     (c .side-value2 .ensures ∙ ap (λ (k : ℕ). unlessEnd (eqb i (w .end)) (facingValue p (w .boundary) (i + k))) n)
 
 pub seen-values-spec : {M : Type 1} → statement M
-seen-values-spec =
-    tie.close
-    (tie.spec
-    stride-of-requires
-    lower-by-requires
-    add-after
-    side-value-requires
-    facing-value-requires
-    side-value-requires-2
-    returns)
+seen-values-spec = tie.close (tie.spec
+    (λ c κs. search needs) (λ c κs. search needs) add-after (λ c κs. search needs) (λ c κs. search needs) (λ c κs. search needs) returns)

@@ -11,12 +11,6 @@ returns c = rw (eq-eqb _ _ (c .if1 .taken))
 returns-2 : tie.Need-returns-2
 returns-2 c = rw (ne-eqb _ _ (c .before .if1 .left), eq-eqb _ _ (c .if2 .taken))
 
-is-impassable-requires : tie.Need-is-impassable-requires
-is-impassable-requires c κs = search needs
-
-is-impassable-requires-2 : tie.Need-is-impassable-requires-2
-is-impassable-requires-2 c κs = search needs
-
 returns-3 : tie.Need-returns-3
 returns-3 c =
     let column = c .before .before in
@@ -28,4 +22,4 @@ returns-3 c =
     )
 
 pub passes-wall-spec : {M : Type 1} → statement M
-passes-wall-spec = tie.close (tie.spec returns returns-2 is-impassable-requires is-impassable-requires-2 returns-3)
+passes-wall-spec = tie.close (tie.spec returns returns-2 (λ c κs. search needs) (λ c κs. search needs) returns-3)

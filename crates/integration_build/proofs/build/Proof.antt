@@ -22,18 +22,12 @@ byte l x h = omega (arith, l .shared-slice-known .given x)
 given : (l : tie.After-shared-slice-known) → Given (now (called l .args .costs)) (called l .args .t2)
 given l = record { byte = byte l; cells-hundred = search needs; corners-hundred = search needs }
 
-refused-requires : tie.Need-refused-requires
-refused-requires c κs = search needs
-
 returns : tie.Need-returns
 returns c =
     let lent = c .before .before in
     let costs = now (called lent .args .costs) in
     let f = called lent .args .t2 in
     promised costs f (given lent) 1 (number-costs costs f (c .before .if1 .taken)) _ (c .refused .ensures)
-
-refused-requires-2 : tie.Need-refused-requires-2
-refused-requires-2 c κs = search needs
 
 returns-2 : tie.Need-returns-2
 returns-2 c =
@@ -42,9 +36,6 @@ returns-2 c =
     let costs = now (called lent .args .costs) in
     let f = called lent .args .t2 in
     promised costs f (given lent) 11 (number-count costs f (hundred .if1 .left) (c .before .if2 .taken)) _ (c .refused2 .ensures)
-
-corners-inside-requires : tie.Need-corners-inside-requires
-corners-inside-requires c κs = search needs
 
 -- from the place where the corners are tested: the test of the count, where the costs are lent, and the call
 abbrev few : tie.After-corners-inside → tie.Else2
@@ -73,9 +64,6 @@ returns-3 c =
     let f = s .args .t2 in
     promised costs f (given (lent (c .before .before))) 0 (number-accepted costs f (accepts (c .before))) _ (c .build-with-positions .ensures)
 
-refused-requires-3 : tie.Need-refused-requires-3
-refused-requires-3 c κs = search needs
-
 returns-4 : tie.Need-returns-4
 returns-4 c =
     let tested = c .before .before in
@@ -87,15 +75,6 @@ returns-4 c =
     _ (c .refused3 .ensures)
 
 pub build-spec : {M : Type 1} → statement M
-build-spec =
-    tie.close
-    (tie.spec
-    refused-requires
-    returns
-    refused-requires-2
-    returns-2
-    corners-inside-requires
-    build-with-positions-requires
-    returns-3
-    refused-requires-3
-    returns-4)
+build-spec = tie.close (tie.spec
+    (λ c κs. search needs) returns (λ c κs. search needs) returns-2 (λ c κs. search needs) build-with-positions-requires returns-3
+    (λ c κs. search needs) returns-4)

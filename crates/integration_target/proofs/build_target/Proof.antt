@@ -10,9 +10,6 @@ use borrow.Author.Needs.{needs}
 use Rattle.integration_target.proofs.build_target.Statement.{statement}
 use Rattle.integration_target.proofs.build_target.Tie as tie
 
-start-requires : tie.Need-start-requires
-start-requires c κs = search needs
-
 build-requires : tie.Need-build-without-positions-requires
 build-requires begun κs =
     let s = begun .before .before in
@@ -26,4 +23,4 @@ returns c =
     c .build-without-positions .ensures ∙ ap (builtWithout (now (s .args .costs))) (begun .start .ensures)
 
 pub build-target-spec : {M : Type 1} → statement M
-build-target-spec = tie.close (tie.spec start-requires build-requires returns)
+build-target-spec = tie.close (tie.spec (λ c κs. search needs) build-requires returns)

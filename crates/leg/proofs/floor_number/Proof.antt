@@ -30,26 +30,8 @@ returns : tie.Need-returns
 unfolding eachStepOn
 returns c = search tests
 
-index-of-requires : tie.Need-index-of-requires
-index-of-requires c κs = search needs
-
-mul-at : tie.Need-mul-at
-mul-at c = search needs
-
-add-step-number-on : tie.Need-add-step-number-on
-add-step-number-on c = search needs
-
-sub-step-number-on : tie.Need-sub-step-number-on
-sub-step-number-on c = search needs
-
-part-step-number-on-start : tie.Need-part-step-number-on-start
-part-step-number-on-start c = search needs
-
 part-step-number-on-end : tie.Need-part-step-number-on-end
 part-step-number-on-end c = omega (arith, start c .pre .0, c .before .if1 .left, c .index-of .ensures)
-
-step-number-on-requires : tie.Need-step-number-on-requires
-step-number-on-requires c κs = search needs
 
 returns-2 : tie.Need-returns-2
 returns-2 c =
@@ -58,16 +40,6 @@ returns-2 c =
     c .step-number-on .ensures ∙ cut (now (a .floor)) (now (a .step)) _ (ap (λ (n : ℕ). n * 100) (w .index-of .ensures)) (start w .pre .1)
 
 pub floor-number-spec : {M : Type 1} → statement M
-floor-number-spec =
-    tie.close
-    (tie.spec
-    shared-slice-read-sector
-    returns
-    index-of-requires
-    mul-at
-    add-step-number-on
-    sub-step-number-on
-    part-step-number-on-start
-    part-step-number-on-end
-    step-number-on-requires
-    returns-2)
+floor-number-spec = tie.close (tie.spec
+    shared-slice-read-sector returns (λ c κs. search needs) (λ c. search needs) (λ c. search needs) (λ c. search needs) (λ c. search needs)
+    part-step-number-on-end (λ c κs. search needs) returns-2)

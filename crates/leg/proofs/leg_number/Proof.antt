@@ -19,15 +19,9 @@ returns-2 : tie.Need-returns-2
 unfolding judgedRows
 returns-2 c sheet e = search (tests, ne-eqb _ 6400 (λ h. c .if2 .taken (sym e ∙ h)))
 
-is-no-step-list-requires : tie.Need-is-no-step-list-requires
-is-no-step-list-requires c κs = search needs
-
 returns-3 : tie.Need-returns-3
 unfolding judgedRows
 returns-3 c sheet e = search (tests, e ∙ c .before .before .if2 .left, sym (c .before .is-no-step-list .ensures) ∙ c .if3 .taken)
-
-each-step-requires : tie.Need-each-step-requires
-each-step-requires c κs = search needs
 
 returns-4 : tie.Need-returns-4
 unfolding judgedRows
@@ -86,17 +80,6 @@ returns-7 c sheet e =
     sym (number-0 _ _ sheet (lent .before .if1 .left) (e ∙ lent .if2 .left) list each order (sym (faced .is-disconnected .ensures) ∙ c .if6 .left))
 
 pub leg-number-spec : {M : Type 1} → statement M
-leg-number-spec =
-    tie.close
-    (tie.spec
-    returns
-    returns-2
-    is-no-step-list-requires
-    returns-3
-    each-step-requires
-    returns-4
-    is-out-of-order-requires
-    returns-5
-    is-disconnected-requires
-    returns-6
-    returns-7)
+leg-number-spec = tie.close (tie.spec
+    returns returns-2 (λ c κs. search needs) returns-3 (λ c κs. search needs) returns-4 is-out-of-order-requires returns-5 is-disconnected-requires
+    returns-6 returns-7)

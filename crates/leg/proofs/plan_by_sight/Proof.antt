@@ -28,9 +28,6 @@ ok e = let a = start (e .before) .args in judged (now (a .floor)) (now (a .steps
 cost-bytes : (n : tie.After-leg-number) → (i : ℕ) → getD (now (start n .args .floor)) i 0 ≤ 255
 cost-bytes n i = omega (arith, n .before .before .before .shared-slice-known .given i)
 
-leg-number-requires : tie.Need-leg-number-requires
-leg-number-requires c κs = search needs
-
 returns : tie.Need-returns
 returns c =
     let n = c .before in
@@ -53,9 +50,6 @@ returns-2 c =
 write-steps-requires : tie.Need-write-steps-requires
 write-steps-requires c κs = let e = c .before .before .before in (ready (ok e), ok e .sheet-full)
 
-same-length : tie.Need-same-length
-same-length c = search needs
-
 returns-3 : tie.Need-returns-3
 returns-3 c =
     let wrote = c .before .before in
@@ -70,4 +64,4 @@ returns-3 c =
 
 pub plan-by-sight-spec : {M : Type 1} → statement M
 plan-by-sight-spec = tie.close (tie.spec
-    leg-number-requires returns is-some-closed-requires returns-2 write-steps-requires same-length returns-3)
+    (λ c κs. search needs) returns is-some-closed-requires returns-2 write-steps-requires (λ c. search needs) returns-3)

@@ -22,9 +22,6 @@ decided m = rw (m .seen-values .ensures)
 abbrev seen : tie.Else1 → tie.After-seen-values
 seen m = m .before .before
 
-seen-values-requires : tie.Need-seen-values-requires
-seen-values-requires c κs = search needs
-
 returns : tie.Need-returns
 returns c = rw (decided (c .before .before), lt-ltb _ 65535 (c .if1 .taken))
 
@@ -39,4 +36,4 @@ returns-3 c =
     rw (decided (seen m), le-ltb _ 65535 (m .if1 .left), le-ltb _ 65535 (c .before .if2 .left))
 
 pub counts-spec : {M : Type 1} → statement M
-counts-spec = tie.close (tie.spec seen-values-requires returns returns-2 returns-3)
+counts-spec = tie.close (tie.spec (λ c κs. search needs) returns returns-2 returns-3)

@@ -8,17 +8,11 @@ use Rattle.route.proofs.Targets.{listed-sight}
 use Rattle.leg_counting.proofs.leg_target.Statement.{statement}
 use Rattle.leg_counting.proofs.leg_target.Tie as tie
 
-as-target-requires : tie.Need-as-target-requires
-as-target-requires c κs = search needs
-
 returns : tie.Need-returns
 returns c =
     let a = c .before in
     rw (not-true (a .before .before .args .has-previous) (a .before .if1 .taken))
     (c .by-sight .ensures ∙ ap (sightedBy (a .before .before .args .sight)) (a .as-target .ensures) ∙ listed-sight (a .before .before .args .sight) _)
-
-counting-cells-requires : tie.Need-counting-cells-requires
-counting-cells-requires c κs = search needs
 
 returns-2 : tie.Need-returns-2
 returns-2 c =
@@ -26,4 +20,4 @@ returns-2 c =
     rw (not-false (later .before .args .has-previous) (later .if1 .left), c .counting-cells .ensures)
 
 pub leg-target-spec : {M : Type 1} → statement M
-leg-target-spec = tie.close (tie.spec as-target-requires (λ c κs. search needs) returns counting-cells-requires returns-2)
+leg-target-spec = tie.close (tie.spec (λ c κs. search needs) (λ c κs. search needs) returns (λ c κs. search needs) returns-2)

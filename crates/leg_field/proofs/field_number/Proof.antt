@@ -25,9 +25,6 @@ returns : tie.Need-returns
 unfolding fieldRows
 returns c = search tests
 
-is-no-step-list-requires : tie.Need-is-no-step-list-requires
-is-no-step-list-requires c κs = search needs
-
 returns-2 : tie.Need-returns-2
 unfolding fieldRows
 returns-2 c = search (tests, sym (c .before .is-no-step-list .ensures) ∙ c .if2 .taken)
@@ -37,9 +34,6 @@ unfolding fieldRows
 returns-3 c =
     rw (steps-count _) (search (tests, sym (listed (c .before) .is-no-step-list .ensures) ∙ c .before .if2 .left))
 
-leg-number-requires : tie.Need-leg-number-requires
-leg-number-requires c κs = search needs
-
 returns-4 : tie.Need-returns-4
 returns-4 c =
     let s = start (listed (c .before .before)) in
@@ -48,6 +42,4 @@ returns-4 c =
     c .leg-number .ensures blank blank-full ∙ sym (same-rows (now (s .args .floor)) steps (s .args .place) inside blank blank-full)
 
 pub field-number-spec : {M : Type 1} → statement M
-field-number-spec =
-    tie.close
-    (tie.spec returns is-no-step-list-requires returns-2 returns-3 leg-number-requires returns-4)
+field-number-spec = tie.close (tie.spec returns (λ c κs. search needs) returns-2 returns-3 (λ c κs. search needs) returns-4)

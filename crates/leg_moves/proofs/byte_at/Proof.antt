@@ -8,14 +8,8 @@ use borrow.Author.Needs.{needs}
 use Rattle.leg_moves.proofs.byte_at.Statement.{statement}
 use Rattle.leg_moves.proofs.byte_at.Tie as tie
 
-index-at-requires : tie.Need-index-at-requires
-index-at-requires c κs = search needs
-
-shared-slice-read-result : tie.Need-shared-slice-read-result
-shared-slice-read-result c = search needs
-
 returns : tie.Need-returns
 returns c = ap (λ (i : ℕ). getD (now (c .before .before .before .args .sheet)) i 0) (c .before .index-at .ensures .0)
 
 pub byte-at-spec : {M : Type 1} → statement M
-byte-at-spec = tie.close (tie.spec index-at-requires shared-slice-read-result returns)
+byte-at-spec = tie.close (tie.spec (λ c κs. search needs) (λ c. search needs) returns)

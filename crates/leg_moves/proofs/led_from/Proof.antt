@@ -73,12 +73,6 @@ column-few c = within-true 79 (columnSum (start (inner c) .args .byte) (from (in
 row-few : (c : tie.Then5) → (let z = rowSum (start (inner c) .args .byte) (from (inner c)) in (z ≡ pos (natAbs z)) × (natAbs z ≤ 79))
 row-few c = within-true 79 (rowSum (start (inner c) .args .byte) (from (inner c))) (row-in c)
 
-get-compass-dir-from-bits-requires : tie.Need-get-compass-dir-from-bits-requires
-get-compass-dir-from-bits-requires c κs = search needs
-
-points-requires : tie.Need-points-requires
-points-requires c κs = search needs
-
 returns : tie.Need-returns
 returns c =
     let asked = c .before .before in
@@ -86,17 +80,8 @@ returns c =
     no-way (a .byte) (placeAt (a .place))
     (ap points (sym (asked .get-compass-dir-from-bits .ensures)) ∙ sym (c .before .points .ensures) ∙ not-true _ (c .if1 .taken))
 
-differences-requires : tie.Need-differences-requires
-differences-requires c κs = search needs
-
-cast-column : tie.Need-cast-column
-cast-column c = search needs
-
 add-column : tie.Need-add-column
 add-column c = column-made (one-sum c) .fits
-
-cast-row : tie.Need-cast-row
-cast-row c = search needs
 
 add-row : tie.Need-add-row
 add-row c = row-made (known c) .fits
@@ -123,18 +108,6 @@ returns-3 c =
     ])
 
 pub led-from-spec : {M : Type 1} → statement M
-led-from-spec =
-    tie.close
-    (tie.spec
-    get-compass-dir-from-bits-requires
-    points-requires
-    returns
-    differences-requires
-    cast-column
-    add-column
-    cast-row
-    add-row
-    cast-t14
-    cast-t15
-    returns-2
-    returns-3)
+led-from-spec = tie.close (tie.spec
+    (λ c κs. search needs) (λ c κs. search needs) returns (λ c κs. search needs) (λ c. search needs) add-column (λ c. search needs) add-row cast-t14
+    cast-t15 returns-2 returns-3)

@@ -7,16 +7,10 @@ use borrow.Author.Needs.{needs}
 use Rattle.leg_moves.proofs.move_from.Statement.{statement}
 use Rattle.leg_moves.proofs.move_from.Tie as tie
 
-byte-at-requires : tie.Need-byte-at-requires
-byte-at-requires c κs = search needs
-
-led-from-requires : tie.Need-led-from-requires
-led-from-requires c κs = search needs
-
 returns : tie.Need-returns
 returns c =
     let place = c .before .before .before .args .place in
     subst (λ (b : ℕ). LeadsOn (b % 16) place (c .led-from .result)) (c .before .byte-at .ensures) (c .led-from .ensures)
 
 pub move-from-spec : {M : Type 1} → statement M
-move-from-spec = tie.close (tie.spec byte-at-requires led-from-requires returns)
+move-from-spec = tie.close (tie.spec (λ c κs. search needs) (λ c κs. search needs) returns)

@@ -52,9 +52,6 @@ move-made t =
     let m = asked-on t in
     subst (LeadsOn (arrowAt (sheet m) (placeAt (here m))) (here m)) (t .before .there .given .1) (m .move-from .ensures)
 
-cart-number-requires : tie.Need-cart-number-requires
-cart-number-requires c κs = search needs
-
 returns : tie.Need-returns
 returns c = refuses _ _ _ (c .before .cart-number .result) (number (c .before)) (c .if1 .taken)
 
@@ -64,20 +61,8 @@ place-of-requires c κs = let t = ok c in (t .sector-in, t .cell-in)
 move-from-requires : tie.Need-move-from-requires
 move-from-requires c κs = (ok (c .before) .full, c .place-of .ensures .1)
 
-enum-known-there : tie.Need-enum-known-there
-enum-known-there c = search needs
-
-enum-told : tie.Need-enum-told
-enum-told c = search needs
-
 byte-at-requires : tie.Need-byte-at-requires
 byte-at-requires c κs = let f = found (asked-still c) in (ok (f .before) .full, f .place-of .ensures .1)
-
-still-outcome-requires : tie.Need-still-outcome-requires
-still-outcome-requires c κs = search needs
-
-accepted-move-requires : tie.Need-accepted-move-requires
-accepted-move-requires c κs = search needs
 
 returns-2 : tie.Need-returns-2
 returns-2 c =
@@ -99,18 +84,6 @@ returns-3 c =
     moves (sheet m) _ _ (accepted (found m .before)) (found m .place-of .ensures .0) (move-made (c .before)) _ (c .accepted-move2 .ensures)
 
 pub next-move-spec : {M : Type 1} → statement M
-next-move-spec =
-    tie.close
-    (tie.spec
-    cart-number-requires
-    returns
-    place-of-requires
-    move-from-requires
-    enum-known-there
-    enum-told
-    byte-at-requires
-    still-outcome-requires
-    accepted-move-requires
-    returns-2
-    accepted-move-requires-2
-    returns-3)
+next-move-spec = tie.close (tie.spec
+    (λ c κs. search needs) returns place-of-requires move-from-requires (λ c. search needs) (λ c. search needs) byte-at-requires
+    (λ c κs. search needs) (λ c κs. search needs) returns-2 accepted-move-requires-2 returns-3)

@@ -5,14 +5,8 @@ use borrow.Author.Needs.{needs}
 use Rattle.leg_moves.proofs.still_outcome.Statement.{statement}
 use Rattle.leg_moves.proofs.still_outcome.Tie as tie
 
-is-goal-requires : tie.Need-is-goal-requires
-is-goal-requires c κs = search needs
-
 returns : tie.Need-returns
 returns c = sym (rw (sym (c .before .is-goal .ensures) ∙ c .if1 .taken))
-
-has-line-of-sight-requires : tie.Need-has-line-of-sight-requires
-has-line-of-sight-requires c κs = search needs
 
 returns-2 : tie.Need-returns-2
 returns-2 c =
@@ -27,5 +21,4 @@ returns-3 c =
     sym (rw (sym (goal .is-goal .ensures) ∙ sight .before .if1 .left, sym (sight .has-line-of-sight .ensures) ∙ c .if2 .left))
 
 pub still-outcome-spec : {M : Type 1} → statement M
-still-outcome-spec =
-    tie.close (tie.spec is-goal-requires returns has-line-of-sight-requires returns-2 returns-3)
+still-outcome-spec = tie.close (tie.spec (λ c κs. search needs) returns (λ c κs. search needs) returns-2 returns-3)

@@ -7,12 +7,6 @@ use borrow.Author.Needs.{needs}
 use Rattle.leg_moves.proofs.stood_at.Statement.{statement}
 use Rattle.leg_moves.proofs.stood_at.Tie as tie
 
-sector-in-requires : tie.Need-sector-in-requires
-sector-in-requires c κs = search needs
-
-cell-in-requires : tie.Need-cell-in-requires
-cell-in-requires c κs = search needs
-
 returns : tie.Need-returns
 returns c =
     let a = c .before .before .args in
@@ -20,4 +14,4 @@ returns c =
     ap₂ made (c .before .sector-in .ensures) (c .cell-in .ensures)
 
 pub stood-at-spec : {M : Type 1} → statement M
-stood-at-spec = tie.close (tie.spec sector-in-requires cell-in-requires returns)
+stood-at-spec = tie.close (tie.spec (λ c κs. search needs) (λ c κs. search needs) returns)

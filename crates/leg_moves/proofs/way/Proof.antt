@@ -23,9 +23,6 @@ accepted e = sym (number (e .before)) ∙ e .if1 .left
 ok : (e : tie.Else1) → let a = start (e .before) .args in CartAccepted (now (a .sheet)) (a .sector) (a .cell)
 ok e = taken _ _ _ (accepted e)
 
-cart-number-requires : tie.Need-cart-number-requires
-cart-number-requires c κs = search needs
-
 returns : tie.Need-returns
 returns c = refuses-way _ _ _ (c .before .cart-number .result) (number (c .before)) (c .if1 .taken)
 
@@ -42,5 +39,4 @@ returns-2 c =
     takes-way sheet _ _ (accepted (found .before)) _ (c .way-from .ensures ∙ ap (wayFrom sheet) (found .place-of .ensures .0))
 
 pub way-spec : {M : Type 1} → statement M
-way-spec =
-    tie.close (tie.spec cart-number-requires returns place-of-requires way-from-requires returns-2)
+way-spec = tie.close (tie.spec (λ c κs. search needs) returns place-of-requires way-from-requires returns-2)

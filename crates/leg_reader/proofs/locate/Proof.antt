@@ -9,12 +9,6 @@ use Rattle.leg_file.proofs.Laws.{part-refused, place-read, place-refused, writt
 use Rattle.leg_reader.proofs.locate.Statement.{statement}
 use Rattle.leg_reader.proofs.locate.Tie as tie
 
-number-requires : tie.Need-number-requires
-number-requires c κs = search needs
-
-read-requires : tie.Need-read-requires
-read-requires c κs = search needs
-
 returns : tie.Need-returns
 unfolding fileAnswer
 returns c =
@@ -36,4 +30,4 @@ returns-2 c =
     rw (n, part, place-refused file bad) (rw (ne-eqb (fileNumber file) 0 bad), (refl, (written-same file, λ h. record { start = refl; length = rw (part-refused file bad) })))
 
 pub locate-spec : {M : Type 1} → statement M
-locate-spec = tie.close (tie.spec number-requires read-requires returns returns-2)
+locate-spec = tie.close (tie.spec (λ c κs. search needs) (λ c κs. search needs) returns returns-2)

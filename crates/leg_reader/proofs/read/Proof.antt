@@ -11,12 +11,6 @@ use Rattle.leg_file.proofs.Laws.{good, promised-refused, promised-read}
 use Rattle.leg_reader.proofs.read.Statement.{statement}
 use Rattle.leg_reader.proofs.read.Tie as tie
 
-number-requires : tie.Need-number-requires
-number-requires c κs = search needs
-
-slice-aggregate-result : tie.Need-slice-aggregate-result
-slice-aggregate-result c = search needs
-
 returns : tie.Need-returns
 returns c =
     let judged = c .before .before in
@@ -28,9 +22,6 @@ sub-result c = let p = good _ (sym (c .before .number .ensures) ∙ c .if1 .left
 part-result-start : tie.Need-part-result-start
 part-result-start c = let p = good _ (sym (c .before .number .ensures) ∙ c .if1 .left) in search needs
 
-part-result-end : tie.Need-part-result-end
-part-result-end c = search needs
-
 returns-2 : tie.Need-returns-2
 returns-2 c =
     let judged = c .before .before in
@@ -38,13 +29,4 @@ returns-2 c =
     promised-read file _ (sym (judged .number .ensures) ∙ c .before .if1 .left) (take-all (length file - 6) (drop 6 file) (omega (arith, length-drop 6 file)))
 
 pub read-spec : {M : Type 1} → statement M
-read-spec =
-    tie.close
-    (tie.spec
-    number-requires
-    slice-aggregate-result
-    returns
-    sub-result
-    part-result-start
-    part-result-end
-    returns-2)
+read-spec = tie.close (tie.spec (λ c κs. search needs) (λ c. search needs) returns sub-result part-result-start (λ c. search needs) returns-2)

@@ -6,9 +6,6 @@ use borrow.Author.Needs.{needs}
 use Rattle.leg_writer.proofs.put_head.Statement.{statement}
 use Rattle.leg_writer.proofs.put_head.Tie as tie
 
-slice-write-file : tie.Need-slice-write-file
-slice-write-file c = search needs
-
 slice-write-file-2 : tie.Need-slice-write-file-2
 slice-write-file-2 c = simp length-set (omega arith)
 
@@ -24,21 +21,7 @@ slice-write-file-5 c = simp length-set (omega arith)
 slice-write-file-6 : tie.Need-slice-write-file-6
 slice-write-file-6 c = simp length-set (omega arith)
 
-same-length : tie.Need-same-length
-same-length c = search needs
-
-returns : tie.Need-returns
-returns c = search needs
-
 pub put-head-spec : {M : Type 1} → statement M
-put-head-spec =
-    tie.close
-    (tie.spec
-    slice-write-file
-    slice-write-file-2
-    slice-write-file-3
-    slice-write-file-4
-    slice-write-file-5
-    slice-write-file-6
-    same-length
-    returns)
+put-head-spec = tie.close (tie.spec
+    (λ c. search needs) slice-write-file-2 slice-write-file-3 slice-write-file-4 slice-write-file-5 slice-write-file-6 (λ c. search needs)
+    (λ c. search needs))

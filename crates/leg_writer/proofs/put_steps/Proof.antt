@@ -6,21 +6,6 @@ use Rattle.leg_file.proofs.Laws.{copied}
 use Rattle.leg_writer.proofs.put_steps.Statement.{statement}
 use Rattle.leg_writer.proofs.put_steps.Tie as tie
 
-sub-copy : tie.Need-sub-copy
-sub-copy c = search needs
-
-part-copy-start : tie.Need-part-copy-start
-part-copy-start c = search needs
-
-part-copy-end : tie.Need-part-copy-end
-part-copy-end c = search needs
-
-copy-requires : tie.Need-copy-requires
-copy-requires c κs = search needs
-
-same-length : tie.Need-same-length
-same-length c = search needs
-
 returns : tie.Need-returns
 returns c =
     let ended = c .before .before in
@@ -28,5 +13,4 @@ returns c =
     rw (ended .copy .ensures .1) (copied (now (start .args .steps)) (now (start .args .file)) (start .pre))
 
 pub put-steps-spec : {M : Type 1} → statement M
-put-steps-spec =
-    tie.close (tie.spec sub-copy part-copy-start part-copy-end copy-requires same-length returns)
+put-steps-spec = tie.close (tie.spec (λ c. search needs) (λ c. search needs) (λ c. search needs) (λ c κs. search needs) (λ c. search needs) returns)

@@ -11,9 +11,6 @@ use Rattle.leg_file.proofs.Laws.{fits, refuses, writes, stored}
 use Rattle.leg_writer.proofs.write.Statement.{statement}
 use Rattle.leg_writer.proofs.write.Tie as tie
 
-write-number-requires : tie.Need-write-number-requires
-write-number-requires c κs = search needs
-
 returns : tie.Need-returns
 returns c =
     let a = c .before .before .before .before .args in
@@ -42,9 +39,6 @@ put-steps-requires c κs =
     let f = fits (now (a .steps)) (now (a .file)) (sym (judged .write-number .ensures (now (a .file)) refl) ∙ headed .before .before .if1 .left) in
     ap length (headed .put-head .ensures) ∙ simp length-sets (f .long)
 
-same-length : tie.Need-same-length
-same-length c = search needs
-
 returns-2 : tie.Need-returns-2
 returns-2 c =
     let ended = c .before .before in
@@ -57,13 +51,4 @@ returns-2 c =
     (ended .put-steps .ensures ∙ rw (headed .put-head .ensures) (stored (now (a .steps)) (now (a .file)) _ (omega arith) refl))
 
 pub write-spec : {M : Type 1} → statement M
-write-spec =
-    tie.close
-    (tie.spec
-    write-number-requires
-    returns
-    cast-put-head
-    put-head-requires
-    put-steps-requires
-    same-length
-    returns-2)
+write-spec = tie.close (tie.spec (λ c κs. search needs) returns cast-put-head put-head-requires put-steps-requires (λ c. search needs) returns-2)

@@ -10,15 +10,9 @@ use Rattle.leg_file.specs.File.{fileOf, writeNumber}
 use Rattle.leg_writer.proofs.write_number.Statement.{statement}
 use Rattle.leg_writer.proofs.write_number.Tie as tie
 
-is-no-step-list-requires : tie.Need-is-no-step-list-requires
-is-no-step-list-requires c κs = search needs
-
 returns : tie.Need-returns
 unfolding writeNumber
 returns c file e = rw (sym (c .before .is-no-step-list .ensures) ∙ c .if1 .taken)
-
-add-if2 : tie.Need-add-if2
-add-if2 c = search needs
 
 returns-2 : tie.Need-returns-2
 unfolding writeNumber
@@ -35,5 +29,4 @@ returns-3 c file e =
     rw (sym (listed .is-no-step-list .ensures) ∙ c .before .if1 .left, eq-eqb (length file) (length (fileOf steps)) (omega arith))
 
 pub write-number-spec : {M : Type 1} → statement M
-write-number-spec =
-    tie.close (tie.spec is-no-step-list-requires returns add-if2 returns-2 returns-3)
+write-number-spec = tie.close (tie.spec (λ c κs. search needs) returns (λ c. search needs) returns-2 returns-3)

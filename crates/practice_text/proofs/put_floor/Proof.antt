@@ -7,21 +7,6 @@ use borrow.Author.Needs.{needs}
 use Rattle.practice_text.proofs.put_floor.Statement.{statement}
 use Rattle.practice_text.proofs.put_floor.Tie as tie
 
-put-rows-requires : tie.Need-put-rows-requires
-put-rows-requires c κs = search needs
-
-put-decimal-requires : tie.Need-put-decimal-requires
-put-decimal-requires c κs = search needs
-
-add-end : tie.Need-add-end
-add-end c = search needs
-
-element-write-out : tie.Need-element-write-out
-element-write-out c = search needs
-
-add-result : tie.Need-add-result
-add-result c = search needs
-
 returns : tie.Need-returns
 returns c =
     let goal = c .put-decimal .ensures in
@@ -33,6 +18,5 @@ returns c =
     )
 
 pub put-floor-spec : {M : Type 1} → statement M
-put-floor-spec =
-    tie.close
-    (tie.spec put-rows-requires put-decimal-requires add-end element-write-out add-result returns)
+put-floor-spec = tie.close (tie.spec
+    (λ c κs. search needs) (λ c κs. search needs) (λ c. search needs) (λ c. search needs) (λ c. search needs) returns)

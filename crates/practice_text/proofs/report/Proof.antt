@@ -9,9 +9,6 @@ use borrow.Author.Needs.{needs}
 use Rattle.practice_text.proofs.report.Statement.{statement}
 use Rattle.practice_text.proofs.report.Tie as tie
 
-put-no-line-requires : tie.Need-put-no-line-requires
-put-no-line-requires c κs = search needs
-
 returns : tie.Need-returns
 unfolding practiceText
 returns c =
@@ -19,15 +16,6 @@ returns c =
     let e = ne-eqb (length (now (judged .before .before .args .input))) 4 (judged .if1 .taken) in
     let put = c .put-no-line .ensures in
     rw e ((omega arith, put .1), put .2)
-
-seed-of-requires : tie.Need-seed-of-requires
-seed-of-requires c κs = search needs
-
-practice-floor-requires : tie.Need-practice-floor-requires
-practice-floor-requires c κs = search needs
-
-put-floor-requires : tie.Need-put-floor-requires
-put-floor-requires c κs = search needs
 
 returns-2 : tie.Need-returns-2
 unfolding practiceText
@@ -40,12 +28,4 @@ returns-2 c =
     rw (e, ← seed, ← floor) ((put .0, put .1), put .2)
 
 pub report-spec : {M : Type 1} → statement M
-report-spec =
-    tie.close
-    (tie.spec
-    put-no-line-requires
-    returns
-    seed-of-requires
-    practice-floor-requires
-    put-floor-requires
-    returns-2)
+report-spec = tie.close (tie.spec (λ c κs. search needs) returns (λ c κs. search needs) (λ c κs. search needs) (λ c κs. search needs) returns-2)

@@ -8,36 +8,13 @@ use Rattle.print_text.specs.Rows.{cellText}
 use Rattle.print_text.proofs.put_cell.Statement.{statement}
 use Rattle.print_text.proofs.put_cell.Tie as tie
 
-hex-digit-requires : tie.Need-hex-digit-requires
-hex-digit-requires c κs = search needs
-
-slice-write-out : tie.Need-slice-write-out
-slice-write-out c = search needs
-
-hex-digit-requires-2 : tie.Need-hex-digit-requires-2
-hex-digit-requires-2 c κs = search needs
-
-add-out : tie.Need-add-out
-add-out c = search needs
-
 slice-write-out-2 : tie.Need-slice-write-out-2
 slice-write-out-2 c = simp length-set (omega arith)
-
-same-length : tie.Need-same-length
-same-length c = search needs
 
 returns : tie.Need-returns
 unfolding cellText
 returns c = rw (c .before .hex-digit .ensures, c .hex-digit2 .ensures, add-one (c .before .before .before .args .at))
 
 pub put-cell-spec : {M : Type 1} → statement M
-put-cell-spec =
-    tie.close
-    (tie.spec
-    hex-digit-requires
-    slice-write-out
-    hex-digit-requires-2
-    add-out
-    slice-write-out-2
-    same-length
-    returns)
+put-cell-spec = tie.close (tie.spec
+    (λ c κs. search needs) (λ c. search needs) (λ c κs. search needs) (λ c. search needs) slice-write-out-2 (λ c. search needs) returns)

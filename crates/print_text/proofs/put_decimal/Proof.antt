@@ -10,53 +10,18 @@ use Rattle.print_text.specs.Rows.{decimal}
 use Rattle.print_text.proofs.put_decimal.Statement.{statement}
 use Rattle.print_text.proofs.put_decimal.Tie as tie
 
-add-out : tie.Need-add-out
-add-out c = search needs
-
-slice-write-out : tie.Need-slice-write-out
-slice-write-out c = search needs
-
-same-length : tie.Need-same-length
-same-length c = search needs
-
 returns : tie.Need-returns
 unfolding decimal
 returns c = rw (lt-ltb (c .before .args .number) 10 (omega arith)) ((omega arith, refl), refl)
 
-add-out-2 : tie.Need-add-out-2
-add-out-2 c = search needs
-
-slice-write-out-2 : tie.Need-slice-write-out-2
-slice-write-out-2 c = search needs
-
-add-out-3 : tie.Need-add-out-3
-add-out-3 c = search needs
-
-add-out-4 : tie.Need-add-out-4
-add-out-4 c = search needs
-
 slice-write-out-3 : tie.Need-slice-write-out-3
 slice-write-out-3 c = simp length-set (omega arith)
-
-same-length-2 : tie.Need-same-length-2
-same-length-2 c = search needs
 
 returns-2 : tie.Need-returns-2
 unfolding decimal
 returns-2 c = rw (le-ltb (c .before .args .number) 10 (omega arith), add-one (c .before .args .at)) ((omega arith, refl), refl)
 
 pub put-decimal-spec : {M : Type 1} → statement M
-put-decimal-spec =
-    tie.close
-    (tie.spec
-    add-out
-    slice-write-out
-    same-length
-    returns
-    add-out-2
-    slice-write-out-2
-    add-out-3
-    add-out-4
-    slice-write-out-3
-    same-length-2
-    returns-2)
+put-decimal-spec = tie.close (tie.spec
+    (λ c. search needs) (λ c. search needs) (λ c. search needs) returns (λ c. search needs) (λ c. search needs) (λ c. search needs)
+    (λ c. search needs) slice-write-out-3 (λ c. search needs) returns-2)

@@ -7,9 +7,6 @@ use borrow.Author.Needs.{needs}
 use Rattle.route.proofs.edge_length.Statement.{statement}
 use Rattle.route.proofs.edge_length.Tie as tie
 
-number-requires : tie.Need-number-requires
-number-requires c κs = search needs
-
 returns : tie.Need-returns
 returns c = let n = c .before .number in rw (edge-length (c .before .before .args .boundary), ← n .ensures, lt-ltb (n .result) 4 (c .if1 .taken))
 
@@ -17,4 +14,4 @@ returns-2 : tie.Need-returns-2
 returns-2 c = let n = c .before .number in rw (edge-length (c .before .before .args .boundary), ← n .ensures, le-ltb (n .result) 4 (omega arith))
 
 pub edge-length-spec : {M : Type 1} → statement M
-edge-length-spec = tie.close (tie.spec number-requires returns returns-2)
+edge-length-spec = tie.close (tie.spec (λ c κs. search needs) returns returns-2)

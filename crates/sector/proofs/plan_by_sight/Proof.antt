@@ -20,17 +20,8 @@ use borrow.Author.Needs.{needs}
 use Rattle.sector.proofs.plan_by_sight.Statement.{statement}
 use Rattle.sector.proofs.plan_by_sight.Tie as tie
 
-new-requires : tie.Need-new-requires
-new-requires c κs = search needs
-
-as-target-requires : tie.Need-as-target-requires
-as-target-requires c κs = search needs
-
 sector-number-requires : tie.Need-sector-number-requires
 sector-number-requires c κs = c .as-target .ensures ∙ ap (λ (s : RouteStep). listedTarget (routeTarget s)) (c .before .new .ensures)
-
-refused-requires : tie.Need-refused-requires
-refused-requires c κs = search needs
 
 -- where the number is known: from there the step's target is made, and before it all that is lent is known, the costs first, which are bytes; and the call
 abbrev made : tie.After-sector-number → tie.After-as-target
@@ -83,9 +74,6 @@ run-requires c κs =
       previous-fits = fits (a .has-previous) (now (a .previous)) (ok g .previous-fits);
     }
 
-same-length : tie.Need-same-length
-same-length c = search needs
-
 returns-2 : tie.Need-returns-2
 returns-2 c =
     let ran = c .before .before in
@@ -102,15 +90,6 @@ returns-2 c =
     (ran .run .ensures .1 ∙ ap₂ (λ (u : Target) (p : PortalWindow). sectorBytes costs u p (a .has-previous) (now (a .previous))) target portal)
 
 pub plan-by-sight-spec : {M : Type 1} → statement M
-plan-by-sight-spec =
-    tie.close
-    (tie.spec
-    new-requires
-    as-target-requires
-    sector-number-requires
-    refused-requires
-    returns
-    (λ c κs. search needs)
-    run-requires
-    same-length
-    returns-2)
+plan-by-sight-spec = tie.close (tie.spec
+    (λ c κs. search needs) (λ c κs. search needs) sector-number-requires (λ c κs. search needs) returns (λ c κs. search needs) run-requires
+    (λ c. search needs) returns-2)

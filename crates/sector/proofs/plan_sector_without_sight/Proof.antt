@@ -22,12 +22,6 @@ start c = bytes-known c .before
 byte : (c : tie.After-plan-by-sight) (x : ℕ) → getD (now (start c .args .costs)) x 0 ≤ 255
 byte c x = omega (arith, bytes-known c .shared-slice-known .given x)
 
-plan-by-sight-requires : tie.Need-plan-by-sight-requires
-plan-by-sight-requires c κs = search needs
-
-same-length : tie.Need-same-length
-same-length c = search needs
-
 returns : tie.Need-returns
 returns c =
     let called = c .before .before in
@@ -40,4 +34,4 @@ returns c =
     (e .0, (e .1 .0, (e .1 .1 .0, (e .1 .1 .1 .0, (told, (same, e .1 .1 .1 .1))))))
 
 pub plan-sector-without-sight-spec : {M : Type 1} → statement M
-plan-sector-without-sight-spec = tie.close (tie.spec plan-by-sight-requires same-length returns)
+plan-sector-without-sight-spec = tie.close (tie.spec (λ c κs. search needs) (λ c. search needs) returns)

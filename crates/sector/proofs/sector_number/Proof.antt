@@ -38,9 +38,6 @@ returns-3 c sheet e =
     let lent : length sheet ≡ 100 = omega arith in
     rw n (search (tests, lent, ne-eqb _ 0 (λ z. c .if3 .taken (n ∙ z))))
 
-lacks-previous-requires : tie.Need-lacks-previous-requires
-lacks-previous-requires c κs = search needs
-
 -- from where 17's condition is known: the step's number, which is 0, and the call; and so what 17 and 12 decide
 abbrev stepped : tie.After-lacks-previous → tie.After-number-with-target
 stepped c = c .before .before
@@ -79,15 +76,5 @@ returns-7 : tie.Need-returns-7
 returns-7 c sheet e = last (c .before .before) sheet e false false _ (c .before .if4 .left) (c .if5 .left) refl
 
 pub sector-number-spec : {M : Type 1} → statement M
-sector-number-spec =
-    tie.close
-    (tie.spec
-    returns
-    returns-2
-    number-with-target-requires
-    returns-3
-    lacks-previous-requires
-    returns-4
-    returns-5
-    returns-6
-    returns-7)
+sector-number-spec = tie.close (tie.spec
+    returns returns-2 number-with-target-requires returns-3 (λ c κs. search needs) returns-4 returns-5 returns-6 returns-7)

@@ -11,27 +11,6 @@ use Rattle.sector_text.specs.Text.{noText}
 use Rattle.sector_text.proofs.put_no.Statement.{statement}
 use Rattle.sector_text.proofs.put_no.Tie as tie
 
-element-write-out : tie.Need-element-write-out
-element-write-out c = search needs
-
-element-write-out-2 : tie.Need-element-write-out-2
-element-write-out-2 c = search needs
-
-element-write-out-3 : tie.Need-element-write-out-3
-element-write-out-3 c = search needs
-
-put-decimal-requires : tie.Need-put-decimal-requires
-put-decimal-requires c κs = search needs
-
-add-end : tie.Need-add-end
-add-end c = search needs
-
-element-write-out-4 : tie.Need-element-write-out-4
-element-write-out-4 c = search needs
-
-add-result : tie.Need-add-result
-add-result c = search needs
-
 returns : tie.Need-returns
 unfolding noText
 returns c =
@@ -44,14 +23,6 @@ returns c =
     )
 
 pub put-no-spec : {M : Type 1} → statement M
-put-no-spec =
-    tie.close
-    (tie.spec
-    element-write-out
-    element-write-out-2
-    element-write-out-3
-    put-decimal-requires
-    add-end
-    element-write-out-4
-    add-result
+put-no-spec = tie.close (tie.spec
+    (λ c. search needs) (λ c. search needs) (λ c. search needs) (λ c κs. search needs) (λ c. search needs) (λ c. search needs) (λ c. search needs)
     returns)

@@ -10,17 +10,11 @@ use borrow.Author.Needs.{needs}
 use Rattle.sector_text.proofs.render.Statement.{statement}
 use Rattle.sector_text.proofs.render.Tie as tie
 
-put-no-requires : tie.Need-put-no-requires
-put-no-requires c κs = search needs
-
 returns : tie.Need-returns
 unfolding rendered
 returns c =
     let e = ne-eqb _ _ (c .before .before .if1 .taken) in
     ((c .put-no .ensures .0, rw e (c .put-no .ensures .1)), rw e (c .put-no .ensures .2))
-
-put-rows-requires : tie.Need-put-rows-requires
-put-rows-requires c κs = search needs
 
 returns-2 : tie.Need-returns-2
 unfolding rendered
@@ -29,4 +23,4 @@ returns-2 c =
     ((omega arith, rw e (sym (rows-length (now (c .before .before .before .args .sheet)) 10))), rw e (c .put-rows .ensures))
 
 pub render-spec : {M : Type 1} → statement M
-render-spec = tie.close (tie.spec put-no-requires returns put-rows-requires returns-2)
+render-spec = tie.close (tie.spec (λ c κs. search needs) returns (λ c κs. search needs) returns-2)

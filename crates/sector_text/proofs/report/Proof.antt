@@ -14,9 +14,6 @@ use borrow.Author.Needs.{needs}
 use Rattle.sector_text.proofs.report.Statement.{statement}
 use Rattle.sector_text.proofs.report.Tie as tie
 
-render-requires : tie.Need-render-requires
-render-requires c κs = search needs
-
 returns : tie.Need-returns
 returns c =
     let a = c .before .before .before .before .before .args in
@@ -24,36 +21,6 @@ returns c =
     let count : c .render .result ≡ length (rendered 1 (replicate 100 0)) = search needs in
     let e = printed-short (now (a .input)) (replicate 100 0) (c .before .before .before .if1 .taken) in
     ((c .render .ensures .0 .0, count ∙ rw e), text ∙ rw e)
-
-sub-costs : tie.Need-sub-costs
-sub-costs c = search needs
-
-part-costs-start : tie.Need-part-costs-start
-part-costs-start c = search needs
-
-part-costs-end : tie.Need-part-costs-end
-part-costs-end c = search needs
-
-sub-step : tie.Need-sub-step
-sub-step c = search needs
-
-part-step-start : tie.Need-part-step-start
-part-step-start c = search needs
-
-part-step-end : tie.Need-part-step-end
-part-step-end c = search needs
-
-slice-aggregate-plan-sector : tie.Need-slice-aggregate-plan-sector
-slice-aggregate-plan-sector c = search needs
-
-slice-aggregate-plan-sector-2 : tie.Need-slice-aggregate-plan-sector-2
-slice-aggregate-plan-sector-2 c = search needs
-
-plan-sector-requires : tie.Need-plan-sector-requires
-plan-sector-requires c κs = search needs
-
-render-requires-2 : tie.Need-render-requires-2
-render-requires-2 c κs = search needs
 
 returns-2 : tie.Need-returns-2
 returns-2 c =
@@ -67,19 +34,6 @@ returns-2 c =
     ((c .render2 .ensures .0 .0, c .render2 .ensures .0 .1 ∙ rw e), c .render2 .ensures .1 ∙ rw e)
 
 pub report-spec : {M : Type 1} → statement M
-report-spec =
-    tie.close
-    (tie.spec
-    render-requires
-    returns
-    sub-costs
-    part-costs-start
-    part-costs-end
-    sub-step
-    part-step-start
-    part-step-end
-    slice-aggregate-plan-sector
-    slice-aggregate-plan-sector-2
-    plan-sector-requires
-    render-requires-2
-    returns-2)
+report-spec = tie.close (tie.spec
+    (λ c κs. search needs) returns (λ c. search needs) (λ c. search needs) (λ c. search needs) (λ c. search needs) (λ c. search needs)
+    (λ c. search needs) (λ c. search needs) (λ c. search needs) (λ c κs. search needs) (λ c κs. search needs) returns-2)

@@ -25,9 +25,6 @@ wall w =
     let made = made-target (now (a .step)) (routeStep (now (a .step))) (a .target) refl (start g .pre) in
     w .is-wall-target .ensures ∙ ap (isWallTarget (now (a .costs))) made ∙ sym (wall-target (now (a .costs)) (now (a .step)) (good g))
 
-step-number-requires : tie.Need-step-number-requires
-step-number-requires c κs = search needs
-
 returns : tie.Need-returns
 returns c =
     let n = c .before .step-number .ensures in
@@ -51,11 +48,4 @@ returns-3 c =
     sym (number-on (now (a .costs)) (now (a .step)) ∙ rw (good (w .before), sym (wall w) ∙ c .if2 .left))
 
 pub number-with-target-spec : {M : Type 1} → statement M
-number-with-target-spec =
-    tie.close
-    (tie.spec
-    step-number-requires
-    returns
-    is-wall-target-requires
-    returns-2
-    returns-3)
+number-with-target-spec = tie.close (tie.spec (λ c κs. search needs) returns is-wall-target-requires returns-2 returns-3)

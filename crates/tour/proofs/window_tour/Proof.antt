@@ -14,12 +14,6 @@ use Rattle.tour_plan.proofs.Planned.{tour-square, refuses, Told, accepts}
 use Rattle.tour.proofs.window_tour.Statement.{statement}
 use Rattle.tour.proofs.window_tour.Tie as tie
 
-window-costs-number-requires : tie.Need-window-costs-number-requires
-window-costs-number-requires c κs = search needs
-
-refused-requires : tie.Need-refused-requires
-refused-requires c κs = search needs
-
 returns : tie.Need-returns
 returns c =
     let i = c .before in
@@ -53,9 +47,6 @@ search-tours-requires c κs =
     subst (λ (s : List (List ℕ)). TourSquare s (length (steps m) / 8)) (sym (c .window-square .ensures))
     (tour-square (costs m) (steps m) (ready (costs m) (steps m) (number m)))
 
-accepted-requires : tie.Need-accepted-requires
-accepted-requires c κs = search needs
-
 returns-2 : tie.Need-returns-2
 returns-2 c =
     let t = c .before in
@@ -67,13 +58,5 @@ returns-2 c =
     accepts (costs m) (steps m) limit (byte m) (number m) tour told _ (c .accepted .ensures)
 
 pub window-tour-spec : {M : Type 1} → statement M
-window-tour-spec =
-    tie.close
-    (tie.spec
-    window-costs-number-requires
-    refused-requires
-    returns
-    window-square-requires
-    search-tours-requires
-    accepted-requires
-    returns-2)
+window-tour-spec = tie.close (tie.spec
+    (λ c κs. search needs) (λ c κs. search needs) returns window-square-requires search-tours-requires (λ c κs. search needs) returns-2)

@@ -14,14 +14,8 @@ use Rattle.tour_search.proofs.search_tours.Tie as tie
 at-most-all : (m : tie.After-tried-count) → m .tried-count .result ≤ factorial (m .before .args .n - 1)
 at-most-all m = omega (arith, m .tried-count .ensures, tried-is (m .before .args .n) (m .before .args .limit))
 
-tried-count-requires : tie.Need-tried-count-requires
-tried-count-requires c κs = search needs
-
 best-tour-requires : tie.Need-best-tour-requires
 best-tour-requires c κs = (c .before .before .pre, at-most-all (c .before))
-
-least-figure-requires : tie.Need-least-figure-requires
-least-figure-requires c κs = search needs
 
 cast-t11 : tie.Need-cast-t11
 cast-t11 c =
@@ -36,6 +30,4 @@ returns c =
     (answered (a .t1) (a .n) (a .limit) (m .tried-count .ensures) (c .before .before .best-tour .ensures) (c .before .least-figure .ensures))
 
 pub search-tours-spec : {M : Type 1} → statement M
-search-tours-spec =
-    tie.close
-    (tie.spec tried-count-requires best-tour-requires least-figure-requires cast-t11 returns)
+search-tours-spec = tie.close (tie.spec (λ c κs. search needs) best-tour-requires (λ c κs. search needs) cast-t11 returns)

@@ -6,12 +6,6 @@ use borrow.Author.Needs.{needs}
 use Rattle.tour_search.proofs.tried_count.Statement.{statement}
 use Rattle.tour_search.proofs.tried_count.Tie as tie
 
-sub-factorial : tie.Need-sub-factorial
-sub-factorial c = search needs
-
-factorial-requires : tie.Need-factorial-requires
-factorial-requires c κs = search needs
-
 returns : tie.Need-returns
 returns c = omega (arith, tried-is (c .before .before .args .n) (c .before .before .args .limit), c .before .factorial .ensures)
 
@@ -19,4 +13,4 @@ returns-2 : tie.Need-returns-2
 returns-2 c = omega (arith, tried-is (c .before .before .args .n) (c .before .before .args .limit), c .before .factorial .ensures)
 
 pub tried-count-spec : {M : Type 1} → statement M
-tried-count-spec = tie.close (tie.spec sub-factorial factorial-requires returns returns-2)
+tried-count-spec = tie.close (tie.spec (λ c. search needs) (λ c κs. search needs) returns returns-2)

@@ -26,12 +26,6 @@ returns c =
     let beyond : ltb (a .i) (length (stepsOf steps)) ≡ false = le-ltb (a .i) (length (stepsOf steps)) (omega (arith, steps-count steps)) in
     rw beyond
 
-target-at-requires : tie.Need-target-at-requires
-target-at-requires c κs = search needs
-
-least-built-requires : tie.Need-least-built-requires
-least-built-requires c κs = search needs
-
 returns-2 : tie.Need-returns-2
 returns-2 c =
     let t = c .before in
@@ -46,4 +40,4 @@ returns-2 c =
     rw used (c .least-built .ensures ∙ ap (leastBuilt (now (s .args .cells))) cells)
 
 pub least-from-spec : {M : Type 1} → statement M
-least-from-spec = tie.close (tie.spec returns target-at-requires least-built-requires returns-2)
+least-from-spec = tie.close (tie.spec returns (λ c κs. search needs) (λ c κs. search needs) returns-2)

@@ -10,27 +10,6 @@ use Rattle.step_list.proofs.Steps.{lent-step}
 use Rattle.window_columns.proofs.target_at.Statement.{statement}
 use Rattle.window_columns.proofs.target_at.Tie as tie
 
-mul-at : tie.Need-mul-at
-mul-at c = search needs
-
-add-new : tie.Need-add-new
-add-new c = search needs
-
-sub-new : tie.Need-sub-new
-sub-new c = search needs
-
-part-new-start : tie.Need-part-new-start
-part-new-start c = search needs
-
-part-new-end : tie.Need-part-new-end
-part-new-end c = search needs
-
-new-requires : tie.Need-new-requires
-new-requires c κs = search needs
-
-as-target-requires : tie.Need-as-target-requires
-as-target-requires c κs = search needs
-
 returns : tie.Need-returns
 returns c =
     let n = c .before in
@@ -44,14 +23,6 @@ returns c =
     )
 
 pub target-at-spec : {M : Type 1} → statement M
-target-at-spec =
-    tie.close
-    (tie.spec
-    mul-at
-    add-new
-    sub-new
-    part-new-start
-    part-new-end
-    new-requires
-    as-target-requires
+target-at-spec = tie.close (tie.spec
+    (λ c. search needs) (λ c. search needs) (λ c. search needs) (λ c. search needs) (λ c. search needs) (λ c κs. search needs) (λ c κs. search needs)
     returns)

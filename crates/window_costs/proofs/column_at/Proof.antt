@@ -26,9 +26,6 @@ returns c =
     let steps = now (a .steps) in
     column-unused (now (a .costs)) (stepsOf steps) (a .j) (omega (arith, steps-count steps))
 
-target-at-requires : tie.Need-target-at-requires
-target-at-requires c κs = search needs
-
 build-window-requires : tie.Need-build-window-requires
 build-window-requires c κs =
     let s = c .before .before .before .before in
@@ -37,9 +34,6 @@ build-window-requires c κs =
     let l : j < length steps / 8 = omega arith in
     let t = c .target-at .ensures in
     (s .pre .costs-hundred, record { held = t .0; by-window = rw (t .1, target-window (stepAt steps j) (s .pre .each .windows j l)) })
-
-column-of-requires : tie.Need-column-of-requires
-column-of-requires c κs = search needs
 
 returns-2 : tie.Need-returns-2
 returns-2 c =
@@ -57,5 +51,4 @@ returns-2 c =
     ∙ column-used costs (stepsOf steps) j (omega (arith, steps-count steps))
 
 pub column-at-spec : {M : Type 1} → statement M
-column-at-spec =
-    tie.close (tie.spec returns target-at-requires build-window-requires column-of-requires returns-2)
+column-at-spec = tie.close (tie.spec returns (λ c κs. search needs) build-window-requires (λ c κs. search needs) returns-2)

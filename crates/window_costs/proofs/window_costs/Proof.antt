@@ -13,12 +13,6 @@ use Rattle.window_square.proofs.Calls.{refuses, accepts}
 use Rattle.window_costs.proofs.window_costs.Statement.{statement}
 use Rattle.window_costs.proofs.window_costs.Tie as tie
 
-window-costs-number-requires : tie.Need-window-costs-number-requires
-window-costs-number-requires c κs = search needs
-
-refused-requires : tie.Need-refused-requires
-refused-requires c κs = search needs
-
 returns : tie.Need-returns
 returns c =
     let i = c .before in
@@ -43,9 +37,6 @@ module _ (m : tie.Else1) where
 window-square-requires : tie.Need-window-square-requires
 window-square-requires c κs = ready (costs c) (steps c) (number c)
 
-rows-of-requires : tie.Need-rows-of-requires
-rows-of-requires c κs = search needs
-
 returns-2 : tie.Need-returns-2
 returns-2 c =
     let q = c .before in
@@ -53,12 +44,4 @@ returns-2 c =
     accepts (costs m) (steps m) (byte m) (number m) _ _ (q .window-square .ensures) (c .rows-of .ensures) _ refl
 
 pub window-costs-spec : {M : Type 1} → statement M
-window-costs-spec =
-    tie.close
-    (tie.spec
-    window-costs-number-requires
-    refused-requires
-    returns
-    window-square-requires
-    rows-of-requires
-    returns-2)
+window-costs-spec = tie.close (tie.spec (λ c κs. search needs) (λ c κs. search needs) returns window-square-requires (λ c κs. search needs) returns-2)

@@ -68,12 +68,6 @@ returns-4 c =
     let many : ltb 8 (length (stepsOf (steps m))) ≡ true = let e = steps-count (steps m) in rw e (lt-ltb 8 _ (c .if4 .taken)) in
     rw (full m, whole m, two t, many)
 
-shared-slice-read-each-window-step : tie.Need-shared-slice-read-each-window-step
-shared-slice-read-each-window-step c = search needs
-
-each-window-step-requires : tie.Need-each-window-step-requires
-each-window-step-requires c κs = search needs
-
 returns-5 : tie.Need-returns-5
 unfolding windowCostsNumber
 returns-5 c =
@@ -84,13 +78,4 @@ returns-5 c =
     rw (full m, whole m, two t, eight f, first) (c .each-window-step .ensures)
 
 pub window-costs-number-spec : {M : Type 1} → statement M
-window-costs-number-spec =
-    tie.close
-    (tie.spec
-    returns
-    returns-2
-    returns-3
-    returns-4
-    shared-slice-read-each-window-step
-    each-window-step-requires
-    returns-5)
+window-costs-number-spec = tie.close (tie.spec returns returns-2 returns-3 returns-4 (λ c. search needs) (λ c κs. search needs) returns-5)

@@ -38,17 +38,11 @@ good m = eq-eqb _ 0 (sym (judged (m .before)) ∙ m .if1 .left)
 window : (m : tie.Else2) → isWindow (step (m .before .before .before)) ≡ true
 window m = eq-eqb _ 1 (m .if2 .left)
 
-step-number-on-requires : tie.Need-step-number-on-requires
-step-number-on-requires c κs = search needs
-
 returns : tie.Need-returns
 returns c =
     let m = c .before in
     let refused : eqb (eachStepOn (costs m) (step m)) 0 ≡ false = ne-eqb _ 0 (λ z. c .if1 .taken (judged m ∙ z)) in
     judged m ∙ sym (step-number (costs m) (sector m) (step m) ∙ rw refused)
-
-shared-slice-read-if2 : tie.Need-shared-slice-read-if2
-shared-slice-read-if2 c = search needs
 
 returns-2 : tie.Need-returns-2
 returns-2 c =
@@ -56,9 +50,6 @@ returns-2 c =
     let m = e .before in
     let goal : isWindow (step m) ≡ false = ne-eqb _ 1 (c .if2 .taken) in
     sym (step-number (costs m) (sector m) (step m) ∙ rw (good e, goal))
-
-shared-slice-read-if3 : tie.Need-shared-slice-read-if3
-shared-slice-read-if3 c = search needs
 
 returns-3 : tie.Need-returns-3
 returns-3 c =
@@ -77,13 +68,4 @@ returns-4 c =
     sym (step-number (costs m) (sector m) (step m) ∙ rw (good e, window w, same))
 
 pub window-step-number-spec : {M : Type 1} → statement M
-window-step-number-spec =
-    tie.close
-    (tie.spec
-    step-number-on-requires
-    returns
-    shared-slice-read-if2
-    returns-2
-    shared-slice-read-if3
-    returns-3
-    returns-4)
+window-step-number-spec = tie.close (tie.spec (λ c κs. search needs) returns (λ c. search needs) returns-2 (λ c. search needs) returns-3 returns-4)

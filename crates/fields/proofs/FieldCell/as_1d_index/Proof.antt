@@ -15,15 +15,9 @@ returns-2 : tie.Need-returns-2
 unfolding indexOr
 returns-2 c = let s = c .before .before .args .self in rw (lt-ltb (s .column) 10 (omega arith), le-ltb (s .row) 10 (omega arith))
 
-mul-result : tie.Need-mul-result
-mul-result c = search needs
-
-add-result : tie.Need-add-result
-add-result c = search needs
-
 returns-3 : tie.Need-returns-3
 unfolding indexOr
 returns-3 c = let s = c .before .before .args .self in rw (lt-ltb (s .column) 10 (omega arith), lt-ltb (s .row) 10 (omega arith))
 
 pub as-1d-index-spec : {M : Type 1} → statement M
-as-1d-index-spec = tie.close (tie.spec returns returns-2 mul-result add-result returns-3)
+as-1d-index-spec = tie.close (tie.spec returns returns-2 (λ c. search needs) (λ c. search needs) returns-3)

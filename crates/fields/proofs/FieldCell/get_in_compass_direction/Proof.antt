@@ -60,25 +60,13 @@ column-in c = both-in 9 (column-made (inner c)) (c .before .before .before .if2 
 row-in : (c : tie.Then5) → within 9 (rowSum (start (inner c) .args .self) (start (inner c) .args .dir)) ≡ true
 row-in c = both-in 9 (row-made (inner c)) (c .before .if4 .taken) (c .if5 .taken)
 
-points-requires : tie.Need-points-requires
-points-requires c κs = search needs
-
 returns : tie.Need-returns
 returns c =
     let a = c .before .before .args in
     promised (a .self) (a .dir) (sym (pointless (a .self) (a .dir) (sym (c .before .points .ensures) ∙ not-true _ (c .if1 .taken))))
 
-differences-requires : tie.Need-differences-requires
-differences-requires c κs = search needs
-
-cast-column : tie.Need-cast-column
-cast-column c = search needs
-
 add-column : tie.Need-add-column
 add-column c = column-made (c .before .before .before) .fits
-
-cast-row : tie.Need-cast-row
-cast-row c = search needs
 
 add-row : tie.Need-add-row
 add-row c = row-made (known c) .fits
@@ -107,17 +95,6 @@ returns-3 c =
     ])))
 
 pub get-in-compass-direction-spec : {M : Type 1} → statement M
-get-in-compass-direction-spec =
-    tie.close
-    (tie.spec
-    points-requires
-    returns
-    differences-requires
-    cast-column
-    add-column
-    cast-row
-    add-row
-    cast-t13
-    cast-t14
-    returns-2
+get-in-compass-direction-spec = tie.close (tie.spec
+    (λ c κs. search needs) returns (λ c κs. search needs) (λ c. search needs) add-column (λ c. search needs) add-row cast-t13 cast-t14 returns-2
     returns-3)

@@ -4,9 +4,6 @@ use borrow.Author.Needs.{needs}
 use Rattle.route.proofs.RouteStep.as_target.Statement.{statement}
 use Rattle.route.proofs.RouteStep.as_target.Tie as tie
 
-get-all-window-cells-requires : tie.Need-get-all-window-cells-requires
-get-all-window-cells-requires c κs = search needs
-
 returns : tie.Need-returns
 returns c = rw (c .before .before .if1 .taken, c .get-all-window-cells .ensures)
 
@@ -14,4 +11,4 @@ returns-2 : tie.Need-returns-2
 returns-2 c = rw (c .if1 .left)
 
 pub as-target-spec : {M : Type 1} → statement M
-as-target-spec = tie.close (tie.spec get-all-window-cells-requires returns returns-2)
+as-target-spec = tie.close (tie.spec (λ c κs. search needs) returns returns-2)

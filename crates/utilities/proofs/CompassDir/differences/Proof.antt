@@ -4,60 +4,6 @@ use borrow.Author.Needs.{needs}
 use Rattle.utilities.proofs.CompassDir.differences.Statement.{statement}
 use Rattle.utilities.proofs.CompassDir.differences.Tie as tie
 
-enum-told : tie.Need-enum-told
-enum-told c = search needs
-
-pair-requires : tie.Need-pair-requires
-pair-requires c κs = search needs
-
-enum-told-2 : tie.Need-enum-told-2
-enum-told-2 c = search needs
-
-pair-requires-2 : tie.Need-pair-requires-2
-pair-requires-2 c κs = search needs
-
-enum-told-3 : tie.Need-enum-told-3
-enum-told-3 c = search needs
-
-pair-requires-3 : tie.Need-pair-requires-3
-pair-requires-3 c κs = search needs
-
-enum-told-4 : tie.Need-enum-told-4
-enum-told-4 c = search needs
-
-pair-requires-4 : tie.Need-pair-requires-4
-pair-requires-4 c κs = search needs
-
-enum-told-5 : tie.Need-enum-told-5
-enum-told-5 c = search needs
-
-pair-requires-5 : tie.Need-pair-requires-5
-pair-requires-5 c κs = search needs
-
-enum-told-6 : tie.Need-enum-told-6
-enum-told-6 c = search needs
-
-pair-requires-6 : tie.Need-pair-requires-6
-pair-requires-6 c κs = search needs
-
-enum-told-7 : tie.Need-enum-told-7
-enum-told-7 c = search needs
-
-pair-requires-7 : tie.Need-pair-requires-7
-pair-requires-7 c κs = search needs
-
-enum-told-8 : tie.Need-enum-told-8
-enum-told-8 c = search needs
-
-pair-requires-8 : tie.Need-pair-requires-8
-pair-requires-8 c κs = search needs
-
-enum-told-9 : tie.Need-enum-told-9
-enum-told-9 c = search needs
-
-pair-requires-9 : tie.Need-pair-requires-9
-pair-requires-9 c κs = search needs
-
 returns : tie.Need-returns
 returns c = rw (c .before .enum-told .given .1) (c .pair .ensures)
 
@@ -86,33 +32,8 @@ returns-9 : tie.Need-returns-9
 returns-9 c = rw (c .before .enum-told9 .given .1) (c .pair9 .ensures)
 
 pub differences-spec : {M : Type 1} → statement M
-differences-spec =
-    tie.close
-    (tie.spec
-    enum-told
-    pair-requires
-    enum-told-2
-    pair-requires-2
-    enum-told-3
-    pair-requires-3
-    enum-told-4
-    pair-requires-4
-    enum-told-5
-    pair-requires-5
-    enum-told-6
-    pair-requires-6
-    enum-told-7
-    pair-requires-7
-    enum-told-8
-    pair-requires-8
-    enum-told-9
-    pair-requires-9
-    returns
-    returns-2
-    returns-3
-    returns-4
-    returns-5
-    returns-6
-    returns-7
-    returns-8
-    returns-9)
+differences-spec = tie.close (tie.spec
+    (λ c. search needs) (λ c κs. search needs) (λ c. search needs) (λ c κs. search needs) (λ c. search needs) (λ c κs. search needs)
+    (λ c. search needs) (λ c κs. search needs) (λ c. search needs) (λ c κs. search needs) (λ c. search needs) (λ c κs. search needs)
+    (λ c. search needs) (λ c κs. search needs) (λ c. search needs) (λ c κs. search needs) (λ c. search needs) (λ c κs. search needs) returns returns-2
+    returns-3 returns-4 returns-5 returns-6 returns-7 returns-8 returns-9)

@@ -9,20 +9,8 @@ use Rattle.utilities.specs.Compass.{orthogonal}
 use Rattle.utilities.proofs.CompassDir.from_boundary.Statement.{statement}
 use Rattle.utilities.proofs.CompassDir.from_boundary.Tie as tie
 
-returns : tie.Need-returns
-returns c = search needs
-
-returns-2 : tie.Need-returns-2
-returns-2 c = search needs
-
-returns-3 : tie.Need-returns-3
-returns-3 c = search needs
-
-returns-4 : tie.Need-returns-4
-returns-4 c = search needs
-
 returns-5 : tie.Need-returns-5
 returns-5 c = sym (List·getD-eq-default orthogonal Zero {n = c .before .args .boundary} (omega arith))
 
 pub from-boundary-spec : {M : Type 1} → statement M
-from-boundary-spec = tie.close (tie.spec returns returns-2 returns-3 returns-4 returns-5)
+from-boundary-spec = tie.close (tie.spec (λ c. search needs) (λ c. search needs) (λ c. search needs) (λ c. search needs) returns-5)

@@ -6,9 +6,6 @@ use Rattle.utilities.proofs.Sums.{still-true, still-false}
 use Rattle.utilities.proofs.CompassDir.lower_side.Statement.{statement}
 use Rattle.utilities.proofs.CompassDir.lower_side.Tie as tie
 
-differences-requires : tie.Need-differences-requires
-differences-requires c κs = search needs
-
 returns : tie.Need-returns
 returns c =
     let δ = c .before .before .before .differences in
@@ -18,4 +15,4 @@ returns-2 : tie.Need-returns-2
 returns-2 c = let δ = c .before .before .before .differences in rw (← δ .ensures, still-false (δ .result .column) (c .if1 .left))
 
 pub lower-side-spec : {M : Type 1} → statement M
-lower-side-spec = tie.close (tie.spec differences-requires returns returns-2)
+lower-side-spec = tie.close (tie.spec (λ c κs. search needs) returns returns-2)
