@@ -22,21 +22,8 @@ use Rattle.integration_field.specs.Wave.{relaxed, offeredAround, offeredBy, cha
 use Rattle.integration_field.specs.Rest.{total}
 use Rattle.integration_field.specs.Build.{isEmpty, settle, build}
 use Rattle.integration_field.specs.Position.{firstPosition, arrivesFrom, positionAt}
-use Rattle.integration_started.specs.Sight.{
-  walls,
-  withPortals,
-  withGoal,
-  marked,
-  lineMarked,
-  seen,
-  extended,
-  sideTried,
-  wallMet,
-  spreadTo,
-  spreadAround,
-  waveSpread,
-  sightAfter,
-}
+use Rattle.integration_started.specs.Sight.{walls, withPortals, withGoal, marked, lineMarked, seen, extended, sideTried, wallMet, spreadTo}
+use Rattle.integration_started.specs.Sight.{spreadAround, waveSpread, sightAfter}
 use Rattle.integration_started.specs.CornerLine.{cornerLine}
 use Rattle.integration_started.specs.Started.{sightFrom, startedFrom, startedAt, started, initNumber}
 use Rattle.flow_bits.specs.Byte.{isGoal, isPortalGoal, hasLineOfSight, isWall}

@@ -26,19 +26,8 @@ use Rattle.integration_field.specs.Build.{isEmpty, build}
 use Rattle.integration_field.specs.Walks.{grid, MayEnter, Permitted}
 use Rattle.integration_field.specs.Promise.{Walked, LeastWalks, valueAt, OpenAt, Changes, Counted}
 use Rattle.integration_field.proofs.Neighbours.{neighbour-beside, beside-neighbour}
-use Rattle.integration_field.proofs.Offers.{
-  Held,
-  kept,
-  written,
-  held-le,
-  held-open,
-  Made,
-  Offer,
-  offers-made,
-  offers-taken,
-  differs-changed,
-  changed-differs,
-}
+use Rattle.integration_field.proofs.Offers.{Held, kept, written, held-le, held-open, Made, Offer, offers-made, offers-taken, differs-changed}
+use Rattle.integration_field.proofs.Offers.{changed-differs}
 use Rattle.integration_field.proofs.Settled.{Settled, settled, next-wave}
 
 -- ---- lists

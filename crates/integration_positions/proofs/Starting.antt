@@ -16,21 +16,8 @@ use Rattle.fields.specs.Neighbours.{BesideAt}
 use Rattle.integration_waves.specs.Walks.{start}
 use Rattle.integration_field.specs.Word.{low}
 use Rattle.integration_field.specs.Listed.{noPositions}
-use Rattle.integration_positions.specs.Inner.{
-  isPlaced,
-  enteredFrom,
-  Placing,
-  placing,
-  QueueRoom,
-  Grown,
-  placedAt,
-  BuiltOn,
-  Mine,
-  Flood,
-  Sources,
-  Gone,
-  Decided,
-}
+use Rattle.integration_positions.specs.Inner.{isPlaced, enteredFrom, Placing, placing, QueueRoom, Grown, placedAt, BuiltOn, Mine, Flood}
+use Rattle.integration_positions.specs.Inner.{Sources, Gone, Decided}
 use Rattle.integration_positions.proofs.Room.{Tried, tried, grown-at}
 use Rattle.integration_positions.proofs.Flooding.{least, lowered, entered-at, flood-at, tried-least}
 

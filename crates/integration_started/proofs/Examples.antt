@@ -8,22 +8,8 @@ use Rattle.utilities.specs.declared.CompassDir.the-variants.{North, East}
 use Rattle.fields.specs.Cell.{stepped}
 use Rattle.route.specs.Step.{stepNumberOn}
 use Rattle.integration_field.specs.Diagonal.{passesWall}
-use Rattle.integration_started.specs.Sight.{
-  walls,
-  withPortals,
-  withGoal,
-  Sight,
-  marked,
-  lineMarked,
-  seen,
-  extended,
-  sideTried,
-  wallMet,
-  spreadTo,
-  spreadAround,
-  waveSpread,
-  sightAfter,
-}
+use Rattle.integration_started.specs.Sight.{walls, withPortals, withGoal, Sight, marked, lineMarked, seen, extended, sideTried, wallMet}
+use Rattle.integration_started.specs.Sight.{spreadTo, spreadAround, waveSpread, sightAfter}
 use Rattle.integration_started.specs.CornerLine.{cornerLine}
 use Rattle.integration_started.specs.Started.{startedAt, initNumber}
 

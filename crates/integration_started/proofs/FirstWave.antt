@@ -21,22 +21,8 @@ use Rattle.fields.specs.Cell.{cell, Inside, cellAt, indexOf, stepped}
 use Rattle.fields.proofs.Steps.{Told, stepped-cell, steps-by, step-back, index-below, index-of-cell, cell-inside, cell-of-index}
 use Rattle.integration_field.specs.Word.{isLos, isGoal, isBlocked, isImpassable}
 use Rattle.integration_field.specs.Diagonal.{wallAt, passesWall}
-use Rattle.integration_started.specs.Sight.{
-  Sight,
-  cornerWord,
-  sightWord,
-  listed,
-  marked,
-  stopped,
-  lineMarked,
-  seen,
-  extended,
-  sideTried,
-  wallMet,
-  spreadTo,
-  spreadTowards,
-  spreadAround,
-}
+use Rattle.integration_started.specs.Sight.{Sight, cornerWord, sightWord, listed, marked, stopped, lineMarked, seen, extended, sideTried}
+use Rattle.integration_started.specs.Sight.{wallMet, spreadTo, spreadTowards, spreadAround}
 use Rattle.integration_started.specs.Lines.{Lines}
 use Rattle.utilities.specs.Count.{count}
 use Rattle.utilities.proofs.Count.{Each, Passes, once-room, each-more, each-one, once-more, at-set}

@@ -16,23 +16,8 @@ use Rattle.fields.specs.declared.Stepped.the-variants.{Cell, Outside}
 use Rattle.fields.specs.Cell.{cellAt, indexOf, stepped}
 use Rattle.integration_field.specs.Word.{isLos, isGoal, isBlocked, isImpassable}
 use Rattle.integration_field.specs.Diagonal.{wallAt}
-use Rattle.integration_started.specs.Sight.{
-  Sight,
-  listed,
-  marked,
-  stopped,
-  lineMarked,
-  seen,
-  unlessWall,
-  extended,
-  cornerOf,
-  sideTried,
-  wallMet,
-  spreadTo,
-  spreadTowards,
-  spreadAround,
-  waveSpread,
-}
+use Rattle.integration_started.specs.Sight.{Sight, listed, marked, stopped, lineMarked, seen, unlessWall, extended, cornerOf, sideTried}
+use Rattle.integration_started.specs.Sight.{wallMet, spreadTo, spreadTowards, spreadAround, waveSpread}
 use Rattle.utilities.proofs.Count.{Each}
 use Rattle.integration_started.proofs.Words.{Flags}
 use Rattle.integration_started.proofs.Sides.{isSide, Sideways}

@@ -25,19 +25,8 @@ use Rattle.integration_field.proofs.Lists.{padded-length, padded-beyond, no-pos
 use Rattle.integration_started.specs.Sight.{walls, Sight, sightAfter}
 use Rattle.integration_started.specs.CornerLine.{cornerLine}
 use Rattle.integration_started.specs.Sizes.{Sizes}
-use Rattle.integration_started.specs.Started.{
-  sightFrom,
-  startedFrom,
-  startedAt,
-  startedWithout,
-  started,
-  initNumber,
-  initRefused,
-  initAccepted,
-  initAnswer,
-  StartedCells,
-  StartedField,
-}
+use Rattle.integration_started.specs.Started.{sightFrom, startedFrom, startedAt, startedWithout, started, initNumber, initRefused}
+use Rattle.integration_started.specs.Started.{initAccepted, initAnswer, StartedCells, StartedField}
 use Rattle.integration_started.specs.declared.InitAnswer.{InitAnswer}
 use Rattle.integration_started.proofs.Waves.{sizes, goal-started}
 use Rattle.integration_started.proofs.Window.{window-started}

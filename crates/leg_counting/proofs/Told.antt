@@ -26,17 +26,8 @@ use Rattle.route.proofs.Targets.{target-window, window-told, named-edge, edge-n
 use Rattle.route.proofs.Selected.{selected, selected-from}
 use Rattle.flow_byte.specs.New.{facingValue, unlessEnd, seenValues}
 use Rattle.flow_arrows.specs.Arrows.{Reached}
-use Rattle.leg_counting.specs.Counting.{
-  counts,
-  countingCells,
-  StraightAcross,
-  over-north,
-  over-east,
-  over-south,
-  over-west,
-  AtMostNext,
-  CountingCell,
-}
+use Rattle.leg_counting.specs.Counting.{counts, countingCells, StraightAcross, over-north, over-east, over-south, over-west, AtMostNext}
+use Rattle.leg_counting.specs.Counting.{CountingCell}
 
 -- ---- the cell that faces an edge cell
 

@@ -25,29 +25,8 @@ use Rattle.route.specs.declared.WindowCells.{WindowCells}
 use Rattle.route.specs.declared.Target as program
 use Rattle.route.specs.Window.{onEdge, listed}
 use Rattle.route.specs.Step.{goalOf, markOf, firstOf, lastOf, boundaryByte, boundaryOf, isWindow, windowCells, routeStep, stepNumber}
-use Rattle.route.specs.Target.{
-  Target,
-  to-goal,
-  to-window,
-  to-corner,
-  isSightless,
-  withoutSight,
-  bySight,
-  windowOf,
-  GoalCell,
-  WindowCell,
-  EndCell,
-  WindowIn,
-  TargetIn,
-  targetOf,
-  StepGoal,
-  OnNamedEdge,
-  north,
-  east,
-  south,
-  west,
-  StepWindow,
-}
+use Rattle.route.specs.Target.{Target, to-goal, to-window, to-corner, isSightless, withoutSight, bySight, windowOf, GoalCell, WindowCell}
+use Rattle.route.specs.Target.{EndCell, WindowIn, TargetIn, targetOf, StepGoal, OnNamedEdge, north, east, south, west, StepWindow}
 use Rattle.route.specs.Inner.{routeTarget, listedTarget, unsighted, sightedBy, heldCells, heldTarget, WindowHeld, TargetHeld}
 use Rattle.route.proofs.Accepted.{Window, accepted-step, accepted-goal, accepted-window}
 use Rattle.route.proofs.Cells.{cells-in}

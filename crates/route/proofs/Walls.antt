@@ -15,24 +15,8 @@ use lib.Dec.{ltb, eqb}
 use lib.ListN.{length, getD}
 use borrow.Author.Tests.{eqb-true, eqb-false, eq-eqb, ne-eqb}
 use Rattle.route.specs.Window.{onEdge}
-use Rattle.route.specs.Step.{
-  sectorOf,
-  goalOf,
-  markOf,
-  firstOf,
-  lastOf,
-  boundaryByte,
-  boundaryOf,
-  isGoal,
-  isWindow,
-  windowCells,
-  stepNumber,
-  isWallCost,
-  someWallCost,
-  targetsWall,
-  eachStepOn,
-  stepNumberOn,
-}
+use Rattle.route.specs.Step.{sectorOf, goalOf, markOf, firstOf, lastOf, boundaryByte, boundaryOf, isGoal, isWindow, windowCells, stepNumber}
+use Rattle.route.specs.Step.{isWallCost, someWallCost, targetsWall, eachStepOn, stepNumberOn}
 use Rattle.route.specs.Target.{Target, to-goal, to-window, to-corner, GoalCell, WindowCell, targetOf, StepOnWall, goal-on, window-on}
 use Rattle.route.specs.Inner.{isWallTarget}
 use Rattle.route.proofs.Accepted.{accepted-step}

@@ -14,14 +14,7 @@ use Rattle.utilities.proofs.Padded.{all-zero}
 use Rattle.step_list.specs.Steps.{stepsOf}
 use Rattle.window_square.specs.declared.WindowRow.{WindowRow}
 use Rattle.window_square.specs.declared.WindowCosts.{WindowCosts}
-use Rattle.window_square.specs.Square.{
-  windowCostsNumber,
-  costSquare,
-  rowsOf,
-  squareIn,
-  refusedWindowCosts,
-  windowCostsAnswer,
-}
+use Rattle.window_square.specs.Square.{windowCostsNumber, costSquare, rowsOf, squareIn, refusedWindowCosts, windowCostsAnswer}
 use Rattle.window_square.specs.Promise.{costAt, WindowSquare, SquareRefused, WrongCount, NotAmong}
 use Rattle.window_square.specs.Inner.{heldRow}
 use Rattle.window_square.proofs.Numbers.{ready}

@@ -13,19 +13,7 @@ use lib.ListN.{length, getD}
 use borrow.Author.Tests.{ltb-false, eqb-true, eqb-false}
 use Rattle.route.specs.Table.{firstNumber}
 use Rattle.route.specs.Window.{onEdge}
-use Rattle.route.specs.Step.{
-  sectorOf,
-  goalOf,
-  markOf,
-  firstOf,
-  lastOf,
-  boundaryByte,
-  boundaryOf,
-  isGoal,
-  isWindow,
-  targetsWall,
-  eachStepOn,
-}
+use Rattle.route.specs.Step.{sectorOf, goalOf, markOf, firstOf, lastOf, boundaryByte, boundaryOf, isGoal, isWindow, targetsWall, eachStepOn}
 use Rattle.route.proofs.Walls.{each-step-on, accepted-on}
 use Rattle.step_list.specs.Steps.{stepsOf, stepOf}
 use Rattle.step_list.specs.Inner.{stepAt}

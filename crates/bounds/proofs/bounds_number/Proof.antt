@@ -114,16 +114,6 @@ returns-7 c =
     rw (low-full e, high-full e, low-good (good .before .before), high-good good, window seen, sym (asked .has-no-range .ensures) ∙ c .if6 .left)
 
 pub bounds-number-spec : {M : Type 1} → statement M
-bounds-number-spec =
-    tie.close
-    (tie.spec
-    returns
-    returns-2
-    number-with-target-requires
-    returns-3
-    number-with-target-requires-2
-    returns-4
-    returns-5
-    has-no-range-requires
-    returns-6
+bounds-number-spec = tie.close (tie.spec
+    returns returns-2 number-with-target-requires returns-3 number-with-target-requires-2 returns-4 returns-5 has-no-range-requires returns-6
     returns-7)

@@ -64,17 +64,6 @@ returns-2 c =
     sym (rw e at (l .inv .1))
 
 pub has-no-range-spec : {M : Type 1} → statement M
-has-no-range-spec =
-    tie.close
-    (tie.spec
-    Inv-loop
-    μ-loop
-    loop-holds
-    shared-slice-read-is-no-range
-    shared-slice-read-is-no-range-2
-    is-no-range-requires
-    returns
-    add-i
-    loop-less
-    loop-again
+has-no-range-spec = tie.close (tie.spec
+    Inv-loop μ-loop loop-holds shared-slice-read-is-no-range shared-slice-read-is-no-range-2 is-no-range-requires returns add-i loop-less loop-again
     returns-2)

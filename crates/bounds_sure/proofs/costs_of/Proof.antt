@@ -55,18 +55,5 @@ returns c =
     filled-all 100 (builtCost cells) (l .costs) (rw e at (l .inv .1))
 
 pub costs-of-spec : {M : Type 1} → statement M
-costs-of-spec =
-    tie.close
-    (tie.spec
-    Inv-loop
-    μ-loop
-    loop-holds
-    mul-low-bits
-    element-copy-out-low-bits
-    low-bits-requires
-    mul-costs
-    array-write-costs
-    add-i
-    loop-less
-    loop-again
-    returns)
+costs-of-spec = tie.close (tie.spec
+    Inv-loop μ-loop loop-holds mul-low-bits element-copy-out-low-bits low-bits-requires mul-costs array-write-costs add-i loop-less loop-again returns)

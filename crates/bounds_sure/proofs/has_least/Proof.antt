@@ -113,19 +113,6 @@ returns-2 c =
     sym (l .inv .1 ∙ rw e (some-over (isLeast (now (a .least)) (now (a .greatest)) (a .neighbours)) (a .neighbours .cells) (a .neighbours .count)))
 
 pub has-least-spec : {M : Type 1} → statement M
-has-least-spec =
-    tie.close
-    (tie.spec
-    Inv-loop
-    μ-loop
-    loop-holds
-    mul-one
-    array-read-one
-    mul-if1
-    element-copy-out-if1
-    is-below-others-requires
-    returns
-    add-i
-    loop-less
-    loop-again
+has-least-spec = tie.close (tie.spec
+    Inv-loop μ-loop loop-holds mul-one array-read-one mul-if1 element-copy-out-if1 is-below-others-requires returns add-i loop-less loop-again
     returns-2)

@@ -93,19 +93,6 @@ returns-2 c =
     sym (l .inv .1 ∙ rw e (some-over (isWindowAt (now (a .cells))) (a .neighbours .cells) (a .neighbours .count)))
 
 pub has-window-spec : {M : Type 1} → statement M
-has-window-spec =
-    tie.close
-    (tie.spec
-    Inv-loop
-    μ-loop
-    loop-holds
-    mul-is-portal
-    array-read-is-portal
-    mul-is-portal-2
-    element-copy-out-is-portal
-    is-portal-requires
-    returns
-    add-i
-    loop-less
-    loop-again
-    returns-2)
+has-window-spec = tie.close (tie.spec
+    Inv-loop μ-loop loop-holds mul-is-portal array-read-is-portal mul-is-portal-2 element-copy-out-is-portal is-portal-requires returns add-i
+    loop-less loop-again returns-2)

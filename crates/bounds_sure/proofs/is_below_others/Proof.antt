@@ -110,20 +110,6 @@ returns-2 c =
     sym (l .inv .1 ∙ rw e (every-over (isAbove (now (a .least)) (now (a .greatest)) (a .one)) (a .neighbours .cells) (a .neighbours .count)))
 
 pub is-below-others-spec : {M : Type 1} → statement M
-is-below-others-spec =
-    tie.close
-    (tie.spec
-    Inv-loop
-    μ-loop
-    mul-most
-    element-copy-out-most
-    loop-holds
-    mul-other
-    array-read-other
-    mul-if2
-    element-copy-out-if2
-    returns
-    add-i
-    loop-less
-    loop-again
-    returns-2)
+is-below-others-spec = tie.close (tie.spec
+    Inv-loop μ-loop mul-most element-copy-out-most loop-holds mul-other array-read-other mul-if2 element-copy-out-if2 returns add-i loop-less
+    loop-again returns-2)

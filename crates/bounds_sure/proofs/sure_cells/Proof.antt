@@ -47,15 +47,4 @@ returns c window portals =
     filled-all 100 _ (l .sure) (rw e at (l .inv .1 window portals))
 
 pub sure-cells-spec : {M : Type 1} → statement M
-sure-cells-spec =
-    tie.close
-    (tie.spec
-    Inv-loop
-    μ-loop
-    loop-holds
-    is-sure-requires
-    array-write-sure
-    add-i
-    loop-less
-    loop-again
-    returns)
+sure-cells-spec = tie.close (tie.spec Inv-loop μ-loop loop-holds is-sure-requires array-write-sure add-i loop-less loop-again returns)

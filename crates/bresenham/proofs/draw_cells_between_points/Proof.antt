@@ -89,16 +89,5 @@ returns-4 c =
     is-line (steep-back (source m) (target m) (tall (p .before)) (p .if3 .left)) (c .walk4 .ensures)
 
 pub draw-cells-between-points-spec : {M : Type 1} → statement M
-draw-cells-between-points-spec =
-    tie.close
-    (tie.spec
-    (λ c κs. search needs)
-    (λ c κs. search needs)
-    walk-requires
-    returns
-    walk-requires-2
-    returns-2
-    walk-requires-3
-    returns-3
-    walk-requires-4
-    returns-4)
+draw-cells-between-points-spec = tie.close (tie.spec
+    (λ c κs. search needs) (λ c κs. search needs) walk-requires returns walk-requires-2 returns-2 walk-requires-3 returns-3 walk-requires-4 returns-4)

@@ -71,12 +71,5 @@ returns-2 c =
     (c .answered-line .ensures ∙ cells ∙ sym (accepted (source p) (target p) (line (source p) (target p)) (within p)))
 
 pub get-cells-between-points-spec : {M : Type 1} → statement M
-get-cells-between-points-spec =
-    tie.close
-    (tie.spec
-    (λ c κs. search needs)
-    (λ c κs. search needs)
-    returns
-    draw-requires
-    answered-line-requires
-    returns-2)
+get-cells-between-points-spec = tie.close (tie.spec
+    (λ c κs. search needs) (λ c κs. search needs) returns draw-requires answered-line-requires returns-2)

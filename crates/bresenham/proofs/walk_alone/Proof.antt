@@ -96,16 +96,6 @@ returns-3 c =
     c .answered-line .ensures ∙ drawn-answer (d .walk .ensures) inside-all ∙ sym (accepted (source m) (target m) (cells m) (within i))
 
 pub walk-alone-spec : {M : Type 1} → statement M
-walk-alone-spec =
-    tie.close
-    (tie.spec
-    (λ c κs. search needs)
-    (λ c κs. search needs)
-    (λ c κs. search needs)
-    (λ c κs. search needs)
-    returns
-    (λ c κs. search needs)
-    returns-2
-    walk-requires
-    answered-line-requires
-    returns-3)
+walk-alone-spec = tie.close (tie.spec
+    (λ c κs. search needs) (λ c κs. search needs) (λ c κs. search needs) (λ c κs. search needs) returns (λ c κs. search needs) returns-2 walk-requires
+    answered-line-requires returns-3)

@@ -42,15 +42,4 @@ returns-9 c =
     ∙ dir-mask byte
 
 pub get-compass-dir-from-bits-spec : {M : Type 1} → statement M
-get-compass-dir-from-bits-spec =
-    tie.close
-    (tie.spec
-    returns
-    returns-2
-    returns-3
-    returns-4
-    returns-5
-    returns-6
-    returns-7
-    returns-8
-    returns-9)
+get-compass-dir-from-bits-spec = tie.close (tie.spec returns returns-2 returns-3 returns-4 returns-5 returns-6 returns-7 returns-8 returns-9)

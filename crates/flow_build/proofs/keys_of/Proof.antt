@@ -58,18 +58,5 @@ returns c =
     filled-all 100 (keyAt (now (c .before .before .args .cells))) (l .keys) (rw e at (l .inv .1))
 
 pub keys-of-spec : {M : Type 1} → statement M
-keys-of-spec =
-    tie.close
-    (tie.spec
-    Inv-loop
-    μ-loop
-    loop-holds
-    mul-key-of
-    element-copy-out-key-of
-    key-of-requires
-    mul-keys
-    array-write-keys
-    add-i
-    loop-less
-    loop-again
-    returns)
+keys-of-spec = tie.close (tie.spec
+    Inv-loop μ-loop loop-holds mul-key-of element-copy-out-key-of key-of-requires mul-keys array-write-keys add-i loop-less loop-again returns)

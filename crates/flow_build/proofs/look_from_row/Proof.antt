@@ -43,14 +43,4 @@ returns c =
     on-to (now (a .cells)) (a .dir) (a .row * 10) (a .row * 10 + l .column) (a .row * 10 + 10) (omega arith) (l .inv .1)
 
 pub look-from-row-spec : {M : Type 1} → statement M
-look-from-row-spec =
-    tie.close
-    (tie.spec
-    Inv-loop
-    μ-loop
-    loop-holds
-    look-from-requires
-    add-column
-    loop-less
-    loop-again
-    returns)
+look-from-row-spec = tie.close (tie.spec Inv-loop μ-loop loop-holds look-from-requires add-column loop-less loop-again returns)

@@ -40,5 +40,4 @@ returns c =
     on-to (now (a .cells)) (a .dir) 0 (l .row * 10) 100 (omega arith) (l .inv .1)
 
 pub look-in-direction-spec : {M : Type 1} → statement M
-look-in-direction-spec =
-    tie.close (tie.spec Inv-loop μ-loop loop-holds look-from-row-requires add-row loop-less loop-again returns)
+look-in-direction-spec = tie.close (tie.spec Inv-loop μ-loop loop-holds look-from-row-requires add-row loop-less loop-again returns)

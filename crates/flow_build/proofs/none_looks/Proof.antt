@@ -44,5 +44,5 @@ returns : tie.Need-returns Inv-loop μ-loop
 returns c e k h = let l = c .before .loop in l .inv .1 e k (omega arith)
 
 pub none-looks-spec : {M : Type 1} → statement M
-none-looks-spec =
-    tie.close (tie.spec Inv-loop μ-loop loop-holds place-in (λ c κs. search needs) (λ c. search needs) (λ c. search needs) loop-again returns)
+none-looks-spec = tie.close (tie.spec
+    Inv-loop μ-loop loop-holds place-in (λ c κs. search needs) (λ c. search needs) (λ c. search needs) loop-again returns)

@@ -78,20 +78,6 @@ returns c =
     fill-all (rule (now (a .best)) (now (a .bits)) (now (a .sheet))) (now (a .sheet)) 100 (l .sheet) (s .pre) (rw e at (l .inv .1))
 
 pub point-cells-spec : {M : Type 1} → statement M
-point-cells-spec =
-    tie.close
-    (tie.spec
-    Inv-loop
-    μ-loop
-    loop-holds
-    slice-read-byte-after
-    mul-byte-after
-    element-copy-out-byte-after
-    element-copy-out-byte-after-2
-    byte-after-requires
-    slice-write-sheet
-    add-i
-    loop-less
-    loop-again
-    same-length
-    returns)
+point-cells-spec = tie.close (tie.spec
+    Inv-loop μ-loop loop-holds slice-read-byte-after mul-byte-after element-copy-out-byte-after element-copy-out-byte-after-2 byte-after-requires
+    slice-write-sheet add-i loop-less loop-again same-length returns)

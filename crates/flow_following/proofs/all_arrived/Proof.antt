@@ -30,16 +30,5 @@ returns : tie.Need-returns Inv-loop μ-loop
 returns c e x h = let l = c .before .loop in l .inv .1 e x (omega arith)
 
 pub all-arrived-spec : {M : Type 1} → statement M
-all-arrived-spec =
-    tie.close
-    (tie.spec
-    Inv-loop
-    μ-loop
-    (λ c. omega arith)
-    loop-holds
-    (λ c. omega arith)
-    (λ c. omega arith)
-    (λ c. omega arith)
-    (λ c. omega arith)
-    loop-again
-    returns)
+all-arrived-spec = tie.close (tie.spec
+    Inv-loop μ-loop (λ c. omega arith) loop-holds (λ c. omega arith) (λ c. omega arith) (λ c. omega arith) (λ c. omega arith) loop-again returns)

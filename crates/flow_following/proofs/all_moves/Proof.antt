@@ -76,19 +76,6 @@ returns-2 c =
     told-all (sheet t) (made t) (trails t) (are-made t) (λ x h. inr (omega (arith, c .before .before .loop-test .left))) (c .all-told2 .ensures)
 
 pub all-moves-spec : {M : Type 1} → statement M
-all-moves-spec =
-    tie.close
-    (tie.spec
-    Inv-loop
-    μ-loop
-    (λ c κs. c .before .pre)
-    loop-holds
-    all-arrived-requires
-    (λ c κs. search needs)
-    returns
-    doubled-requires
-    add-made
-    loop-less
-    loop-again
-    (λ c κs. search needs)
-    returns-2)
+all-moves-spec = tie.close (tie.spec
+    Inv-loop μ-loop (λ c κs. c .before .pre) loop-holds all-arrived-requires (λ c κs. search needs) returns doubled-requires add-made loop-less
+    loop-again (λ c κs. search needs) returns-2)

@@ -16,9 +16,4 @@ returns-2 : tie.Need-returns-2
 returns-2 c = accepts (now (c .before .before .before .args .sheet)) _ (c .before .if1 .left) (c .all-moves .ensures)
 
 pub arrivals-spec : {M : Type 1} → statement M
-arrivals-spec =
-    tie.close
-    (tie.spec
-    returns
-    all-moves-requires
-    returns-2)
+arrivals-spec = tie.close (tie.spec returns all-moves-requires returns-2)

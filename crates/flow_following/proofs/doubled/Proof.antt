@@ -72,22 +72,6 @@ returns c =
     filled-all 100 (doubledTrail (now (c .before .before .args .trails))) (l .further) (rw e at (l .inv .1))
 
 pub doubled-spec : {M : Type 1} → statement M
-doubled-spec =
-    tie.close
-    (tie.spec
-    Inv-loop
-    μ-loop
-    loop-holds
-    (λ c. omega arith)
-    (λ c. omega arith)
-    (λ c κs. search needs)
-    mul-on
-    element-copy-out-on
-    mul-further
-    add-further
-    (λ c. omega arith)
-    (λ c. omega arith)
-    (λ c. omega arith)
-    (λ c. omega arith)
-    loop-again
-    returns)
+doubled-spec = tie.close (tie.spec
+    Inv-loop μ-loop loop-holds (λ c. omega arith) (λ c. omega arith) (λ c κs. search needs) mul-on element-copy-out-on mul-further add-further
+    (λ c. omega arith) (λ c. omega arith) (λ c. omega arith) (λ c. omega arith) loop-again returns)

@@ -54,18 +54,6 @@ returns-3 : tie.Need-returns-3
 returns-3 c = sym (rw (not-there (asked c), leads-to c) (omega (arith, index c .0)))
 
 pub first-trail-spec : {M : Type 1} → statement M
-first-trail-spec =
-    tie.close
-    (tie.spec
-    (λ c. search needs)
-    (λ c κs. search needs)
-    returns
-    (λ c κs. search needs)
-    (λ c. search needs)
-    (λ c. search needs)
-    (λ c. search needs)
-    returns-2
-    (λ c κs. search needs)
-    cast-next
-    add-result-2
-    returns-3)
+first-trail-spec = tie.close (tie.spec
+    (λ c. search needs) (λ c κs. search needs) returns (λ c κs. search needs) (λ c. search needs) (λ c. search needs) (λ c. search needs) returns-2
+    (λ c κs. search needs) cast-next add-result-2 returns-3)

@@ -15,9 +15,4 @@ returns-2 : tie.Need-returns-2
 returns-2 c = sym (rw (le-ltb 99 (c .before .args .trail / 256) (omega arith)))
 
 pub told-moves-spec : {M : Type 1} → statement M
-told-moves-spec =
-    tie.close
-    (tie.spec
-    returns
-    (λ c. search needs)
-    returns-2)
+told-moves-spec = tie.close (tie.spec returns (λ c. search needs) returns-2)

@@ -69,9 +69,5 @@ returns-3 c =
 
 pub facing-bits-spec : {M : Type 1} → statement M
 facing-bits-spec = tie.close (tie.spec
-    (λ c κs. search needs) (λ c κs. search needs) (λ c κs. search needs)
-    returns
-    (λ c κs. search needs) (λ c κs. search needs)
-    add-result returns-2
-    (λ c κs. search needs) (λ c κs. search needs)
-    add-result-2 returns-3)
+    (λ c κs. search needs) (λ c κs. search needs) (λ c κs. search needs) returns (λ c κs. search needs) (λ c κs. search needs) add-result returns-2
+    (λ c κs. search needs) (λ c κs. search needs) add-result-2 returns-3)

@@ -16,6 +16,4 @@ returns c =
     c .low-bits .ensures ∙ ap (λ (k : ℕ). low (getD previous k 0)) (found .facing-cell .ensures)
 
 pub facing-value-spec : {M : Type 1} → statement M
-facing-value-spec = tie.close (tie.spec
-    (λ c κs. search needs) (λ c. search needs) (λ c. search needs) (λ c κs. search needs)
-    returns)
+facing-value-spec = tie.close (tie.spec (λ c κs. search needs) (λ c. search needs) (λ c. search needs) (λ c κs. search needs) returns)

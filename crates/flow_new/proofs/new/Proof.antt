@@ -90,12 +90,5 @@ returns-4 c =
 
 pub new-spec : {M : Type 1} → statement M
 new-spec = tie.close (tie.spec
-    returns
-    (λ c κs. search needs)
-    returns-2
-    (λ c κs. search needs)
-    returns-3
-    (λ c κs. search needs) (λ c κs. search needs)
-    new-cells-requires
-    (λ c. search needs)
-    returns-4)
+    returns (λ c κs. search needs) returns-2 (λ c κs. search needs) returns-3 (λ c κs. search needs) (λ c κs. search needs) new-cells-requires
+    (λ c. search needs) returns-4)

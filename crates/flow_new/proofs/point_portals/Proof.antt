@@ -72,8 +72,5 @@ returns c =
 
 pub point-portals-spec : {M : Type 1} → statement M
 point-portals-spec = tie.close (tie.spec
-    Inv-loop μ-loop loop-holds
-    (λ c. omega (arith, place c)) (λ c. place c)
-    slice-read-flags portal-direction-requires slice-write-sheet
-    (λ c. omega (arith, place (c .before .before))) (λ c. search needs)
-    loop-again same-length returns)
+    Inv-loop μ-loop loop-holds (λ c. omega (arith, place c)) (λ c. place c) slice-read-flags portal-direction-requires slice-write-sheet
+    (λ c. omega (arith, place (c .before .before))) (λ c. search needs) loop-again same-length returns)

@@ -38,7 +38,4 @@ returns-3 c =
 
 pub portal-direction-spec : {M : Type 1} → statement M
 portal-direction-spec = tie.close (tie.spec
-    (λ c κs. search needs)
-    returns
-    (λ c κs. search needs)
-    returns-2 optimise-portal-direction-requires returns-3)
+    (λ c κs. search needs) returns (λ c κs. search needs) returns-2 optimise-portal-direction-requires returns-3)

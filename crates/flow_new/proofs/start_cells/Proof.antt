@@ -53,10 +53,5 @@ returns c =
 
 pub start-cells-spec : {M : Type 1} → statement M
 start-cells-spec = tie.close (tie.spec
-    Inv-loop μ-loop loop-holds
-    (λ c. search needs) (λ c. search needs) (λ c κs. search needs)
-    slice-write-sheet
-    (λ c. search needs) (λ c. search needs)
-    loop-again
-    (λ c. c .before .loop .inv .1 .long)
-    returns)
+    Inv-loop μ-loop loop-holds (λ c. search needs) (λ c. search needs) (λ c κs. search needs) slice-write-sheet (λ c. search needs)
+    (λ c. search needs) loop-again (λ c. c .before .loop .inv .1 .long) returns)

@@ -40,6 +40,4 @@ returns c =
 
 pub clear-beyond-spec : {M : Type 1} → statement M
 clear-beyond-spec = tie.close (tie.spec
-    Inv-loop μ-loop loop-holds
-    (λ c. search needs) (λ c. search needs) (λ c. search needs) (λ c. search needs)
-    loop-again returns)
+    Inv-loop μ-loop loop-holds (λ c. search needs) (λ c. search needs) (λ c. search needs) (λ c. search needs) loop-again returns)

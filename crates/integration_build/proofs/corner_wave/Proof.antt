@@ -58,17 +58,5 @@ returns c =
     l .inv .1 ∙ ap (λ (k : ℕ). padded (take k (a .corners .now))) e
 
 pub corner-wave-spec : {M : Type 1} → statement M
-corner-wave-spec =
-    tie.close
-    (tie.spec
-    Inv-loop
-    μ-loop
-    loop-holds
-    mul-cells
-    element-copy-out-cells
-    cast-cells
-    array-write-cells
-    add-i
-    loop-less
-    loop-again
-    returns)
+corner-wave-spec = tie.close (tie.spec
+    Inv-loop μ-loop loop-holds mul-cells element-copy-out-cells cast-cells array-write-cells add-i loop-less loop-again returns)

@@ -58,16 +58,4 @@ returns-2 c =
     sym (l .inv .1 ∙ ap (λ (k : ℕ). allCells (slice k (a .count) (a .corners .now))) e ∙ corners-end (a .corners .now) (a .count))
 
 pub corners-inside-spec : {M : Type 1} → statement M
-corners-inside-spec =
-    tie.close
-    (tie.spec
-    Inv-loop
-    μ-loop
-    loop-holds
-    mul-if1
-    element-copy-out-if1
-    returns
-    add-i
-    loop-less
-    loop-again
-    returns-2)
+corners-inside-spec = tie.close (tie.spec Inv-loop μ-loop loop-holds mul-if1 element-copy-out-if1 returns add-i loop-less loop-again returns-2)

@@ -56,11 +56,5 @@ returns c =
     )
 
 pub offer-around-spec : {M : Type 1} → statement M
-offer-around-spec =
-    tie.close
-    (tie.spec
-    (λ c κs. c .before .before .pre)
-    offer-towards-requires-2
-    offer-towards-requires-3
-    offer-towards-requires-4
-    returns)
+offer-around-spec = tie.close (tie.spec
+    (λ c κs. c .before .before .pre) offer-towards-requires-2 offer-towards-requires-3 offer-towards-requires-4 returns)

@@ -64,9 +64,5 @@ returns-2 c =
 
 pub offer-towards-spec : {M : Type 1} → statement M
 offer-towards-spec = tie.close (tie.spec
-    (λ c κs. search needs) (λ c κs. near-made (c .from-index .ensures) (c .before .fits .from)) (λ c. search needs) (λ c. search needs)
-    returns
-    (λ c κs. (neighbour c, arrives c))
-    (λ c. index c .1)
-    (λ c κs. search needs) (λ c. search needs)
-    relax-requires returns-2)
+    (λ c κs. search needs) (λ c κs. near-made (c .from-index .ensures) (c .before .fits .from)) (λ c. search needs) (λ c. search needs) returns
+    (λ c κs. (neighbour c, arrives c)) (λ c. index c .1) (λ c κs. search needs) (λ c. search needs) relax-requires returns-2)

@@ -93,8 +93,5 @@ returns c =
 
 pub offer-wave-spec : {M : Type 1} → statement M
 offer-wave-spec = tie.close (tie.spec
-    Inv-loop μ-loop loop-holds element-copy-out-index-of
-    (λ c κs. search needs)
-    mul-low-bits element-copy-out-low-bits
-    (λ c κs. search needs)
+    Inv-loop μ-loop loop-holds element-copy-out-index-of (λ c κs. search needs) mul-low-bits element-copy-out-low-bits (λ c κs. search needs)
     offer-around-requires add-i loop-less loop-again returns)

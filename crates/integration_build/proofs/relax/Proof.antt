@@ -46,11 +46,5 @@ returns c =
 
 pub relax-spec : {M : Type 1} → statement M
 relax-spec = tie.close (tie.spec
-    (λ c. search needs) (λ c. search needs)
-    (λ c κs. search needs)
-    (λ c. search needs) (λ c. search needs) (λ c. search needs)
-    element-write-next
-    (λ c. search needs) (λ c. search needs)
-    (λ c κs. search needs)
-    (λ c. search needs)
-    add-result returns)
+    (λ c. search needs) (λ c. search needs) (λ c κs. search needs) (λ c. search needs) (λ c. search needs) (λ c. search needs) element-write-next
+    (λ c. search needs) (λ c. search needs) (λ c κs. search needs) (λ c. search needs) add-result returns)

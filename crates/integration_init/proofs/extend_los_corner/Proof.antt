@@ -87,8 +87,4 @@ returns c =
 
 pub extend-los-corner-spec : {M : Type 1} → statement M
 extend-los-corner-spec = tie.close (tie.spec
-    (λ c κs. search needs)
-    (λ c. search needs)
-    (λ c κs. search needs)
-    (λ c κs. search needs)
-    draw-requires mark-line-requires returns)
+    (λ c κs. search needs) (λ c. search needs) (λ c κs. search needs) (λ c κs. search needs) draw-requires mark-line-requires returns)

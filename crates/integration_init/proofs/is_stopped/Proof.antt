@@ -59,6 +59,5 @@ returns-2 c =
 
 pub is-stopped-spec : {M : Type 1} → statement M
 is-stopped-spec = tie.close (tie.spec
-    (λ c κs. search needs) returns (λ c κs. search needs) (λ c κs. search needs) mul-in-row add-in-row
-    mul-in-row-2 element-copy-out-in-row mul-in-column add-in-column mul-in-column-2 element-copy-out-in-column
-    (λ c κs. search needs) returns-2)
+    (λ c κs. search needs) returns (λ c κs. search needs) (λ c κs. search needs) mul-in-row add-in-row mul-in-row-2 element-copy-out-in-row
+    mul-in-column add-in-column mul-in-column-2 element-copy-out-in-column (λ c κs. search needs) returns-2)

@@ -38,7 +38,5 @@ returns-2 c = let s = c .before .before .before in let a = s .args in new-mark (
 
 pub mark-spec : {M : Type 1} → statement M
 mark-spec = tie.close (tie.spec
-    (λ c. search needs) (λ c. search needs) (λ c κs. search needs)
-    returns mul-corners element-write-corners
-    (λ c. search needs) (λ c. search needs) (λ c. search needs) (λ c. search needs)
-    add-result returns-2)
+    (λ c. search needs) (λ c. search needs) (λ c κs. search needs) returns mul-corners element-write-corners (λ c. search needs) (λ c. search needs)
+    (λ c. search needs) (λ c. search needs) add-result returns-2)

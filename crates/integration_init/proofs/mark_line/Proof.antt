@@ -79,11 +79,6 @@ loop-again c =
 
 pub mark-line-spec : {M : Type 1} → statement M
 mark-line-spec = tie.close (tie.spec
-    Inv-loop μ-loop
-    (λ c. search needs)
-    loop-holds
-    (λ c. search needs) (λ c. search needs)
-    is-stopped-requires returns mark-requires
-    (λ c. omega (arith, low (round c))) (λ c. omega (arith, turn (round c), few (round c))) (λ c. omega (arith, turn (round c)))
-    loop-again
+    Inv-loop μ-loop (λ c. search needs) loop-holds (λ c. search needs) (λ c. search needs) is-stopped-requires returns mark-requires
+    (λ c. omega (arith, low (round c))) (λ c. omega (arith, turn (round c), few (round c))) (λ c. omega (arith, turn (round c))) loop-again
     (λ c. walk-ends (c .before .loop .inv) (c .loop-test .left)))

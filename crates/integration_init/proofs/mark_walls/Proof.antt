@@ -38,6 +38,5 @@ returns c = let s = c .before .before .before in let l = c .before .loop in
 
 pub mark-walls-spec : {M : Type 1} → statement M
 mark-walls-spec = tie.close (tie.spec
-    Inv-loop μ-loop loop-holds shared-slice-read-wall-or
-    (λ c κs. search needs) (λ c. search needs) (λ c. search needs) (λ c. search needs) (λ c. search needs)
-    loop-again returns)
+    Inv-loop μ-loop loop-holds shared-slice-read-wall-or (λ c κs. search needs) (λ c. search needs) (λ c. search needs) (λ c. search needs)
+    (λ c. search needs) loop-again returns)

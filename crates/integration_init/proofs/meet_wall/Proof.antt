@@ -41,6 +41,4 @@ returns c =
     (applied-then (s .pre .0) (tried s (first .lower-side .result)) (once .try-side .ensures) (tried s (second .inverse .result)) (c .try-side2 .ensures))
 
 pub meet-wall-spec : {M : Type 1} → statement M
-meet-wall-spec = tie.close (tie.spec
-    (λ c κs. search needs) (λ c κs. search needs) (λ c κs. search needs)
-    try-side-requires-2 returns)
+meet-wall-spec = tie.close (tie.spec (λ c κs. search needs) (λ c κs. search needs) (λ c κs. search needs) try-side-requires-2 returns)

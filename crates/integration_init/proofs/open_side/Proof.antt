@@ -44,7 +44,5 @@ returns-3 c = rw (arrives (c .before .before .before), ← index (c .before .bef
 
 pub open-side-spec : {M : Type 1} → statement M
 open-side-spec = tie.close (tie.spec
-    (λ c κs. search needs) (λ c κs. near-made (c .from-index .ensures) (c .before .fits .from)) (λ c. search needs) (λ c. search needs)
-    returns
-    (λ c κs. search needs)
-    is-wall-at-requires returns-2 returns-3)
+    (λ c κs. search needs) (λ c κs. near-made (c .from-index .ensures) (c .before .fits .from)) (λ c. search needs) (λ c. search needs) returns
+    (λ c κs. search needs) is-wall-at-requires returns-2 returns-3)

@@ -81,8 +81,4 @@ returns c =
 
 pub spread-around-spec : {M : Type 1} → statement M
 spread-around-spec = tie.close (tie.spec
-    Inv-loop μ-loop loop-holds
-    (λ c κs. search needs)
-    spread-towards-requires
-    (λ c. search needs) (λ c. search needs)
-    loop-again returns)
+    Inv-loop μ-loop loop-holds (λ c κs. search needs) spread-towards-requires (λ c. search needs) (λ c. search needs) loop-again returns)

@@ -84,10 +84,5 @@ returns-3 c =
 
 pub spread-to-spec : {M : Type 1} → statement M
 spread-to-spec = tie.close (tie.spec
-    (λ c. search needs) (λ c. search needs) (λ c κs. search needs)
-    returns
-    (λ c κs. search needs)
-    meet-wall-requires returns-2
-    (λ c. search needs) (λ c. search needs) (λ c. search needs)
-    (λ c. omega (arith, room c)) (λ c. omega (arith, room c)) (λ c. omega (arith, room c))
-    returns-3)
+    (λ c. search needs) (λ c. search needs) (λ c κs. search needs) returns (λ c κs. search needs) meet-wall-requires returns-2 (λ c. search needs)
+    (λ c. search needs) (λ c. search needs) (λ c. omega (arith, room c)) (λ c. omega (arith, room c)) (λ c. omega (arith, room c)) returns-3)

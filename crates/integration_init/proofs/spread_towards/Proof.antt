@@ -48,7 +48,5 @@ returns-2 c =
 
 pub spread-towards-spec : {M : Type 1} → statement M
 spread-towards-spec = tie.close (tie.spec
-    (λ c κs. search needs) (λ c κs. near-made (c .from-index .ensures) (c .before .fits .from)) (λ c. search needs) (λ c. search needs)
-    returns
-    (λ c κs. (c .before .neighbour .given .0 .0, arrives c))
-    spread-to-requires returns-2)
+    (λ c κs. search needs) (λ c κs. near-made (c .from-index .ensures) (c .before .fits .from)) (λ c. search needs) (λ c. search needs) returns
+    (λ c κs. (c .before .neighbour .given .0 .0, arrives c)) spread-to-requires returns-2)

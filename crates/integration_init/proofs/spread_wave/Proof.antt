@@ -93,8 +93,5 @@ returns c =
 
 pub spread-wave-spec : {M : Type 1} → statement M
 spread-wave-spec = tie.close (tie.spec
-    Inv-loop μ-loop loop-holds
-    (λ c. search needs) (λ c κs. search needs)
-    spread-around-requires
-    (λ c. search needs) (λ c. search needs)
-    loop-again returns)
+    Inv-loop μ-loop loop-holds (λ c. search needs) (λ c κs. search needs) spread-around-requires (λ c. search needs) (λ c. search needs) loop-again
+    returns)

@@ -71,11 +71,6 @@ returns c =
 
 pub start-at-spec : {M : Type 1} → statement M
 start-at-spec = tie.close (tie.spec
-    Inv-loop μ-loop
-    (λ c κs. search needs)
-    loop-holds
-    (λ c. omega (arith, place c)) (λ c. omega (arith, place c))
-    (λ c. omega (arith, inside (c .before))) (λ c. omega (arith, inside (c .before)))
-    (λ c. omega (arith, place (c .before))) (λ c. omega (arith, place (c .before))) (λ c. omega (arith, place (c .before)))
-    (λ c. search needs)
-    loop-again returns)
+    Inv-loop μ-loop (λ c κs. search needs) loop-holds (λ c. omega (arith, place c)) (λ c. omega (arith, place c))
+    (λ c. omega (arith, inside (c .before))) (λ c. omega (arith, inside (c .before))) (λ c. omega (arith, place (c .before)))
+    (λ c. omega (arith, place (c .before))) (λ c. omega (arith, place (c .before))) (λ c. search needs) loop-again returns)

@@ -34,5 +34,4 @@ returns c =
 
 pub start-from-spec : {M : Type 1} → statement M
 start-from-spec = tie.close (tie.spec
-    (λ c κs. search needs) (λ c. search needs) (λ c. search needs) (λ c. search needs) (λ c. search needs)
-    spread-sight-requires returns)
+    (λ c κs. search needs) (λ c. search needs) (λ c. search needs) (λ c. search needs) (λ c. search needs) spread-sight-requires returns)

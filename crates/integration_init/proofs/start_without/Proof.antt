@@ -18,5 +18,4 @@ returns c =
     ap (λ (cells : List ℕ). withCorners (set cells goal 0x20000) (goal ∷ [])) (c .mark-walls .ensures)
 
 pub start-without-spec : {M : Type 1} → statement M
-start-without-spec = tie.close (tie.spec
-    (λ c κs. search needs) (λ c. search needs) (λ c. search needs) (λ c. search needs) returns)
+start-without-spec = tie.close (tie.spec (λ c κs. search needs) (λ c. search needs) (λ c. search needs) (λ c. search needs) returns)

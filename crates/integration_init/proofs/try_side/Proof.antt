@@ -79,9 +79,5 @@ returns-3 c =
 
 pub try-side-spec : {M : Type 1} → statement M
 try-side-spec = tie.close (tie.spec
-    (λ c κs. search needs) (λ c. search needs) (λ c. search needs)
-    returns
-    (λ c κs. search needs) (λ c. search needs) (λ c. search needs)
-    returns-2
-    (λ c κs. search needs)
-    extend-los-corner-requires returns-3)
+    (λ c κs. search needs) (λ c. search needs) (λ c. search needs) returns (λ c κs. search needs) (λ c. search needs) (λ c. search needs) returns-2
+    (λ c κs. search needs) extend-los-corner-requires returns-3)

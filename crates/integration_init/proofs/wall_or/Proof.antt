@@ -12,6 +12,4 @@ returns-2 : tie.Need-returns-2
 returns-2 c = rw (ne-eqb _ _ (c .if1 .left))
 
 pub wall-or-spec : {M : Type 1} → statement M
-wall-or-spec = tie.close (tie.spec
-    (λ c. search needs)
-    returns returns-2)
+wall-or-spec = tie.close (tie.spec (λ c. search needs) returns returns-2)

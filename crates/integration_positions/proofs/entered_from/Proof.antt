@@ -71,21 +71,6 @@ returns c =
     filled-all 100 (rule (now (a .costs)) (now (a .before)) (now (a .built))) (l .entered) (rw e at (l .inv .1))
 
 pub entered-from-spec : {M : Type 1} → statement M
-entered-from-spec =
-    tie.close
-    (tie.spec
-    Inv-loop
-    μ-loop
-    loop-holds
-    shared-slice-read-entered-at
-    mul-entered-at
-    element-copy-out-entered-at
-    mul-entered-at-2
-    element-copy-out-entered-at-2
-    entered-at-requires
-    mul-entered
-    array-write-entered
-    add-i
-    loop-less
-    loop-again
-    returns)
+entered-from-spec = tie.close (tie.spec
+    Inv-loop μ-loop loop-holds shared-slice-read-entered-at mul-entered-at element-copy-out-entered-at mul-entered-at-2 element-copy-out-entered-at-2
+    entered-at-requires mul-entered array-write-entered add-i loop-less loop-again returns)

@@ -159,20 +159,6 @@ returns c =
     )
 
 pub flood-spec : {M : Type 1} → statement M
-flood-spec =
-    tie.close
-    (tie.spec
-    Inv-loop
-    μ-loop
-    loop-holds
-    element-copy-out-index-of
-    (λ c κs. search needs)
-    mul-low-bits
-    element-copy-out-low-bits
-    (λ c κs. search needs)
-    element-write-positions
-    place-around-requires
-    add-i
-    loop-less
-    loop-again
-    returns)
+flood-spec = tie.close (tie.spec
+    Inv-loop μ-loop loop-holds element-copy-out-index-of (λ c κs. search needs) mul-low-bits element-copy-out-low-bits (λ c κs. search needs)
+    element-write-positions place-around-requires add-i loop-less loop-again returns)

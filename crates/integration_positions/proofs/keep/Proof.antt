@@ -57,18 +57,6 @@ returns c =
     filled-all 100 (rule (now (a .before)) (now (a .positions))) (l .left) (rw e at (l .inv .1))
 
 pub keep-spec : {M : Type 1} → statement M
-keep-spec =
-    tie.close
-    (tie.spec
-    Inv-loop
-    μ-loop
-    loop-holds
-    mul-kept
-    element-copy-out-kept
-    element-copy-out-kept-2
-    (λ c κs. search needs)
-    array-write-left
-    add-i
-    loop-less
-    loop-again
-    returns)
+keep-spec = tie.close (tie.spec
+    Inv-loop μ-loop loop-holds mul-kept element-copy-out-kept element-copy-out-kept-2 (λ c κs. search needs) array-write-left add-i loop-less
+    loop-again returns)

@@ -55,11 +55,4 @@ returns c values p s small m =
     c .place-towards4 .ensures values p _ small (south .place-towards3 .ensures values p _ small two)
 
 pub place-around-spec : {M : Type 1} → statement M
-place-around-spec =
-    tie.close
-    (tie.spec
-    (λ c κs. search needs)
-    place-towards-requires-2
-    place-towards-requires-3
-    place-towards-requires-4
-    returns)
+place-around-spec = tie.close (tie.spec (λ c κs. search needs) place-towards-requires-2 place-towards-requires-3 place-towards-requires-4 returns)

@@ -41,15 +41,6 @@ returns c values p s small m =
     (chosen .if1 .came)
 
 pub place-at-spec : {M : Type 1} → statement M
-place-at-spec =
-    tie.close
-    (tie.spec
-    (λ c. search needs)
-    (λ c. search needs)
-    (λ c. search needs)
-    (λ c. search needs)
-    (λ c κs. search needs)
-    element-write-queue
-    (λ c. search needs)
-    add-result
-    returns)
+place-at-spec = tie.close (tie.spec
+    (λ c. search needs) (λ c. search needs) (λ c. search needs) (λ c. search needs) (λ c κs. search needs) element-write-queue (λ c. search needs)
+    add-result returns)

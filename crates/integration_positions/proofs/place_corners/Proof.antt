@@ -104,17 +104,5 @@ returns c costs before f =
     decided costs before _ _ _ f _ (end .stands .room) (end .gone)
 
 pub place-corners-spec : {M : Type 1} → statement M
-place-corners-spec =
-    tie.close
-    (tie.spec
-    Inv-loop
-    μ-loop
-    loop-holds
-    mul-corner
-    element-copy-out-corner
-    narrow-requires
-    place-corner-requires
-    add-place
-    loop-less
-    loop-again
-    returns)
+place-corners-spec = tie.close (tie.spec
+    Inv-loop μ-loop loop-holds mul-corner element-copy-out-corner narrow-requires place-corner-requires add-place loop-less loop-again returns)

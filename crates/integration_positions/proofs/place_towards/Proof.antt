@@ -45,7 +45,5 @@ returns-2 c values p s small m =
 
 pub place-towards-spec : {M : Type 1} → statement M
 place-towards-spec = tie.close (tie.spec
-    (λ c κs. search needs) (λ c κs. near-made (c .from-index .ensures) (c .before .fits .from)) (λ c. search needs) (λ c. search needs)
-    returns
-    (λ c κs. (neighbour c, arrives c))
-    place-at-requires returns-2)
+    (λ c κs. search needs) (λ c κs. near-made (c .from-index .ensures) (c .before .fits .from)) (λ c. search needs) (λ c. search needs) returns
+    (λ c κs. (neighbour c, arrives c)) place-at-requires returns-2)

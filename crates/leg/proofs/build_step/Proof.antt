@@ -40,8 +40,6 @@ returns c =
 
 pub build-step-spec : {M : Type 1} → statement M
 build-step-spec = tie.close (tie.spec
-    (λ c. omega (arith, accepted-step _ (c .before .before .before .pre .0 .accepted) .bytes))
-    (λ c κs. search needs)
-    (λ c. omega (arith, on-floor c)) (λ c. omega (arith, on-floor c))
-    (λ c. search needs) (λ c. search needs) (λ c. omega (arith, on-floor c, start c .pre .0 .floor-full))
+    (λ c. omega (arith, accepted-step _ (c .before .before .before .pre .0 .accepted) .bytes)) (λ c κs. search needs) (λ c. omega (arith, on-floor c))
+    (λ c. omega (arith, on-floor c)) (λ c. search needs) (λ c. search needs) (λ c. omega (arith, on-floor c, start c .pre .0 .floor-full))
     build-target-requires returns)

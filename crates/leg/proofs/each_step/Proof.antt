@@ -76,20 +76,6 @@ returns-2 : tie.Need-returns-2 Inv-loop μ-loop
 returns-2 c = search (c .before .loop .inv .1, from-done)
 
 pub each-step-spec : {M : Type 1} → statement M
-each-step-spec =
-    tie.close
-    (tie.spec
-    Inv-loop
-    μ-loop
-    loop-holds
-    mul-at
-    add-floor-number
-    sub-floor-number
-    part-floor-number-start
-    part-floor-number-end
-    floor-number-requires
-    returns
-    add-k
-    loop-less
-    loop-again
-    returns-2)
+each-step-spec = tie.close (tie.spec
+    Inv-loop μ-loop loop-holds mul-at add-floor-number sub-floor-number part-floor-number-start part-floor-number-end floor-number-requires returns
+    add-k loop-less loop-again returns-2)

@@ -74,23 +74,6 @@ returns-2 : tie.Need-returns-2 Inv-loop μ-loop
 returns-2 c = search (c .before .loop .inv .1 .1, from-done)
 
 pub is-disconnected-spec : {M : Type 1} → statement M
-is-disconnected-spec =
-    tie.close
-    (tie.spec
-    Inv-loop
-    μ-loop
-    loop-holds
-    mul-at
-    sub-before
-    add-faces
-    shared-slice-read-faces
-    add-faces-2
-    shared-slice-read-faces-2
-    add-faces-3
-    shared-slice-read-faces-3
-    faces-requires
-    returns
-    add-k
-    loop-less
-    loop-again
-    returns-2)
+is-disconnected-spec = tie.close (tie.spec
+    Inv-loop μ-loop loop-holds mul-at sub-before add-faces shared-slice-read-faces add-faces-2 shared-slice-read-faces-2 add-faces-3
+    shared-slice-read-faces-3 faces-requires returns add-k loop-less loop-again returns-2)

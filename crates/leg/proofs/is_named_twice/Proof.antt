@@ -69,22 +69,6 @@ returns-2 : tie.Need-returns-2 Inv-loop μ-loop
 returns-2 c = search (c .before .loop .inv .1, from-done)
 
 pub is-named-twice-spec : {M : Type 1} → statement M
-is-named-twice-spec =
-    tie.close
-    (tie.spec
-    Inv-loop
-    μ-loop
-    loop-holds
-    mul-at
-    add-after
-    sub-is-named
-    part-is-named-start
-    part-is-named-end
-    add-is-named
-    shared-slice-read-is-named
-    is-named-requires
-    returns
-    add-k
-    loop-less
-    loop-again
-    returns-2)
+is-named-twice-spec = tie.close (tie.spec
+    Inv-loop μ-loop loop-holds mul-at add-after sub-is-named part-is-named-start part-is-named-end add-is-named shared-slice-read-is-named
+    is-named-requires returns add-k loop-less loop-again returns-2)

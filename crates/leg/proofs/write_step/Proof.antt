@@ -59,10 +59,6 @@ returns c =
 pub write-step-spec : {M : Type 1} → statement M
 write-step-spec = tie.close (tie.spec
     (λ c κs. search needs) (λ c κs. search needs) (λ c κs. search needs)
-    (λ c. omega (arith, accepted-step _ (given (c .before .before .before .before) .pre .0 .accepted) .bytes))
-    (λ c κs. search needs)
-    (λ c. omega (arith, on-floor c)) (λ c. omega (arith, on-floor c))
-    (λ c. search needs) (λ c. search needs) (λ c. omega (arith, on-floor (c .before), start (c .before) .pre .1))
-    write-requires
-    (λ c. search needs)
-    returns)
+    (λ c. omega (arith, accepted-step _ (given (c .before .before .before .before) .pre .0 .accepted) .bytes)) (λ c κs. search needs)
+    (λ c. omega (arith, on-floor c)) (λ c. omega (arith, on-floor c)) (λ c. search needs) (λ c. search needs)
+    (λ c. omega (arith, on-floor (c .before), start (c .before) .pre .1)) write-requires (λ c. search needs) returns)

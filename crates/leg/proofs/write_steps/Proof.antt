@@ -74,10 +74,5 @@ returns c =
 
 pub write-steps-spec : {M : Type 1} → statement M
 write-steps-spec = tie.close (tie.spec
-    Inv-loop μ-loop loop-holds
-    (λ c. omega arith) (λ c. omega arith) (λ c. omega arith) (λ c. omega arith) (λ c. omega arith)
-    write-step-requires
-    (λ c. omega arith) (λ c. omega arith)
-    loop-again
-    (λ c. omega arith)
-    returns)
+    Inv-loop μ-loop loop-holds (λ c. omega arith) (λ c. omega arith) (λ c. omega arith) (λ c. omega arith) (λ c. omega arith) write-step-requires
+    (λ c. omega arith) (λ c. omega arith) loop-again (λ c. omega arith) returns)

@@ -107,20 +107,6 @@ returns : tie.Need-returns Inv-loop μ-loop
 returns c = collected-all (c .before .loop .inv .1) (omega (arith, count-is (c .before .before .before)))
 
 pub counting-cells-spec : {M : Type 1} → statement M
-counting-cells-spec =
-    tie.close
-    (tie.spec
-    Inv-loop
-    μ-loop
-    get-all-window-cells-requires
-    loop-holds
-    mul-cell
-    array-read-cell
-    counts-requires
-    mul-cells
-    array-write-cells
-    add-count
-    add-place
-    loop-less
-    loop-again
-    returns)
+counting-cells-spec = tie.close (tie.spec
+    Inv-loop μ-loop get-all-window-cells-requires loop-holds mul-cell array-read-cell counts-requires mul-cells array-write-cells add-count add-place
+    loop-less loop-again returns)

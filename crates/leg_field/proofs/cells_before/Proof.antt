@@ -67,10 +67,5 @@ returns c =
 
 pub cells-before-spec : {M : Type 1} → statement M
 cells-before-spec = tie.close (tie.spec
-    Inv-loop μ-loop
-    (λ c. (omega arith, λ j q. absurd (omega arith)))
-    (λ c. omega arith) (λ c. omega arith) (λ c. omega arith) (λ c. omega arith) (λ c. omega arith)
-    (λ c κs. accepted (c .before))
-    build-step-requires
-    (λ c. omega arith) (λ c. omega arith)
-    loop-again returns)
+    Inv-loop μ-loop (λ c. (omega arith, λ j q. absurd (omega arith))) (λ c. omega arith) (λ c. omega arith) (λ c. omega arith) (λ c. omega arith)
+    (λ c. omega arith) (λ c κs. accepted (c .before)) build-step-requires (λ c. omega arith) (λ c. omega arith) loop-again returns)

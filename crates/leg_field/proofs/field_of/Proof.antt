@@ -49,9 +49,6 @@ returns c =
 
 pub field-of-spec : {M : Type 1} → statement M
 field-of-spec = tie.close (tie.spec
-    (λ c. omega (arith, accepted-step _ (c .before .before .before .pre .0 .accepted) .bytes))
-    (λ c κs. search needs)
-    (λ c. omega (arith, on-floor c)) (λ c. omega (arith, on-floor c))
-    (λ c. search needs) (λ c. search needs) (λ c. omega (arith, on-floor c, start c .pre .0 .floor-full))
-    (λ c κs. (hundred (c .before), start (c .before) .pre .1))
-    build-with-positions-requires returns)
+    (λ c. omega (arith, accepted-step _ (c .before .before .before .pre .0 .accepted) .bytes)) (λ c κs. search needs) (λ c. omega (arith, on-floor c))
+    (λ c. omega (arith, on-floor c)) (λ c. search needs) (λ c. search needs) (λ c. omega (arith, on-floor c, start c .pre .0 .floor-full))
+    (λ c κs. (hundred (c .before), start (c .before) .pre .1)) build-with-positions-requires returns)

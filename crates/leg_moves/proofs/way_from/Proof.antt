@@ -115,21 +115,6 @@ returns-2 c =
     c .stood-at2 .ensures ∙ sym (never-is (sheet at) (long-never (sheet at) (at .before .before .pre .1) all (l .inv .walk)))
 
 pub way-from-spec : {M : Type 1} → statement M
-way-from-spec =
-    tie.close
-    (tie.spec
-    Inv-loop
-    μ-loop
-    loop-holds
-    move-from-requires
-    enum-known-there
-    enum-told
-    byte-at-requires
-    still-outcome-requires
-    stood-at-requires
-    returns
-    add-moves
-    loop-less
-    loop-again
-    stood-at-requires-2
-    returns-2)
+way-from-spec = tie.close (tie.spec
+    Inv-loop μ-loop loop-holds move-from-requires enum-known-there enum-told byte-at-requires still-outcome-requires stood-at-requires returns
+    add-moves loop-less loop-again stood-at-requires-2 returns-2)

@@ -20,13 +20,5 @@ add-result c =
     omega (arith, c .index-of2 .ensures, known c .shared-slice-known .given 4, low-read c .index-of .ensures, known c .shared-slice-known .given 3)
 
 pub version-spec : {M : Type 1} → statement M
-version-spec =
-    tie.close
-    (tie.spec
-    (λ c. search needs)
-    (λ c κs. search needs)
-    (λ c. search needs)
-    (λ c κs. search needs)
-    mul-result
-    add-result
-    (λ c. search needs))
+version-spec = tie.close (tie.spec
+    (λ c. search needs) (λ c κs. search needs) (λ c. search needs) (λ c κs. search needs) mul-result add-result (λ c. search needs))

@@ -43,6 +43,5 @@ returns-3 c =
     promised _ _ _ (rw corner-out)
 
 pub check-los-corner-propagation-spec : {M : Type 1} → statement M
-check-los-corner-propagation-spec =
-    tie.close
-    (tie.spec (λ c κs. search needs) (λ c κs. search needs) corner-line-end-requires returns returns-2 returns-3)
+check-los-corner-propagation-spec = tie.close (tie.spec
+    (λ c κs. search needs) (λ c κs. search needs) corner-line-end-requires returns returns-2 returns-3)

@@ -19,5 +19,4 @@ unfolding lineEnd endBy
 returns-3 c = let rows = c .before in simp (ne-eqb _ _ (rows .before .before .if1 .left), ne-eqb _ _ (rows .if2 .left)) (c .slanted-end .ensures)
 
 pub corner-line-end-spec : {M : Type 1} → statement M
-corner-line-end-spec =
-    tie.close (tie.spec (λ c κs. search needs) returns (λ c κs. search needs) returns-2 (λ c κs. search needs) returns-3)
+corner-line-end-spec = tie.close (tie.spec (λ c κs. search needs) returns (λ c κs. search needs) returns-2 (λ c κs. search needs) returns-3)

@@ -79,6 +79,4 @@ returns-2 c =
     (sym (head .loop .inv .1 ∙ none-left (ends (a .rise) (a .span) (a .behind)) (a .columns - j) j _ (omega arith)), omega arith)
 
 pub first-leaving-spec : {M : Type 1} → statement M
-first-leaving-spec =
-    tie.close
-    (tie.spec Inv-loop μ-loop loop-holds add-k nearest-row-requires returns add-j loop-less loop-again returns-2)
+first-leaving-spec = tie.close (tie.spec Inv-loop μ-loop loop-holds add-k nearest-row-requires returns add-j loop-less loop-again returns-2)

@@ -32,5 +32,4 @@ unfolding nearest
 returns c = refl
 
 pub nearest-row-spec : {M : Type 1} → statement M
-nearest-row-spec =
-    tie.close (tie.spec mul-result mul-result-2 add-result (λ c. search needs) (λ c. search needs) (λ c. search needs) returns)
+nearest-row-spec = tie.close (tie.spec mul-result mul-result-2 add-result (λ c. search needs) (λ c. search needs) (λ c. search needs) returns)

@@ -37,6 +37,5 @@ returns c =
 
 pub read-ends-spec : {M : Type 1} → statement M
 read-ends-spec = tie.close (tie.spec
-    Inv-loop μ-loop
-    (λ c κs. search needs) loop-holds (λ c. search needs) (λ c. search needs) (λ c. search needs) (λ c. search needs) (λ c. search needs)
-    (λ c. search needs) loop-again returns)
+    Inv-loop μ-loop (λ c κs. search needs) loop-holds (λ c. search needs) (λ c. search needs) (λ c. search needs) (λ c. search needs)
+    (λ c. search needs) (λ c. search needs) loop-again returns)

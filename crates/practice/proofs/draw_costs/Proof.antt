@@ -59,18 +59,5 @@ returns c =
     cells-end (now (c .before .before .args .values)) (omega arith) (l .costs) (l .inv .1) (rw k at (l .inv .2))
 
 pub draw-costs-spec : {M : Type 1} → statement M
-draw-costs-spec =
-    tie.close
-    (tie.spec
-    Inv-loop
-    μ-loop
-    loop-holds
-    add-cost-of
-    mul-cost-of
-    element-copy-out-cost-of
-    cost-of-requires
-    array-write-costs
-    add-i
-    loop-less
-    loop-again
-    returns)
+draw-costs-spec = tie.close (tie.spec
+    Inv-loop μ-loop loop-holds add-cost-of mul-cost-of element-copy-out-cost-of cost-of-requires array-write-costs add-i loop-less loop-again returns)

@@ -57,17 +57,5 @@ returns c =
     sym (take-all 156 (l .values) (omega arith)) ∙ (rw k at (l .inv .3))
 
 pub values-of-spec : {M : Type 1} → statement M
-values-of-spec =
-    tie.close
-    (tie.spec
-    Inv-loop
-    μ-loop
-    array-write-values
-    loop-holds
-    next-value-requires
-    mul-values
-    array-write-values-2
-    add-n
-    loop-less
-    loop-again
-    returns)
+values-of-spec = tie.close (tie.spec
+    Inv-loop μ-loop array-write-values loop-holds next-value-requires mul-values array-write-values-2 add-n loop-less loop-again returns)

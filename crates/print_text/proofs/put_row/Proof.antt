@@ -79,23 +79,6 @@ returns c =
     rw (l .inv .2, k) (row-ended (now (a .out)) (now (a .cells)) (21 * a .row) (a .row))
 
 pub put-row-spec : {M : Type 1} → statement M
-put-row-spec =
-    tie.close
-    (tie.spec
-    Inv-loop
-    μ-loop
-    mul-start
-    mul-first
-    loop-holds
-    add-cell
-    element-copy-out-cell
-    mul-put-cell
-    add-put-cell
-    put-cell-requires
-    add-column
-    loop-less
-    loop-again
-    add-out
-    slice-write-out
-    same-length
-    returns)
+put-row-spec = tie.close (tie.spec
+    Inv-loop μ-loop mul-start mul-first loop-holds add-cell element-copy-out-cell mul-put-cell add-put-cell put-cell-requires add-column loop-less
+    loop-again add-out slice-write-out same-length returns)

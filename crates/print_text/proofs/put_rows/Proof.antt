@@ -54,15 +54,4 @@ returns c =
     l .inv .2 ∙ rw k
 
 pub put-rows-spec : {M : Type 1} → statement M
-put-rows-spec =
-    tie.close
-    (tie.spec
-    Inv-loop
-    μ-loop
-    loop-holds
-    put-row-requires
-    add-row
-    loop-less
-    loop-again
-    same-length
-    returns)
+put-rows-spec = tie.close (tie.spec Inv-loop μ-loop loop-holds put-row-requires add-row loop-less loop-again same-length returns)

@@ -59,23 +59,6 @@ returns-4 : tie.Need-returns-4 Inv-loop μ-loop
 returns-4 c = tt
 
 pub compare-spec : {M : Type 1} → statement M
-compare-spec =
-    tie.close
-    (tie.spec
-    Inv-loop
-    μ-loop
-    loop-holds
-    read-full-requires
-    same-length
-    returns
-    summed-requires
-    agrees-requires
-    add-agreed
-    loop-less
-    loop-again
-    same-length-2
-    returns-2
-    same-length-3
-    returns-3
-    same-length-4
-    returns-4)
+compare-spec = tie.close (tie.spec
+    Inv-loop μ-loop loop-holds read-full-requires same-length returns summed-requires agrees-requires add-agreed loop-less loop-again same-length-2
+    returns-2 same-length-3 returns-3 same-length-4 returns-4)

@@ -65,25 +65,6 @@ returns : tie.Need-returns Inv-loop μ-loop
 returns c = c .before .before .loop .inv .1
 
 pub field-of-spec : {M : Type 1} → statement M
-field-of-spec =
-    tie.close
-    (tie.spec
-    Inv-loop
-    μ-loop
-    loop-holds
-    mul-word-at
-    word-at-requires
-    mul-field
-    array-write-field
-    add-byte-at
-    byte-at-requires
-    array-write-positions
-    add-usize-at
-    usize-at-requires
-    mul-los-corners
-    array-write-los-corners
-    add-i
-    loop-less
-    loop-again
-    usize-at-requires-2
-    returns)
+field-of-spec = tie.close (tie.spec
+    Inv-loop μ-loop loop-holds mul-word-at word-at-requires mul-field array-write-field add-byte-at byte-at-requires array-write-positions
+    add-usize-at usize-at-requires mul-los-corners array-write-los-corners add-i loop-less loop-again usize-at-requires-2 returns)

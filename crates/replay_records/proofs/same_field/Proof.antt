@@ -93,30 +93,6 @@ returns-5 c =
     λ e. (counted .if1 .left ∙ counted .before .usize-at .ensures .0, rw k at (c .before .loop .inv .1))
 
 pub same-field-spec : {M : Type 1} → statement M
-same-field-spec =
-    tie.close
-    (tie.spec
-    Inv-loop
-    μ-loop
-    usize-at-requires
-    returns
-    loop-holds
-    array-read-if2
-    add-byte-at
-    byte-at-requires
-    returns-2
-    mul-if3
-    array-read-if3
-    add-usize-at
-    usize-at-requires-2
-    returns-3
-    mul-if4
-    array-read-if4
-    mul-word-at
-    add-word-at
-    word-at-requires
-    returns-4
-    add-i
-    loop-less
-    loop-again
-    returns-5)
+same-field-spec = tie.close (tie.spec
+    Inv-loop μ-loop usize-at-requires returns loop-holds array-read-if2 add-byte-at byte-at-requires returns-2 mul-if3 array-read-if3 add-usize-at
+    usize-at-requires-2 returns-3 mul-if4 array-read-if4 mul-word-at add-word-at word-at-requires returns-4 add-i loop-less loop-again returns-5)

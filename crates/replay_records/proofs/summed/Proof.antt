@@ -40,17 +40,4 @@ returns : tie.Need-returns Inv-loop μ-loop
 returns c = tt
 
 pub summed-spec : {M : Type 1} → statement M
-summed-spec =
-    tie.close
-    (tie.spec
-    Inv-loop
-    μ-loop
-    loop-holds
-    mul-sum
-    byte-at-requires
-    cast-sum
-    add-sum
-    add-i
-    loop-less
-    loop-again
-    returns)
+summed-spec = tie.close (tie.spec Inv-loop μ-loop loop-holds mul-sum byte-at-requires cast-sum add-sum add-i loop-less loop-again returns)

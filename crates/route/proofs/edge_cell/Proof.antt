@@ -63,10 +63,5 @@ returns c =
 
 pub edge-cell-spec : {M : Type 1} → statement M
 edge-cell-spec = tie.close (tie.spec
-    (λ c κs. search needs)
-    (λ c κs. search needs)
-    mul-first
-    (λ c κs. search needs)
-    mul-first-2 add-first
-    (λ c κs. search needs)
-    mul-result add-result returns)
+    (λ c κs. search needs) (λ c κs. search needs) mul-first (λ c κs. search needs) mul-first-2 add-first (λ c κs. search needs) mul-result add-result
+    returns)

@@ -52,15 +52,5 @@ returns c = let m = known c in rw (row-made m .read, column-made m .read, ← m 
 
 pub facing-cell-spec : {M : Type 1} → statement M
 facing-cell-spec = tie.close (tie.spec
-    (λ c κs. search needs)
-    (λ c. search needs)
-    (λ c. search needs)
-    (λ c. column-made (c .before .before) .fits)
-    (λ c. search needs)
-    (λ c. search needs)
-    (λ c. row-made (known c) .fits)
-    cast-result
-    (λ c. search needs)
-    cast-result-2
-    (λ c. search needs)
-    returns)
+    (λ c κs. search needs) (λ c. search needs) (λ c. search needs) (λ c. column-made (c .before .before) .fits) (λ c. search needs)
+    (λ c. search needs) (λ c. row-made (known c) .fits) cast-result (λ c. search needs) cast-result-2 (λ c. search needs) returns)

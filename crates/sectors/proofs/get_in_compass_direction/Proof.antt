@@ -108,12 +108,5 @@ returns-4 c =
 
 pub get-in-compass-direction-spec : {M : Type 1} → statement M
 get-in-compass-direction-spec = tie.close (tie.spec
-    returns
-    (λ c κs. search needs)
-    returns-2
-    (λ c κs. search needs)
-    (λ c. search needs)
-    (λ c. column-made (c .before .before) .fits)
-    (λ c. search needs)
-    (λ c. row-made (known c) .fits)
-    cast-t14 mul-t15 cast-t16 add-t17 returns-3 returns-4)
+    returns (λ c κs. search needs) returns-2 (λ c κs. search needs) (λ c. search needs) (λ c. column-made (c .before .before) .fits)
+    (λ c. search needs) (λ c. row-made (known c) .fits) cast-t14 mul-t15 cast-t16 add-t17 returns-3 returns-4)

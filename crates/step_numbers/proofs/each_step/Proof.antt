@@ -49,7 +49,4 @@ returns-7 c =
     search tests
 
 pub each-step-spec : {M : Type 1} → statement M
-each-step-spec = tie.close (tie.spec
-    returns returns-2 returns-3 returns-4
-    (λ c κs. search needs)
-    returns-5 returns-6 returns-7)
+each-step-spec = tie.close (tie.spec returns returns-2 returns-3 returns-4 (λ c κs. search needs) returns-5 returns-6 returns-7)

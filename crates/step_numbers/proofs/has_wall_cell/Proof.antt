@@ -81,17 +81,5 @@ returns-2 c =
     sym (l .inv .1 ∙ rw e (ap (someWallCost (now (s .args .costs))) (slice-empty (w .count) (w .cells))))
 
 pub has-wall-cell-spec : {M : Type 1} → statement M
-has-wall-cell-spec =
-    tie.close
-    (tie.spec
-    Inv-loop
-    μ-loop
-    loop-holds
-    mul-byte-at
-    array-read-byte-at
-    byte-at-requires
-    returns
-    add-i
-    loop-less
-    loop-again
-    returns-2)
+has-wall-cell-spec = tie.close (tie.spec
+    Inv-loop μ-loop loop-holds mul-byte-at array-read-byte-at byte-at-requires returns add-i loop-less loop-again returns-2)

@@ -81,10 +81,4 @@ returns-3 c =
 
 pub on-edge-spec : {M : Type 1} → statement M
 on-edge-spec = tie.close (tie.spec
-    (λ c κs. search needs)
-    returns
-    (λ c κs. search needs)
-    (λ c κs. search needs)
-    mul-result returns-2
-    (λ c κs. search needs)
-    mul-result-2 returns-3)
+    (λ c κs. search needs) returns (λ c κs. search needs) (λ c κs. search needs) mul-result returns-2 (λ c κs. search needs) mul-result-2 returns-3)

@@ -14,5 +14,4 @@ returns : tie.Need-returns
 returns c = c .number-with-target .ensures
 
 pub step-number-on-spec : {M : Type 1} → statement M
-step-number-on-spec =
-    tie.close (tie.spec (λ c κs. search needs) (λ c κs. search needs) number-with-target-requires returns)
+step-number-on-spec = tie.close (tie.spec (λ c κs. search needs) (λ c κs. search needs) number-with-target-requires returns)

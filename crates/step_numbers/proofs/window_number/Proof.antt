@@ -69,8 +69,4 @@ returns-7 c = search (tests, first-on (c .before .before .before), last-on (c .b
 
 pub window-number-spec : {M : Type 1} → statement M
 window-number-spec = tie.close (tie.spec
-    returns returns-2 returns-3
-    (λ c κs. search needs) (λ c κs. search needs)
-    returns-4
-    (λ c κs. search needs)
-    returns-5 returns-6 returns-7)
+    returns returns-2 returns-3 (λ c κs. search needs) (λ c κs. search needs) returns-4 (λ c κs. search needs) returns-5 returns-6 returns-7)

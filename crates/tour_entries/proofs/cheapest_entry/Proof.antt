@@ -36,6 +36,4 @@ returns c =
     c .before .loop .inv .1 ∙ ap (cheapestEntry (a .square .now) (a .window)) all
 
 pub cheapest-entry-spec : {M : Type 1} → statement M
-cheapest-entry-spec =
-    tie.close
-    (tie.spec Inv-loop μ-loop loop-holds enter-from-requires add-from loop-less loop-again returns)
+cheapest-entry-spec = tie.close (tie.spec Inv-loop μ-loop loop-holds enter-from-requires add-from loop-less loop-again returns)

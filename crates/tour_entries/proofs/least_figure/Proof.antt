@@ -52,15 +52,4 @@ returns c =
     omega arith
 
 pub least-figure-spec : {M : Type 1} → statement M
-least-figure-spec =
-    tie.close
-    (tie.spec
-    Inv-loop
-    μ-loop
-    loop-holds
-    cheapest-entry-requires
-    add-least
-    add-window
-    loop-less
-    loop-again
-    returns)
+least-figure-spec = tie.close (tie.spec Inv-loop μ-loop loop-holds cheapest-entry-requires add-least add-window loop-less loop-again returns)

@@ -40,6 +40,4 @@ returns : tie.Need-returns Inv-loop μ-loop
 returns c = c .before .loop .inv .1 ∙ ap factorial (all c)
 
 pub factorial-spec : {M : Type 1} → statement M
-factorial-spec =
-    tie.close
-    (tie.spec Inv-loop μ-loop loop-holds add-number mul-product loop-less loop-again returns)
+factorial-spec = tie.close (tie.spec Inv-loop μ-loop loop-holds add-number mul-product loop-less loop-again returns)

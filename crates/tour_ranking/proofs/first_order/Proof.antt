@@ -29,6 +29,5 @@ returns c =
     first-order-is (a .args .n) (a .pre .0) (a .pre .1) (l .order) (rw all at (l .inv .1))
 
 pub first-order-spec : {M : Type 1} → statement M
-first-order-spec =
-    tie.close
-    (tie.spec Inv-loop μ-loop loop-holds (λ c. omega arith) (λ c. omega arith) (λ c. omega arith) (λ c. omega arith) loop-again returns)
+first-order-spec = tie.close (tie.spec
+    Inv-loop μ-loop loop-holds (λ c. omega arith) (λ c. omega arith) (λ c. omega arith) (λ c. omega arith) loop-again returns)

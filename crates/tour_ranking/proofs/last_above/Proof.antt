@@ -32,18 +32,6 @@ returns-2 c =
     (l .inv .1, λ place a. omega (arith, a .later, l .inv .2 place a))
 
 pub last-above-spec : {M : Type 1} → statement M
-last-above-spec =
-    tie.close
-    (tie.spec
-    Inv-loop
-    μ-loop
-    (λ c. omega arith)
-    loop-holds
-    (λ c. omega arith)
-    (λ c. omega arith)
-    (λ c. omega arith)
-    returns
-    (λ c. omega arith)
-    (λ c. omega arith)
-    loop-again
-    returns-2)
+last-above-spec = tie.close (tie.spec
+    Inv-loop μ-loop (λ c. omega arith) loop-holds (λ c. omega arith) (λ c. omega arith) (λ c. omega arith) returns (λ c. omega arith)
+    (λ c. omega arith) loop-again returns-2)

@@ -32,18 +32,6 @@ returns-2 c =
     (l .inv .0, λ place r. absurd (omega (arith, r .some, l .inv .1 place r)))
 
 pub last-rise-spec : {M : Type 1} → statement M
-last-rise-spec =
-    tie.close
-    (tie.spec
-    Inv-loop
-    μ-loop
-    (λ c. omega arith)
-    loop-holds
-    (λ c. omega arith)
-    (λ c. omega arith)
-    (λ c. omega arith)
-    returns
-    (λ c. omega arith)
-    (λ c. omega arith)
-    loop-again
-    returns-2)
+last-rise-spec = tie.close (tie.spec
+    Inv-loop μ-loop (λ c. omega arith) loop-holds (λ c. omega arith) (λ c. omega arith) (λ c. omega arith) returns (λ c. omega arith)
+    (λ c. omega arith) loop-again returns-2)

@@ -39,6 +39,5 @@ returns c place h e =
     })
 
 pub next-order-spec : {M : Type 1} → statement M
-next-order-spec =
-    tie.close
-    (tie.spec (λ c κs. omega arith) last-above-requires exchange-requires add-reverse (λ c. omega arith) reverse-requires returns)
+next-order-spec = tie.close (tie.spec
+    (λ c κs. omega arith) last-above-requires exchange-requires add-reverse (λ c. omega arith) reverse-requires returns)

@@ -39,6 +39,4 @@ returns c =
     λ long. reversed-all _ _ (l .low) (l .high) _ (l .order) (l .inv .0) (l .inv .1 long) (omega arith)
 
 pub reverse-spec : {M : Type 1} → statement M
-reverse-spec =
-    tie.close
-    (tie.spec Inv-loop μ-loop loop-holds exchange-requires add-low (λ c. omega arith) (λ c. omega arith) loop-again returns)
+reverse-spec = tie.close (tie.spec Inv-loop μ-loop loop-holds exchange-requires add-low (λ c. omega arith) (λ c. omega arith) loop-again returns)

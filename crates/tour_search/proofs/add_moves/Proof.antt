@@ -83,20 +83,7 @@ returns c =
     (l .inv .last ∙ ap (λ (k : ℕ). weighed (a .square .now) (a .order .now) (k - 1)) all, rw all at (l .inv .kept))
 
 pub add-moves-spec : {M : Type 1} → statement M
-add-moves-spec =
-    tie.close
-    (tie.spec
-    Inv-loop
-    μ-loop
-    (λ c. omega (arith, c .pre .some))
-    (λ c. omega (arith, c .pre .square-held .few, c .pre .inside))
-    (λ c. omega (arith, c .pre .square-held .few, c .pre .some, c .pre .inside))
-    loop-holds
-    move-weight-requires
-    (λ c. omega (arith, sum-small c))
-    (λ c. omega (arith, inside c))
-    (λ c. omega (arith, inside c))
-    (λ c. omega (arith, inside c))
-    (λ c. omega arith)
-    loop-again
-    returns)
+add-moves-spec = tie.close (tie.spec
+    Inv-loop μ-loop (λ c. omega (arith, c .pre .some)) (λ c. omega (arith, c .pre .square-held .few, c .pre .inside))
+    (λ c. omega (arith, c .pre .square-held .few, c .pre .some, c .pre .inside)) loop-holds move-weight-requires (λ c. omega (arith, sum-small c))
+    (λ c. omega (arith, inside c)) (λ c. omega (arith, inside c)) (λ c. omega (arith, inside c)) (λ c. omega arith) loop-again returns)

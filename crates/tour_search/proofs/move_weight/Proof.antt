@@ -46,17 +46,6 @@ returns-2 c =
     rw (← from .index-of .ensures, ← to .index-of2 .ensures) (sym (weight-counts (cost to) (ne-eqb (cost to) 65535 (c .if1 .left))))
 
 pub move-weight-spec : {M : Type 1} → statement M
-move-weight-spec =
-    tie.close
-    (tie.spec
-    (λ c. search needs)
-    (λ c. search needs)
-    (λ c κs. search needs)
-    (λ c. search needs)
-    (λ c κs. search needs)
-    mul-cost
-    mul-cost-2
-    index-1-cost
-    index-2-cost
-    returns
-    returns-2)
+move-weight-spec = tie.close (tie.spec
+    (λ c. search needs) (λ c. search needs) (λ c κs. search needs) (λ c. search needs) (λ c κs. search needs) mul-cost mul-cost-2 index-1-cost
+    index-2-cost returns returns-2)

@@ -50,16 +50,4 @@ returns c =
     filled-all 8 (leastFrom (now (a .cells)) (stepsOf (now (a .steps)))) (m .loop .column) (rw e at (m .loop .inv .1))
 
 pub column-of-spec : {M : Type 1} → statement M
-column-of-spec =
-    tie.close
-    (tie.spec
-    Inv-loop
-    μ-loop
-    loop-holds
-    least-from-requires
-    mul-column
-    array-write-column
-    add-i
-    loop-less
-    loop-again
-    returns)
+column-of-spec = tie.close (tie.spec Inv-loop μ-loop loop-holds least-from-requires mul-column array-write-column add-i loop-less loop-again returns)

@@ -94,19 +94,6 @@ returns c =
     omega (arith, none, l .inv .1, l .inv .2)
 
 pub least-built-spec : {M : Type 1} → statement M
-least-built-spec =
-    tie.close
-    (tie.spec
-    Inv-loop
-    μ-loop
-    loop-holds
-    mul-place
-    array-read-place
-    mul-low-bits
-    element-copy-out-low-bits
-    low-bits-requires
-    smaller-requires
-    add-i
-    loop-less
-    loop-again
-    returns)
+least-built-spec = tie.close (tie.spec
+    Inv-loop μ-loop loop-holds mul-place array-read-place mul-low-bits element-copy-out-low-bits low-bits-requires smaller-requires add-i loop-less
+    loop-again returns)

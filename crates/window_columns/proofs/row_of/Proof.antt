@@ -53,19 +53,5 @@ returns c =
     filled-all 8 _ (l .row) (rw e at (l .inv .1))
 
 pub row-of-spec : {M : Type 1} → statement M
-row-of-spec =
-    tie.close
-    (tie.spec
-    Inv-loop
-    μ-loop
-    loop-holds
-    mul-row
-    mul-row-2
-    index-1-row
-    index-2-row
-    mul-row-3
-    array-write-row
-    add-j
-    loop-less
-    loop-again
-    returns)
+row-of-spec = tie.close (tie.spec
+    Inv-loop μ-loop loop-holds mul-row mul-row-2 index-1-row index-2-row mul-row-3 array-write-row add-j loop-less loop-again returns)

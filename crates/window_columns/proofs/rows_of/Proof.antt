@@ -47,17 +47,5 @@ returns c =
     filled-all 8 _ (l .rows) (rw e at (l .inv .1))
 
 pub rows-of-spec : {M : Type 1} → statement M
-rows-of-spec =
-    tie.close
-    (tie.spec
-    Inv-loop
-    μ-loop
-    loop-holds
-    mul-costs
-    array-copy-out-costs
-    mul-rows
-    array-set-from-rows
-    add-i
-    loop-less
-    loop-again
-    returns)
+rows-of-spec = tie.close (tie.spec
+    Inv-loop μ-loop loop-holds mul-costs array-copy-out-costs mul-rows array-set-from-rows add-i loop-less loop-again returns)

@@ -51,16 +51,4 @@ returns c =
     filled-all 8 (turned (c .before .before .args .columns)) (l .square) (rw e at (l .inv .1))
 
 pub square-of-spec : {M : Type 1} → statement M
-square-of-spec =
-    tie.close
-    (tie.spec
-    Inv-loop
-    μ-loop
-    loop-holds
-    row-of-requires
-    mul-square
-    array-set-from-square
-    add-i
-    loop-less
-    loop-again
-    returns)
+square-of-spec = tie.close (tie.spec Inv-loop μ-loop loop-holds row-of-requires mul-square array-set-from-square add-i loop-less loop-again returns)

@@ -55,17 +55,5 @@ returns c =
     c .square-of .ensures ∙ turned (now (a .costs)) (stepsOf (now (a .steps))) (l .columns) filled
 
 pub window-square-spec : {M : Type 1} → statement M
-window-square-spec =
-    tie.close
-    (tie.spec
-    Inv-loop
-    μ-loop
-    loop-holds
-    column-at-requires
-    mul-columns
-    array-set-from-columns
-    add-j
-    loop-less
-    loop-again
-    square-of-requires
-    returns)
+window-square-spec = tie.close (tie.spec
+    Inv-loop μ-loop loop-holds column-at-requires mul-columns array-set-from-columns add-j loop-less loop-again square-of-requires returns)

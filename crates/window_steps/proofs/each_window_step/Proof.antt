@@ -77,20 +77,6 @@ returns-2 : tie.Need-returns-2 Inv-loop μ-loop
 returns-2 c = search (c .before .loop .inv .1, from-done)
 
 pub each-window-step-spec : {M : Type 1} → statement M
-each-window-step-spec =
-    tie.close
-    (tie.spec
-    Inv-loop
-    μ-loop
-    loop-holds
-    mul-at
-    add-window-step-number
-    sub-window-step-number
-    part-window-step-number-start
-    part-window-step-number-end
-    window-step-number-requires
-    returns
-    add-k
-    loop-less
-    loop-again
-    returns-2)
+each-window-step-spec = tie.close (tie.spec
+    Inv-loop μ-loop loop-holds mul-at add-window-step-number sub-window-step-number part-window-step-number-start part-window-step-number-end
+    window-step-number-requires returns add-k loop-less loop-again returns-2)

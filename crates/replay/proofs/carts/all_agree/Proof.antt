@@ -42,18 +42,5 @@ returns-2 : tie.Need-returns-2 Inv-loop μ-loop
 returns-2 c = tt
 
 pub all-agree-spec : {M : Type 1} → statement M
-all-agree-spec =
-    tie.close
-    (tie.spec
-    Inv-loop
-    μ-loop
-    loop-holds
-    mul-first
-    add-part
-    part-requires
-    cart-agrees-requires
-    returns
-    add-k
-    loop-less
-    loop-again
-    returns-2)
+all-agree-spec = tie.close (tie.spec
+    Inv-loop μ-loop loop-holds mul-first add-part part-requires cart-agrees-requires returns add-k loop-less loop-again returns-2)

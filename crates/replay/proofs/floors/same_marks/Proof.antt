@@ -40,17 +40,5 @@ returns-2 : tie.Need-returns-2 Inv-loop μ-loop
 returns-2 c = tt
 
 pub same-marks-spec : {M : Type 1} → statement M
-same-marks-spec =
-    tie.close
-    (tie.spec
-    Inv-loop
-    μ-loop
-    loop-holds
-    array-read-if1
-    cast-if1
-    byte-at-requires
-    returns
-    add-i
-    loop-less
-    loop-again
-    returns-2)
+same-marks-spec = tie.close (tie.spec
+    Inv-loop μ-loop loop-holds array-read-if1 cast-if1 byte-at-requires returns add-i loop-less loop-again returns-2)

@@ -50,20 +50,6 @@ returns : tie.Need-returns Inv-loop μ-loop
 returns c = tt
 
 pub put-sectors-spec : {M : Type 1} → statement M
-put-sectors-spec =
-    tie.close
-    (tie.spec
-    Inv-loop
-    μ-loop
-    loop-holds
-    mul-first
-    add-last
-    mul-usize-at
-    usize-at-requires
-    part-requires
-    put-sector-requires
-    add-k
-    loop-less
-    loop-again
-    same-length
-    returns)
+put-sectors-spec = tie.close (tie.spec
+    Inv-loop μ-loop loop-holds mul-first add-last mul-usize-at usize-at-requires part-requires put-sector-requires add-k loop-less loop-again
+    same-length returns)

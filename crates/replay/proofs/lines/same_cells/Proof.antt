@@ -42,18 +42,5 @@ returns-2 : tie.Need-returns-2 Inv-loop μ-loop
 returns-2 c = tt
 
 pub same-cells-spec : {M : Type 1} → statement M
-same-cells-spec =
-    tie.close
-    (tie.spec
-    Inv-loop
-    μ-loop
-    loop-holds
-    mul-cell
-    array-copy-out-cell
-    as-1d-index-requires
-    usize-at-requires
-    returns
-    add-i
-    loop-less
-    loop-again
-    returns-2)
+same-cells-spec = tie.close (tie.spec
+    Inv-loop μ-loop loop-holds mul-cell array-copy-out-cell as-1d-index-requires usize-at-requires returns add-i loop-less loop-again returns-2)

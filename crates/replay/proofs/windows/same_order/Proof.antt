@@ -36,16 +36,4 @@ returns-2 : tie.Need-returns-2 Inv-loop μ-loop
 returns-2 c = tt
 
 pub same-order-spec : {M : Type 1} → statement M
-same-order-spec =
-    tie.close
-    (tie.spec
-    Inv-loop
-    μ-loop
-    loop-holds
-    array-read-if1
-    byte-at-requires
-    returns
-    add-i
-    loop-less
-    loop-again
-    returns-2)
+same-order-spec = tie.close (tie.spec Inv-loop μ-loop loop-holds array-read-if1 byte-at-requires returns add-i loop-less loop-again returns-2)

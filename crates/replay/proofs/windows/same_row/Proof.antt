@@ -42,18 +42,5 @@ returns-2 : tie.Need-returns-2 Inv-loop μ-loop
 returns-2 c = tt
 
 pub same-row-spec : {M : Type 1} → statement M
-same-row-spec =
-    tie.close
-    (tie.spec
-    Inv-loop
-    μ-loop
-    loop-holds
-    mul-if1
-    array-read-if1
-    mul-word-at
-    word-at-requires
-    returns
-    add-j
-    loop-less
-    loop-again
-    returns-2)
+same-row-spec = tie.close (tie.spec
+    Inv-loop μ-loop loop-holds mul-if1 array-read-if1 mul-word-at word-at-requires returns add-j loop-less loop-again returns-2)

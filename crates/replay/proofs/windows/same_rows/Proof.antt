@@ -51,21 +51,6 @@ returns-2 : tie.Need-returns-2 Inv-loop μ-loop
 returns-2 c = tt
 
 pub same-rows-spec : {M : Type 1} → statement M
-same-rows-spec =
-    tie.close
-    (tie.spec
-    Inv-loop
-    μ-loop
-    loop-holds
-    mul-row
-    array-copy-out-row
-    mul-part
-    mul-part-2
-    add-part
-    part-requires
-    same-row-requires
-    returns
-    add-i
-    loop-less
-    loop-again
-    returns-2)
+same-rows-spec = tie.close (tie.spec
+    Inv-loop μ-loop loop-holds mul-row array-copy-out-row mul-part mul-part-2 add-part part-requires same-row-requires returns add-i loop-less
+    loop-again returns-2)

@@ -52,13 +52,7 @@ returns c = collected-all (c .before .loop .inv .1) (omega (arith, c .before .be
 
 pub get-all-window-cells-spec : {M : Type 1} → statement M
 get-all-window-cells-spec = tie.close (tie.spec
-    Inv-loop μ-loop
-    (λ c κs. search needs)
-    (λ c. (omega arith, record { cells-are = refl; count-is = refl; at-most = omega arith }))
-    (λ c κs. omega (arith, measured c .edge-length .ensures))
-    (λ c κs. search needs)
-    (λ c. omega (arith, short (c .before .before .before)))
-    (λ c. omega (arith, short (c .before .before .before)))
-    (λ c. omega (arith, short (c .before .before .before)))
-    (λ c. omega arith) (λ c. omega arith)
-    loop-again returns)
+    Inv-loop μ-loop (λ c κs. search needs) (λ c. (omega arith, record { cells-are = refl; count-is = refl; at-most = omega arith }))
+    (λ c κs. omega (arith, measured c .edge-length .ensures)) (λ c κs. search needs) (λ c. omega (arith, short (c .before .before .before)))
+    (λ c. omega (arith, short (c .before .before .before))) (λ c. omega (arith, short (c .before .before .before))) (λ c. omega arith)
+    (λ c. omega arith) loop-again returns)
