@@ -2,7 +2,7 @@
 --     joined-length   m blocks of s
 --     joined-at       block i, place j
 --     map-at          a mapped list, at a place
---     within          block i of m, place j of s, lies below m occurrences s
+--     within          block i of m, place j of s, lies below m times s
 -- Assumes nothing.
 use mathlib.Core.Path.{_≡_, refl, _∙_}
 use mathlib.Core.List.{List, [], _∷_, _++_, map}

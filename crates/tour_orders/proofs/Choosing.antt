@@ -2,7 +2,7 @@
 --     orders-length    k numbers stand in factorial k orders
 --     unranked         the order at a place, by quotient and remainder
 --     placed           the order at a place: its first number, and the rest, an order of the others
---     same-occurrences       in an order of the numbers left each of them stands as often as among them
+--     same-occurrences    in an order of the numbers left each of them stands as often as among them
 --     complete         every such list is an order of them
 -- Assumes nothing.
 use mathlib.Core.Path.{_≡_, refl, sym, ap, _∙_}
