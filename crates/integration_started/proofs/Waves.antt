@@ -33,7 +33,8 @@ use Rattle.integration_started.proofs.Room.{room-begins, room-corners, 
 use Rattle.integration_started.proofs.Sides.{isSide}
 use Rattle.integration_started.proofs.Wave.{isMet, Sound, met, wave-keeps}
 use Rattle.integration_started.proofs.Before.{walls-length, Before, chosen, unchosen, wall-word, other-word, only-wall, fails}
-use Rattle.integration_started.proofs.FirstWave.{Never, Hides, goal-found, hides-even, First, first-keeps, first-meets, first-blocks}
+use Rattle.integration_started.proofs.FirstWave.{Never, Hides, goal-hidden, hides-even, First, first-keeps, first-blocks}
+use Rattle.integration_started.proofs.FirstMet.{first-meets}
 
 sound-begins : (goal : ℕ) (walls : ℕ → Bool) (s : Sight) → Sound goal walls s → Sound goal walls (begun s)
 sound-begins goal walls s p =
@@ -113,7 +114,7 @@ module _ (goal : ℕ) (goal-in : goal < 100) (costs : List ℕ) (hundred : lengt
     sight k = sightAfter cornerLine (walls costs) goal k
 
     abbrev Hiding : ℕ → Type 0
-    Hiding c = Hides goal goal-in wallsOf c
+    Hiding c = Hides goal wallsOf c
 
     -- cells that hide the goal are BLOCKED from the first wave on, and so are never queued
     abbrev Blocked : ℕ → Type 0
@@ -129,7 +130,7 @@ module _ (goal : ℕ) (goal-in : goal < 100) (costs : List ℕ) (hundred : lengt
       none-hiding : Each NotHiding (s .queue)
       stays : (c : ℕ) → c < 100 → Blocked c → isBlocked (getD (s .cells) c 0) ≡ true
 
-    start-first : First goal goal-in wallsOf cornerLine lines Never Never start
+    start-first : First goal wallsOf Never Never start
     start-first = record {
       sound = start-sound;
       met-least = one;
@@ -142,24 +143,17 @@ module _ (goal : ℕ) (goal-in : goal < 100) (costs : List ℕ) (hundred : lengt
     first-left : Left 1 (sight 1)
     unfolding sightAfter waveSpread
     first-left =
-        let p = kept-around (first-keeps goal goal-in wallsOf cornerLine lines Never Never) goal refl start start-first in
+        let p = kept-around (first-keeps goal wallsOf cornerLine lines Never Never) goal refl start start-first in
         record {
           sound = p .sound;
           met-queued = λ h. first-meets goal goal-in wallsOf cornerLine lines start start-first;
-          none-hiding = λ i h q. hides-even goal goal-in wallsOf _ q (p .all-next i h);
-          stays = λ c h q. first-blocks goal goal-in wallsOf cornerLine lines c h (q .0) (q .1) start start-first;
+          none-hiding = λ i h q. hides-even goal wallsOf _ q (p .all-next i h);
+          stays = λ c h q. first-blocks goal wallsOf cornerLine lines c h (q .0) (q .1) start start-first;
         }
 
     away : (from : ℕ) (d : CompassDir) (x : FieldCell) (side : CompassDir) (a b : FieldCell) → NotHiding from → isSide d ≡ true
         → Found wallsOf from d x side a b → indexOf b ≡ goal → ⊥
-    away from d x side a b f o g e = f (record {
-      way = d;
-      wall-cell = x;
-      side = side;
-      free-cell = a;
-      is-side = o;
-      found = goal-found goal goal-in wallsOf from d x side a b g e;
-    })
+    away from d x side a b not-hiding o f e = not-hiding (goal-hidden goal wallsOf from d x side a b o f e)
 
     next : (from : ℕ) (d : CompassDir) (n : FieldCell) → NotHiding from → isSide d ≡ true → stepped (cellAt from) d ≡ Cell n
         → wallsOf (indexOf n) ≡ false → (Blocked (indexOf n) → ⊥) → NotHiding (indexOf n)
