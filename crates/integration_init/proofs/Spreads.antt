@@ -2,6 +2,7 @@
 --     all-begins              the arrays without their queue
 --     wall-held               a wall met
 --     seen-room, seen-held    a cell that comes into sight
+--     Spreading               what holds in a loop that spreads sight place by place, with spread-on and spread-ends
 --     wave-step, wave-end     a wave, from the cell at place i on
 --     open-cell               a cell that is no wall is the cell stepped to
 -- Assumes nothing.
@@ -22,7 +23,8 @@ use Rattle.integration_field.specs.Word.{isLos, isBlocked}
 use Rattle.integration_field.specs.Diagonal.{wallAt}
 use Rattle.integration_started.specs.Sight.{Sight, sightWord, unlessWall, seen, spreadAround, waveSpread}
 use Rattle.integration_started.proofs.Room.{room-queue, room-seen, room-begins}
-use Rattle.integration_init.specs.Held.{sightOf, Ready, ReadyAll, HoldsAll, Applied}
+use Rattle.integration_init.specs.Held.{sightOf, Ready, ReadyAll, HoldsAll, Applied, Lent}
+use Rattle.integration_init.proofs.Held.{held-all, all-ready}
 
 module _ {cells corners : List ℕ} {count : ℕ} {queue : List ℕ} {queued : ℕ} (ready : ReadyAll cells corners count queue queued) where
   abbrev now : Sight
@@ -62,6 +64,32 @@ module _ {cells corners : List ℕ} {count : ℕ} {queue : List ℕ} {queued : �
           queue-held = rw add-one (take-suc-set queue queued n (omega (arith, ready .full)));
           queued-held = omega (arith, ready .queued-held);
         }
+
+-- Before place i of `last`: what is left from there on brings the arrays' sight to the whole. The ends of the goal's lines stay lent.
+module _ (whole : Sight) (rest : ℕ → Sight → Sight) (last goal : ℕ) (ends : List ℕ) where
+  pub record Spreading (cells corners : List ℕ) (count : ℕ) (queue : List ℕ) (queued i : ℕ) : Type 0 where
+    pub at : i ≤ last
+    pub ready : ReadyAll cells corners count queue queued
+    pub left : whole ≡ rest i (sightOf cells corners count (take queued queue))
+    pub lent : Lent goal ends cells
+
+module _ {whole : Sight} {rest : ℕ → Sight → Sight} {last goal : ℕ} {ends cells corners : List ℕ} {count : ℕ} {queue : List ℕ} {queued i : ℕ}
+    (p : Spreading whole rest last goal ends cells corners count queue queued i) where
+  pub spread-on : (t : Sight) {cells' corners' : List ℕ} {count' : ℕ} {queue' : List ℕ} {queued' : ℕ} → i < last
+      → rest i (sightOf cells corners count (take queued queue)) ≡ rest (i + 1) t → HoldsAll t cells' corners' count' queue' queued'
+      → Lent goal ends (t .cells) → Spreading whole rest last goal ends cells' corners' count' queue' queued' (i + 1)
+  spread-on t more step holds lent = record {
+    at = omega arith;
+    ready = all-ready holds;
+    left = p .left ∙ step ∙ ap (rest (i + 1)) (sym (held-all holds));
+    lent = rw (holds .held .cells-held) lent;
+  }
+
+  pub spread-ends : last ≤ i → ((s : Sight) → rest last s ≡ s) → HoldsAll whole cells corners count queue queued
+  spread-ends over none =
+      let s = sightOf cells corners count (take queued queue) in
+      let e : i ≡ last = omega (arith, p .at) in
+      rw (p .left ∙ ap (λ (k : ℕ). rest k s) e ∙ none s) (p .ready)
 
 module _ (line : ℕ → List ℕ) (wave : ℕ) (cells : List ℕ) (count : ℕ) where
   pub wave-step : (i : ℕ) (s : Sight) → i < count → count ≤ length cells

@@ -54,7 +54,8 @@ module _ (held : WindowCells) (w : WindowHeld held) where
   unfolding withPortals
   portal-end cells = ap (λ (l : List ℕ). withPortals l cells) (slice-empty count window)
 
-  pub portal-listed : (i : ℕ) (corners : List ℕ) → i < count → corners ≡ padded (take i window) → set corners i (getD window i 0) ≡ padded (take (i + 1) window)
+  pub portal-listed : (i : ℕ) (corners : List ℕ) → i < count → corners ≡ padded (take i window)
+      → set corners i (getD window i 0) ≡ padded (take (i + 1) window)
   portal-listed i corners h e =
       let long : length (take i window) ≡ i = length-take-le i window (omega (arith, w .full, w .count-in)) in
       ap₂ (λ (l : List ℕ) (k : ℕ). set l k (getD window i 0)) e (sym long)

@@ -16,11 +16,10 @@ use utilities::CompassDir;
 ghost use mathlib.Core.Path.{_≡_};
 ghost use mathlib.Core.Bool.{false, _||_};
 ghost use mathlib.Core.List.{List, []};
-ghost use Prim.Native.Nat.{ℕ, suc, _+_, _<_, _≤_};
+ghost use Prim.Native.Nat.{ℕ, suc, _+_, _<_};
 ghost use lib.ListN.{length, take};
 ghost use Rattle.utilities.specs.Compass.{orthogonal};
 ghost use Rattle.fields.specs.Cell.{cellAt, stepped};
-ghost use Rattle.integration_field.specs.Listed.{Indexes};
 ghost use Rattle.integration_field.specs.Promise.{ZeroField};
 ghost use Rattle.route.specs.Target.{targetOf};
 ghost use Rattle.integration_field.specs.Word.{isLos, isGoal, isBlocked};
@@ -34,6 +33,7 @@ ghost use Rattle.integration_started.specs.Sight.{spreadTo, spreadTowards, spre
 ghost use Rattle.integration_walks.specs.Promise.{OnceBuilt};
 ghost use Rattle.flow_arrows.specs.Promise.{OnceBuiltArrows};
 ghost use Rattle.integration_init.specs.Held.{sightOf, Holds, Ready, Applied, AppliedAll, HoldsAll, ReadyAll, NoWall, Lent, InWave};
+ghost use Rattle.integration_init.specs.Inner.{ToMark, ToMarkLine, AtWall, AtCell, AtWave, BeforeWave, AtGoal};
 
 // How many corners are listed, and how many cells the wave has queued.
 struct Lengths {
@@ -74,7 +74,7 @@ fn mark(
     n: usize,
     value: u32,
 ) -> usize
-    requires { ⌜ (Ready (now cells) (now corners) count) × ((n < 100) × (value < 65536)) ⌝ }
+    requires { ⌜ ToMark (now cells) (now corners) count n value ⌝ }
     ensures { λ r. ⌜ Applied (marked value n)
         (now (cells .entry)) (now (corners .entry)) count (now (cells .exit)) (now (corners .exit)) r ⌝ }
 {
@@ -111,7 +111,7 @@ fn mark_line(
     drawn_count: usize,
     wavefront_cost: u32,
 ) -> usize
-    requires { ⌜ (Ready (now cells) (now corners) count) × ((Indexes 10 (now drawn) «drawn_count») × ((corner < 100) × («wavefront_cost» ≤ 100))) ⌝ }
+    requires { ⌜ ToMarkLine (now cells) (now corners) count corner (now drawn) «drawn_count» «wavefront_cost» ⌝ }
     ensures { λ r. ⌜ Applied (lineMarked «wavefront_cost» 0 corner (take «drawn_count» (now (drawn .entry))))
         (now (cells .entry)) (now (corners .entry)) count (now (cells .exit)) (now (corners .exit)) r ⌝ }
 {
@@ -175,7 +175,7 @@ fn try_side(
     wavefront_cost: u32,
     ends: &[u8; 100],
 ) -> usize
-    requires { ⌜ (Ready (now cells) (now corners) count) × ((InWave (EndsFor goal (now ends)) «wavefront_cost» goal from) × (wall < 100)) ⌝ }
+    requires { ⌜ AtWall (now cells) (now corners) count from wall goal «wavefront_cost» (now ends) ⌝ }
     ensures { λ r. ⌜ Applied (sideTried (cornerLine goal) «wavefront_cost» from wall side)
         (now (cells .entry)) (now (corners .entry)) count (now (cells .exit)) (now (corners .exit)) r ⌝ }
 {
@@ -201,7 +201,7 @@ fn meet_wall(
     wavefront_cost: u32,
     ends: &[u8; 100],
 ) -> usize
-    requires { ⌜ (Ready (now cells) (now corners) count) × ((InWave (EndsFor goal (now ends)) «wavefront_cost» goal from) × (wall < 100)) ⌝ }
+    requires { ⌜ AtWall (now cells) (now corners) count from wall goal «wavefront_cost» (now ends) ⌝ }
     ensures { λ r. ⌜ Applied (wallMet (cornerLine goal) «wavefront_cost» from wall dir)
         (now (cells .entry)) (now (corners .entry)) count (now (cells .exit)) (now (corners .exit)) r ⌝ }
 {
@@ -251,8 +251,7 @@ fn spread_to(
     wavefront_cost: u32,
     ends: &[u8; 100],
 ) -> Lengths
-    requires { ⌜ (ReadyAll (now cells) (now corners) (lengths .corners) (now queue) (lengths .queued))
-        × ((InWave (Lent goal (now ends) (now cells)) «wavefront_cost» goal from) × (n < 100)) ⌝ }
+    requires { ⌜ AtCell (now cells) (now corners) (lengths .corners) (now queue) (lengths .queued) from n goal «wavefront_cost» (now ends) ⌝ }
     ensures { λ r. ⌜ AppliedAll (spreadTo (cornerLine goal) «wavefront_cost» from dir n)
         (now (cells .entry)) (now (corners .entry)) (lengths .corners) (now (queue .entry)) (lengths .queued)
         (now (cells .exit)) (now (corners .exit)) (r .corners) (now (queue .exit)) (r .queued) ⌝ }
@@ -371,9 +370,7 @@ fn spread_wave(
     wavefront_cost: u32,
     ends: &[u8; 100],
 ) -> Lengths
-    requires { ⌜ (Ready (now cells) (now corners) count)
-        × ((Indexes 100 (now wavefront) «wavefront_count») × ((length (now next) ≡ 100)
-        × (InWave (Lent goal (now ends) (now cells)) «wavefront_cost» goal goal))) ⌝ }
+    requires { ⌜ AtWave (now cells) (now corners) count (now wavefront) «wavefront_count» (now next) goal «wavefront_cost» (now ends) ⌝ }
     ensures { λ r. ⌜ HoldsAll (waveSpread (cornerLine goal) «wavefront_cost» (take «wavefront_count» (now (wavefront .entry)))
         (sightOf (now (cells .entry)) (now (corners .entry)) count []))
         (now (cells .exit)) (now (corners .exit)) (r .corners) (now (next .exit)) (r .queued) ⌝ }
@@ -414,8 +411,7 @@ fn propagate_los(
     falling: usize,
     ends: &[u8; 100],
 ) -> usize
-    requires { ⌜ (Ready (now cells) (now corners) count) × ((Indexes 100 (now wavefront) «wavefront_count») × ((length (now next) ≡ 100)
-        × ((goal < 100) × ((«wavefront_cost» + falling ≤ 101) × (Lent goal (now ends) (now cells)))))) ⌝ }
+    requires { ⌜ BeforeWave (now cells) (now corners) count (now wavefront) «wavefront_count» (now next) goal «wavefront_cost» falling (now ends) ⌝ }
     ensures { λ r. ⌜ ((before : List ℕ) (k : ℕ) → «wavefront_cost» ≡ suc k
         → sightOf (now (cells .entry)) (now (corners .entry)) count (take «wavefront_count» (now (wavefront .entry)))
         ≡ sightAfter (cornerLine goal) before goal k
@@ -487,7 +483,7 @@ fn spread_sight(
     wavefront: &mut [u8; 100],
     goal: usize,
 ) -> usize
-    requires { ⌜ (Ready (now cells) (now corners) 0) × ((Indexes 100 (now wavefront) 1) × (goal < 100)) ⌝ }
+    requires { ⌜ AtGoal (now cells) (now corners) (now wavefront) goal ⌝ }
     ensures { λ r. ⌜ ((before : List ℕ)
         → sightOf (now (cells .entry)) (now (corners .entry)) 0 (take 1 (now (wavefront .entry))) ≡ sightAfter (cornerLine goal) before goal 0
         → Holds (sightAfter (cornerLine goal) before goal 100) (now (cells .exit)) (now (corners .exit)) r) ⌝ }

@@ -24,6 +24,7 @@ use Rattle.integration_init.proofs.spread_wave.Reads as wave
 use Rattle.integration_init.proofs.+propagate_los.{statement}
 use Rattle.integration_init.proofs.+propagate_los.Tie.{close}
 
+-- `falling` is the ninth parameter
 abbrev μ : Measures 5 kinds.ps ℕ
 μ κs a = a .1 .1 .1 .1 .1 .1 .1 .1 .0
 
@@ -38,7 +39,8 @@ abbrev calls : ℕ → lts.Claims
 calls t = (wave.Asked, wave.Learnt, below t, go.Post)
 
 module _ (t : ℕ) where
-  -- the places: what the function is given; where it was seen that neither falling nor wavefront-count is 0; where the next wave is queued
+  -- the places: what the function is given; where it was seen that neither falling nor wavefront-count is 0; where the next wave is queued;
+  -- and from the arguments of either call, the place before it
   abbrev Start : Type 0
   Start = lts.Start (calls t) (at t) go.Post
 
@@ -51,8 +53,14 @@ module _ (t : ℕ) where
   abbrev start : Left → Start
   start c = c .before .before
 
+  abbrev asked : lts.After-spread-wave-arg4 (calls t) (at t) go.Post → Left
+  asked c = c .before .before .before .before
+
   abbrev left : Spread → Left
-  left c = c .before .before .before .before .before
+  left c = asked (c .before)
+
+  abbrev spread-at : lts.After-propagate-los-arg4 (calls t) (at t) go.Post → Spread
+  spread-at c = c .before .before .before .before
 
   -- the sight at entry
   abbrev entry : Start → Sight
@@ -60,7 +68,7 @@ module _ (t : ℕ) where
 
   -- arrays that are left as they are hold the sight at entry
   same : (s : Start) (t : Sight) → entry s ≡ t → Holds t (now (s .args .cells)) (now (s .args .corners)) (s .args .count)
-  same s t e = let a = s .args in held-as (take (a .wavefront-count) (now (a .wavefront))) (s .pre .1 .0) e
+  same s t e = let a = s .args in held-as (take (a .wavefront-count) (now (a .wavefront))) (s .pre .1 .ready) e
 
   -- there is a wave left
   falls-on : (c : Left) → 0 < start c .args .falling
@@ -68,7 +76,7 @@ module _ (t : ℕ) where
 
   -- the wave's cost is at most 100
   wave-in : (c : Left) → start c .args .wavefront-cost ≤ 100
-  wave-in c = omega (arith, falls-on c, start c .pre .1 .1 .1 .1 .1 .0)
+  wave-in c = omega (arith, falls-on c, start c .pre .1 .falling-in)
 
   returns : lts.Need-returns (calls t) (at t) go.Post
   returns c before k e f =
@@ -87,35 +95,39 @@ module _ (t : ℕ) where
 
   spread-wave-requires : lts.Need-spread-wave-requires (calls t) (at t) go.Post
   spread-wave-requires c κs =
-      let l = c .before .before .before .before in
-      let p = start l .pre .1 in
-      let q = p .1 .1 .1 in
-      (p .0, (p .1 .0, (p .1 .1 .0, record { wave-in = wave-in l; goal-in = q .0; from-in = q .0; ends = q .1 .1 })))
-
-  add-cost : lts.Need-add-propagate-los (calls t) (at t) go.Post
-  add-cost c = let spread = c .before .before .before .before in omega (arith, wave-in (left spread))
-
-  sub-falling : lts.Need-sub-propagate-los (calls t) (at t) go.Post
-  sub-falling c = let spread = c .before .before .before .before in falls-on (left spread)
+      let p = start (asked c) .pre .1 in
+      record {
+        ready = p .ready;
+        wavefront-in = p .wavefront-in;
+        next-full = p .next-full;
+        in-wave = record { wave-in = wave-in (asked c); goal-in = p .goal-in; from-in = p .goal-in; ends = p .ends-lent };
+      }
 
   propagate-los-requires : lts.Need-propagate-los-requires (calls t) (at t) go.Post
   propagate-los-requires c κs =
-      let spread = c .before .before .before .before in
+      let spread = spread-at c in
       let s = start (left spread) in
       let a = s .args in
-      let given = s .pre .1 .1 in
-      let p = given .1 .1 in
+      let p = s .pre .1 in
       let h = falls-on (left spread) in
-      let less : a .falling - 1 < t = omega (arith, s .pre .0) in
-      let sum : a .wavefront-cost + 1 + (a .falling - 1) ≤ 101 = omega (arith, p .1 .0) in
       let ready = all-ready (spread .spread-wave .ensures) in
       let begun = sightOf (now (a .cells)) (now (a .corners)) (a .count) [] in
-      let lent = lent-wave (cornerLine (a .goal)) (a .wavefront-cost) (wave-in (left spread)) _ _ begun (take (a .wavefront-count) (now (a .wavefront))) (p .1 .1) in
-      (less, (all-begins ready, (held-wavefront ready, (given .0 .full, (p .0, (sum, rw (spread .spread-wave .ensures .held .cells-held) lent))))))
+      let wave = take (a .wavefront-count) (now (a .wavefront)) in (
+        omega (arith, s .pre .0),
+        record {
+          ready = all-begins ready;
+          wavefront-in = held-wavefront ready;
+          next-full = p .wavefront-in .full;
+          goal-in = p .goal-in;
+          falling-in = omega (arith, p .falling-in);
+          ends-lent = rw (spread .spread-wave .ensures .held .cells-held)
+              (lent-wave (cornerLine (a .goal)) (a .wavefront-cost) (wave-in (left spread)) _ _ begun wave (p .ends-lent));
+        },
+      )
 
   returns-3 : lts.Need-returns-3 (calls t) (at t) go.Post
   returns-3 c before k e f =
-      let spread = c .before .before .before .before .before in
+      let spread = spread-at (c .before) in
       let s = start (left spread) in
       let a = s .args in
       let line = cornerLine (a .goal) in
@@ -128,4 +140,5 @@ module _ (t : ℕ) where
 pub +propagate-los-spec : {M : Type 1} → statement M
 +propagate-los-spec =
     close μ λ t. lts.spec (calls t) (at t) go.Post
-    (returns t) (returns-2 t) (spread-wave-requires t) (add-cost t) (sub-falling t) (propagate-los-requires t) (returns-3 t)
+    (returns t) (returns-2 t) (spread-wave-requires t) (λ c. omega (arith, wave-in t (left t (spread-at t c))))
+    (λ c. falls-on t (left t (spread-at t c))) (propagate-los-requires t) (returns-3 t)

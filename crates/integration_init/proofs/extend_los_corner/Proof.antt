@@ -73,7 +73,7 @@ mark-line-requires : tie.Need-mark-line-requires
 mark-line-requires c κs =
     let d = c .before .before .before in
     let s = start (ended d) in
-    (s .pre .0, (drawn d, (s .pre .1 .from-in, s .pre .1 .wave-in)))
+    record { ready = s .pre .0; line-in = drawn d; corner-in = s .pre .1 .from-in; wave-in = s .pre .1 .wave-in }
 
 returns : tie.Need-returns
 unfolding extended cornerLine

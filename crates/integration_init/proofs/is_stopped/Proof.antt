@@ -10,7 +10,7 @@ use Rattle.integration_field.proofs.Diagonal.{passes-at}
 use Rattle.integration_init.proofs.is_stopped.Statement.{statement}
 use Rattle.integration_init.proofs.is_stopped.Tie as tie
 
--- where both cells are known: the start; both lie in the sector
+-- where both cells are known: what the function is given, and that both lie in the sector
 module _ (t : tie.After-from-index2) where
   abbrev start : tie.Start
   start = t .before .before .before .before
@@ -21,36 +21,20 @@ module _ (t : tie.After-from-index2) where
   to-inside : Inside (t .from-index2 .result)
   to-inside = rw (t .from-index2 .ensures) (cell-inside _ (start .pre .1))
 
+-- the same place, from where the word in the row was read, and from where the column's rows are known
+abbrev from-row : tie.After-in-row → tie.After-from-index2
+from-row c = c .before .before .before
+
+abbrev from-column : tie.After-struct-known4 → tie.After-from-index2
+from-column c = from-row (c .before .before)
+
 returns : tie.Need-returns
 returns c = rw (sym (c .before .is-wall-at .ensures) ∙ c .if1 .taken)
 
-mul-in-row : tie.Need-mul-in-row
-mul-in-row c = omega (arith, from-inside (c .before) .row-in)
-
-add-in-row : tie.Need-add-in-row
-add-in-row c = let t = c .before .before in omega (arith, from-inside t .row-in, to-inside t .column-in)
-
-mul-in-row-2 : tie.Need-mul-in-row-2
-mul-in-row-2 c = let t = c .before .before in omega (arith, from-inside t .row-in, to-inside t .column-in)
-
-element-copy-out-in-row : tie.Need-element-copy-out-in-row
-element-copy-out-in-row c = let t = c .before .before in omega (arith, from-inside t .row-in, to-inside t .column-in)
-
-mul-in-column : tie.Need-mul-in-column
-mul-in-column c = omega (arith, to-inside (c .before .before .before .before) .row-in)
-
-add-in-column : tie.Need-add-in-column
-add-in-column c = let t = c .before .before .before .before .before in omega (arith, to-inside t .row-in, from-inside t .column-in)
-
-mul-in-column-2 : tie.Need-mul-in-column-2
-mul-in-column-2 c = let t = c .before .before .before .before .before in omega (arith, to-inside t .row-in, from-inside t .column-in)
-
-element-copy-out-in-column : tie.Need-element-copy-out-in-column
-element-copy-out-in-column c = let t = c .before .before .before .before .before in omega (arith, to-inside t .row-in, from-inside t .column-in)
-
 returns-2 : tie.Need-returns-2
 returns-2 c =
-    let t = c .before .before .before .before .before .before .before in
+    let read = c .before .before .before .before in
+    let t = read .before .before .before in
     let unwalled = t .before .before in
     let from : indexOf (t .before .from-index .result) ≡ start t .args .previous = ap indexOf (t .before .from-index .ensures) ∙ index-of-cell _ in
     let to : indexOf (t .from-index2 .result) ≡ start t .args .n = ap indexOf (t .from-index2 .ensures) ∙ index-of-cell _ in
@@ -59,5 +43,13 @@ returns-2 c =
 
 pub is-stopped-spec : {M : Type 1} → statement M
 is-stopped-spec = tie.close (tie.spec
-    (λ c κs. search needs) returns (λ c κs. search needs) (λ c κs. search needs) mul-in-row add-in-row mul-in-row-2 element-copy-out-in-row
-    mul-in-column add-in-column mul-in-column-2 element-copy-out-in-column (λ c κs. search needs) returns-2)
+    (λ c κs. search needs) returns (λ c κs. search needs) (λ c κs. search needs)
+    (λ c. let t = c .before in omega (arith, from-inside t .row-in))
+    (λ c. let t = c .before .before in omega (arith, from-inside t .row-in, to-inside t .column-in))
+    (λ c. let t = c .before .before in omega (arith, from-inside t .row-in, to-inside t .column-in))
+    (λ c. let t = c .before .before in omega (arith, from-inside t .row-in, to-inside t .column-in))
+    (λ c. let t = from-row (c .before) in omega (arith, to-inside t .row-in))
+    (λ c. let t = from-column c in omega (arith, to-inside t .row-in, from-inside t .column-in))
+    (λ c. let t = from-column c in omega (arith, to-inside t .row-in, from-inside t .column-in))
+    (λ c. let t = from-column c in omega (arith, to-inside t .row-in, from-inside t .column-in))
+    (λ c κs. search needs) returns-2)

@@ -21,7 +21,8 @@ abbrev μ-loop : tie.MeasureT-loop
 loop-holds : tie.Need-loop-holds Inv-loop μ-loop
 loop-holds c =
     let a = c .args in
-    walk-starts (a .wavefront-cost) (a .corner) (now (a .drawn)) (a .drawn-count) (now (a .cells)) (now (a .corners)) (a .count) (c .pre .1 .1 .0) (c .pre .0)
+    walk-starts (a .wavefront-cost) (a .corner) (now (a .drawn)) (a .drawn-count) (now (a .cells)) (now (a .corners)) (a .count) (c .pre .corner-in)
+    (c .pre .ready)
 
 -- from a turn of the loop: the call, the index of the i-th cell, and that the turn is one of the line's
 module _ (r : tie.In-loop Inv-loop μ-loop) where
@@ -35,18 +36,18 @@ module _ (r : tie.In-loop Inv-loop μ-loop) where
   turn = r .loop-test .taken
 
   cell : index < 100
-  cell = start .pre .1 .0 .cells-in (r .before .loop .i) turn
+  cell = start .pre .line-in .cells-in (r .before .loop .i) turn
 
   few : start .args .drawn-count ≤ 10
-  few = start .pre .1 .0 .count-in
+  few = start .pre .line-in .count-in
 
   -- the line fits its array
   long : start .args .drawn-count ≤ length (now (start .args .drawn))
-  long = omega (arith, start .pre .1 .0 .full, few)
+  long = omega (arith, start .pre .line-in .full, few)
 
   -- the i-th value is below the flags
   low : r .before .loop .value < 65536
-  low = omega (arith, r .before .loop .inv .next, start .pre .1 .1 .1, turn, few)
+  low = omega (arith, r .before .loop .inv .next, start .pre .wave-in, turn, few)
 
 is-stopped-requires : tie.Need-is-stopped-requires Inv-loop μ-loop
 is-stopped-requires c κs = let r = c .before .before in (r .before .loop .inv .entered, cell r)
@@ -61,7 +62,7 @@ returns c =
     walk-stops (r .before .loop .inv) (long r) (index r) (turn r) refl (sym (c .before .is-stopped .ensures) ∙ c .if1 .taken)
 
 mark-requires : tie.Need-mark-requires Inv-loop μ-loop
-mark-requires c κs = let r = tested (c .before .before .before) in (r .before .loop .inv .ready, (cell r, low r))
+mark-requires c κs = let r = tested (c .before .before .before) in record { ready = r .before .loop .inv .ready; cell-in = cell r; value-in = low r }
 
 -- from behind the mark: where the line did not stop, and the turn
 abbrev went-on : tie.After-mark Inv-loop μ-loop → tie.Else1 Inv-loop μ-loop

@@ -26,7 +26,11 @@ try-side-requires-2 c κs =
     let once = c .before .before .before in
     let first = side-known once in
     let s = start first in
-    (applied-ready (s .pre .0) (tried s (first .lower-side .result)) (once .try-side .ensures), s .pre .1)
+    record {
+      ready = applied-ready (s .pre .ready) (tried s (first .lower-side .result)) (once .try-side .ensures);
+      in-wave = s .pre .in-wave;
+      wall-in = s .pre .wall-in;
+    }
 
 returns : tie.Need-returns
 unfolding wallMet
@@ -38,7 +42,7 @@ returns c =
     let e : first .lower-side .result ≡ lowerSide (s .args .dir) = first .lower-side .ensures in
     let f : second .inverse .result ≡ opposite (lowerSide (s .args .dir)) = second .inverse .ensures ∙ ap opposite e in
     rw (← f, ← e)
-    (applied-then (s .pre .0) (tried s (first .lower-side .result)) (once .try-side .ensures) (tried s (second .inverse .result)) (c .try-side2 .ensures))
+    (applied-then (s .pre .ready) (tried s (first .lower-side .result)) (once .try-side .ensures) (tried s (second .inverse .result)) (c .try-side2 .ensures))
 
 pub meet-wall-spec : {M : Type 1} → statement M
 meet-wall-spec = tie.close (tie.spec (λ c κs. search needs) (λ c κs. search needs) (λ c κs. search needs) try-side-requires-2 returns)

@@ -16,10 +16,17 @@ propagate-los-requires : tie.Need-propagate-los-requires
 propagate-los-requires c κs =
     let m = c .before in
     let p = start m .pre in
-    (p .0, (p .1 .0, (refl, (p .1 .1, (omega arith, known m .ends-to-lend .ensures)))))
+    record {
+      ready = p .ready;
+      wavefront-in = p .wavefront-in;
+      next-full = refl;
+      goal-in = p .goal-in;
+      falling-in = omega arith;
+      ends-lent = known m .ends-to-lend .ensures;
+    }
 
 returns : tie.Need-returns
 returns c before e = c .propagate-los .ensures before 0 refl e
 
 pub spread-sight-spec : {M : Type 1} → statement M
-spread-sight-spec = tie.close (tie.spec (λ c κs. (c .before .pre .0 .room .full, c .before .pre .1 .1)) propagate-los-requires returns)
+spread-sight-spec = tie.close (tie.spec (λ c κs. (c .before .pre .ready .room .full, c .before .pre .goal-in)) propagate-los-requires returns)

@@ -46,16 +46,20 @@ returns c =
     let line = cornerLine (a .goal) in
     rw (one-set (isBlocked x) (isGoal x) (isImpassable x) (isLos x) sight
     (wallMet line (a .wavefront-cost) (a .from) (a .n) (a .dir) sight) (seen (a .wavefront-cost) (a .n) sight)
-    (sym (c .before .is-left-alone .ensures) ∙ c .if1 .taken) (s .pre .0 .room .seen-open (a .n) (s .pre .1 .1)))
-    (s .pre .0)
+    (sym (c .before .is-left-alone .ensures) ∙ c .if1 .taken) (s .pre .ready .room .seen-open (a .n) (s .pre .cell-in)))
+    (s .pre .ready)
 
 meet-wall-requires : tie.Need-meet-wall-requires
 meet-wall-requires c κs =
     let wall = c .before .before in
     let s = begun (wall .before) in
-    let w = s .pre .1 .0 in
+    let w = s .pre .in-wave in
     let met = ends-met _ _ (now (s .args .cells)) (s .args .n) (sym (wall .before .is-impassable .ensures) ∙ wall .if2 .taken) (w .ends) in
-    (all-begins (s .pre .0), (record { wave-in = w .wave-in; goal-in = w .goal-in; from-in = w .from-in; ends = met }, s .pre .1 .1))
+    record {
+      ready = all-begins (s .pre .ready);
+      in-wave = record { wave-in = w .wave-in; goal-in = w .goal-in; from-in = w .from-in; ends = met };
+      wall-in = s .pre .cell-in;
+    }
 
 returns-2 : tie.Need-returns-2
 unfolding spreadTo
@@ -65,14 +69,14 @@ returns-2 c =
     let a = s .args in
     let n = none (not-left (wall .before)) in
     rw (n .0, n .1, sym (wall .before .is-impassable .ensures) ∙ wall .if2 .taken)
-    (wall-held (s .pre .0) (wallMet (cornerLine (a .goal)) (a .wavefront-cost) (a .from) (a .n) (a .dir)) (c .meet-wall .ensures))
+    (wall-held (s .pre .ready) (wallMet (cornerLine (a .goal)) (a .wavefront-cost) (a .from) (a .n) (a .dir)) (c .meet-wall .ensures))
 
 -- one that comes into sight: there is room for it
 room : (c : tie.Else2) → begun (c .before) .args .lengths .queued < 100
 room c =
     let s = begun (c .before) in
     let n = none (not-left (c .before)) in
-    seen-room (s .pre .0) (s .args .n) (s .pre .1 .1) (n .2) (n .0)
+    seen-room (s .pre .ready) (s .args .n) (s .pre .cell-in) (n .2) (n .0)
 
 returns-3 : tie.Need-returns-3
 unfolding spreadTo
@@ -80,7 +84,7 @@ returns-3 c =
     let s = begun (c .before) in
     let n = none (not-left (c .before)) in
     rw (n .0, n .1, n .2, sym (c .before .is-impassable .ensures) ∙ c .if2 .left)
-    (seen-held (s .pre .0) (s .args .n) (s .pre .1 .1) (n .2) (n .0) (s .args .wavefront-cost) (s .pre .1 .0 .wave-in))
+    (seen-held (s .pre .ready) (s .args .n) (s .pre .cell-in) (n .2) (n .0) (s .args .wavefront-cost) (s .pre .in-wave .wave-in))
 
 pub spread-to-spec : {M : Type 1} → statement M
 spread-to-spec = tie.close (tie.spec

@@ -39,7 +39,7 @@ spread-to-requires : tie.Need-spread-to-requires
 spread-to-requires c κs =
     let told = c .before .before .before in
     let s = start (step (known told)) in
-    (s .pre .0, (s .pre .1, index told .1))
+    record { ready = s .pre .0; in-wave = s .pre .1; cell-in = index told .1 }
 
 returns-2 : tie.Need-returns-2
 returns-2 c =

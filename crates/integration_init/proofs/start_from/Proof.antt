@@ -20,10 +20,12 @@ start m = marked m .before .before .before
 spread-sight-requires : tie.Need-spread-sight-requires
 spread-sight-requires c κs =
     let s = start c in
-    let goal = s .args .goal in (
-      goal-ready (now (s .args .costs)) _ (marked c .mark-walls .ensures) goal (s .pre .0) (s .pre .1),
-      (goal-wavefront goal (s .pre .1), s .pre .1),
-    )
+    let goal = s .args .goal in
+    record {
+      ready = goal-ready (now (s .args .costs)) _ (marked c .mark-walls .ensures) goal (s .pre .0) (s .pre .1);
+      wavefront-in = goal-wavefront goal (s .pre .1);
+      goal-in = s .pre .1;
+    }
 
 returns : tie.Need-returns
 unfolding startedFrom sightFrom

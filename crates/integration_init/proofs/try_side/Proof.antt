@@ -36,7 +36,7 @@ unfolding sideTried
 returns c =
     let at = c .before .before in
     let e : beside-cell (start₁ at) ≡ Outside = sym (at .open-side .ensures) ∙ c .enum-told2 .given .1 in
-    rw e (applied-still (start₁ at .pre .0))
+    rw e (applied-still (start₁ at .pre .ready))
 
 -- there is a cell beside the cell
 open-beside : (c : tie.After-open-side2) → beside-cell (start₂ c) ≡ Cell (c .before .before .enum-told .given .0 .0)
@@ -47,7 +47,7 @@ unfolding sideTried
 returns-2 c =
     let at = c .before .before in
     let f : beside-wall (start₂ at) ≡ Outside = sym (at .open-side2 .ensures) ∙ c .enum-told3 .given .1 in
-    rw (open-beside at, f) (applied-still (start₂ at .pre .0))
+    rw (open-beside at, f) (applied-still (start₂ at .pre .ready))
 
 -- the corner is the cell beside the wall
 abbrev at-wall : tie.After-known-told → tie.After-open-side2
@@ -68,8 +68,8 @@ extend-los-corner-requires : tie.Need-extend-los-corner-requires
 extend-los-corner-requires c κs =
     let told = c .before .before in
     let s = start₂ (at-wall (told .before)) in
-    let w = s .pre .1 .0 in
-    (s .pre .0, record { wave-in = w .wave-in; goal-in = w .goal-in; from-in = index told .1; ends = w .ends })
+    let w = s .pre .in-wave in
+    (s .pre .ready, record { wave-in = w .wave-in; goal-in = w .goal-in; from-in = index told .1; ends = w .ends })
 
 returns-3 : tie.Need-returns-3
 unfolding sideTried
