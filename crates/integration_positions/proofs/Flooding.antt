@@ -1,21 +1,22 @@
 -- How positions are handed on: from a queued cell each neighbour into which a move keeps the built costs exact takes its position, unless it has one.
+-- What holds meanwhile (`Flood`) is kept by each cell that is tried, hence by all neighbours of a cell, hence by a turn of the queue.
 --     move-mine     what a move that keeps the built costs exact makes of a walk
---     flood-at     one cell tried
+--     flood-at      one cell tried: it takes the position, and then `each-cell` and `each-queued` go by "this cell, or another"; or nothing changes
+--     around        the neighbours of a cell tried, one direction after the other
 --     gone-more     one cell of the queue gone around from
 -- Assumes nothing.
 use mathlib.Core.Path.{_≡_, refl, sym, ap, _∙_}
 use mathlib.Core.Logic.{_⊎_, inl, inr, ⊎-elim}
-use mathlib.Core.List.{List, [], _∷_, List·Memᴰ, List·Memᴰ·cases-cons, List·Memᴰ·not-nil, List·Memᴰ·head}
+use mathlib.Core.List.{List, [], _∷_, List·Memᴰ·cases-cons, List·Memᴰ·not-nil, List·Memᴰ·head}
 use Prim.Native.Nat.{ℕ, suc, _+_, _-_, _<_, _≤_}
 use native.Mathlib.Omega.{arith}
 use native.Mathlib.Decide.{ℕ-discrete}
 use borrow.Author.Tests.{eq-eqb, ne-eqb}
-use lib.ListN.{length, getD, set}
+use lib.ListN.{getD, set}
 use lib.Seq.{getD-set-same, getD-set-other}
 use Rattle.utilities.specs.declared.CompassDir.{CompassDir}
 use Rattle.utilities.specs.Compass.{orthogonal}
 use Rattle.utilities.specs.Lists.{below}
-use Rattle.utilities.proofs.Count.{at-set}
 use Rattle.utilities.proofs.Lists.{table-at}
 use Rattle.fields.specs.declared.FieldCell.{FieldCell}
 use Rattle.fields.specs.declared.Stepped.{Stepped}
@@ -31,7 +32,8 @@ use Rattle.integration_field.specs.Promise.{Walked, LeastWalks}
 use Rattle.integration_field.proofs.Least.{least-walks, last-entered}
 use Rattle.integration_field.proofs.Neighbours.{Neighbour, later, neighbour-beside, beside-neighbour}
 use Rattle.integration_positions.specs.Inner.{enteredFrom, Placing, placing, QueueRoom, Grown, placedTo, placedAround, BuiltOn, Mine, Flood}
-use Rattle.integration_positions.proofs.Room.{Tried, taken, held, passed-by, tried, grown-none, grown-then, grown-at, behind-queue, has-room, room-to}
+use Rattle.integration_positions.proofs.Room.{Tried, taken, held, passed-by, tried, grown-none, grown-then, grown-at, kept-least, behind-queue}
+use Rattle.integration_positions.proofs.Room.{has-room, room-to}
 
 module _ (costs before corners built entered : List ℕ) (f : BuiltOn costs before corners built entered) where
   -- ---- moves that keep the built costs exact
@@ -116,55 +118,68 @@ module _ (costs before corners built entered : List ℕ) (f : BuiltOn costs befo
       closed = λ j z k. (let l : j < s .queued = omega (arith, d .behind) in rw (behind-queue s x j l) (d .closed j z k));
     }
 
+    -- cell x, which has no position, takes position i, and stands last in the queue
+    module _ (x : ℕ) (s : Placing) (inside : x < 100) (r : QueueRoom s) (free : getD (s .places) x 0 ≡ 255) (d : Floods s) where
+      abbrev after : Placing
+      after = placing (set (s .places) x i) (set (s .queue) (s .queued) x) (suc (s .queued))
+
+      place-here : getD (after .places) x 0 ≡ i
+      place-here = getD-set-same (s .places) x i 0 (omega (arith, r .full))
+
+      place-other : (z : ℕ) → (z ≡ x → ⊥) → getD (after .places) z 0 ≡ getD (s .places) z 0
+      place-other z = getD-set-other (s .places) x z i 0
+
+      queue-last : getD (after .queue) (s .queued) 0 ≡ x
+      queue-last = getD-set-same (s .queue) (s .queued) x 0 (omega (arith, r .indexes .full, has-room s x r inside free))
+
+      -- the cells queued before it have a position, so they are others, and keep theirs
+      place-queued : (j : ℕ) → j < s .queued → getD (after .places) (getD (after .queue) j 0) 0 ≡ getD (s .places) (getD (s .queue) j 0) 0
+      place-queued j l =
+          rw (behind-queue s x j l) (place-other _ (λ q. d .queued-placed j l (ap (λ (k : ℕ). getD (s .places) k 0) q ∙ free)))
+
+      -- what holds of cell x and position i, and of each cell that had a position, holds of each cell that has one now
+      each-cell : (P : ℕ → ℕ → Type 0) → P x i → ((z : ℕ) → z < 100 → (getD (s .places) z 0 ≡ 255 → ⊥) → P z (getD (s .places) z 0))
+          → (z : ℕ) → z < 100 → (getD (after .places) z 0 ≡ 255 → ⊥) → P z (getD (after .places) z 0)
+      each-cell P here others z l p = elim (ℕ-discrete z x) [
+        | yes q ↦ rw (q, place-here) here
+        | no q ↦ rw (place-other z q) (others z l (λ a. p (place-other z q ∙ a)))
+      ]
+
+      -- the same by places of the queue
+      each-queued : (P : ℕ → ℕ → Type 0) → P (s .queued) i → ((j : ℕ) → j < s .queued → P j (getD (s .places) (getD (s .queue) j 0) 0))
+          → (j : ℕ) → j < suc (s .queued) → P j (getD (after .places) (getD (after .queue) j 0) 0)
+      each-queued P last others j l = elim (ℕ-discrete j (s .queued)) [
+        | yes q ↦ rw (q, queue-last, place-here) last
+        | no q ↦ (let k : j < s .queued = omega arith in rw (place-queued j k) (others j k))
+      ]
+
+      -- a neighbour of a cell that was gone around from has a position already, so it is another cell
+      still-closed : (j z : ℕ) → j < gone → BesideAt (getD (after .queue) j 0) z → getD entered z 0 ≡ Now (getD (after .queue) j 0)
+          → getD (after .places) z 0 ≤ getD (after .places) (getD (after .queue) j 0) 0
+      still-closed j z k b a =
+          let l : j < s .queued = omega (arith, d .behind) in
+          let old = d .closed j z k (rw (behind-queue s x j l) at b) (rw (behind-queue s x j l) at a) in
+          let few = d .mine _ (r .indexes .cells-in j l) (d .queued-placed j l) .corner-of in
+          let other : z ≡ x → ⊥ = λ q. absurd (omega (arith, few, f .few-corners, old, ap (λ (k : ℕ). getD (s .places) k 0) q, free)) in
+          rw (place-queued j l, place-other z other) old
+
+      flood-taken : Mine costs before corners built entered x i → Floods after
+      flood-taken m = record {
+        behind = omega (arith, d .behind);
+        listed = each-cell (λ z p. (j : ℕ) × (j < suc (s .queued)) × (getD (after .queue) j 0 ≡ z)) (s .queued, omega arith, queue-last)
+            (λ z l p. let o = d .listed z l p in (o .0, omega (arith, o .1), behind-queue s x (o .0) (o .1) ∙ o .2));
+        queued-placed = each-queued (λ j p. p ≡ 255 → ⊥) (λ e. absurd (omega arith)) (d .queued-placed);
+        mine = each-cell (Mine costs before corners built entered) m (d .mine);
+        no-later = each-cell (λ z p. p ≤ i) (omega arith) (d .no-later);
+        recent = λ j k l. each-queued (λ n p. gone ≤ n → p ≡ i) (λ k. refl) (λ n l k. d .recent n k l) j l k;
+        closed = still-closed;
+      }
+
     pub flood-at : (x : ℕ) (s : Placing) {t : Placing} → x < 100 → QueueRoom s → (getD entered x 0 ≡ value → Mine costs before corners built entered x i)
         → Floods s → Tried entered value i x s t → Floods t
     flood-at x s h r m d (held e n) = rw e (flood-behind x s d)
     flood-at x s h r m d (passed-by e n) = rw e (flood-behind x s d)
-    flood-at x s h r m d (taken e n v) =
-        let full : x < length (s .places) = omega (arith, r .full) in
-        let room : s .queued < length (s .queue) = omega (arith, r .indexes .full, r .indexes .count-in, has-room s x r h n) in
-        let same : getD (set (s .queue) (s .queued) x) (s .queued) 0 ≡ x = getD-set-same (s .queue) (s .queued) x 0 room in
-        let here : getD (set (s .places) x i) x 0 ≡ i = getD-set-same (s .places) x i 0 full in
-        let queue-other : (j : ℕ) → j < s .queued → getD (set (s .queue) (s .queued) x) j 0 ≡ getD (s .queue) j 0 =
-        λ j l. getD-set-other (s .queue) (s .queued) j x 0 (λ q. absurd (omega arith)) in
-        let other : (z : ℕ) → (z ≡ x → ⊥) → getD (set (s .places) x i) z 0 ≡ getD (s .places) z 0 = λ z q. getD-set-other (s .places) x z i 0 q in
-        rw e (record {
-          behind = omega (arith, d .behind);
-          listed = λ z l p. elim (ℕ-discrete z x) [
-            | yes q ↦ (s .queued, omega arith, same ∙ sym q)
-            | no q ↦ (let o = d .listed z l (λ a. p (other z q ∙ a)) in (o .0, omega (arith, o .1), queue-other (o .0) (o .1) ∙ o .2))
-          ];
-          queued-placed = λ j l p. elim (ℕ-discrete j (s .queued)) [
-            | yes q ↦ absurd (let z : i ≡ 255 = sym here ∙ sym (ap (λ (k : ℕ). getD (set (s .places) x i) k 0) (rw q same)) ∙ p in omega arith)
-            | no q ↦ absurd (let l′ : j < s .queued = omega arith in
-                elim (ℕ-discrete (getD (s .queue) j 0) x) [
-                  | yes w ↦ d .queued-placed j l′ (ap (λ (k : ℕ). getD (s .places) k 0) w ∙ n)
-                  | no w ↦ d .queued-placed j l′ (sym (other _ w) ∙ ap (λ (k : ℕ). getD (set (s .places) x i) k 0) (sym (queue-other j l′)) ∙ p)
-                ])
-          ];
-          mine = λ z l p. elim (ℕ-discrete z x) [
-            | yes q ↦ rw (q, here) (m v)
-            | no q ↦ rw (other z q) (d .mine z l (λ a. p (other z q ∙ a)))
-          ];
-          no-later = λ z l p. elim (ℕ-discrete z x) [
-            | yes q ↦ rw (q, here) (omega arith)
-            | no q ↦ rw (other z q) (d .no-later z l (λ a. p (other z q ∙ a)))
-          ];
-          recent = λ j k l. elim (ℕ-discrete j (s .queued)) [
-            | yes q ↦ rw (q, same) here
-            | no q ↦ (let l′ : j < s .queued = omega arith in
-                rw (queue-other j l′) (at-set (λ a. a ≡ i) (s .places) x i (getD (s .queue) j 0) full (λ w. refl) (λ w. d .recent j k l′)))
-          ];
-          closed = λ j z k b a.
-              (let l′ : j < s .queued = omega (arith, d .behind) in
-              let y = getD (s .queue) j 0 in
-              let other-y : y ≡ x → ⊥ = λ q. d .queued-placed j l′ (ap (λ (k : ℕ). getD (s .places) k 0) q ∙ n) in
-              let old = d .closed j z k (rw (queue-other j l′) at b) (rw (queue-other j l′) at a) in
-              let few : getD (s .places) y 0 < 100 =
-              omega (arith, f .few-corners, d .mine y (r .indexes .cells-in j l′) (d .queued-placed j l′) .corner-of) in
-              let other-z : z ≡ x → ⊥ = λ q. absurd (omega (arith, ap (λ (k : ℕ). getD (s .places) k 0) q, n)) in
-              rw (queue-other j l′, other y other-y, other z other-z) old);
-        })
+    flood-at x s h r m d (taken e n v) = rw e (flood-taken x s h r n d (m v))
 
     -- a cell that was tried holds the position or an earlier one, if a move into it keeps the built costs exact
     pub tried-least : (x : ℕ) (s : Placing) {t : Placing} → x < 100 → QueueRoom s → Floods s → Tried entered value i x s t → getD entered x 0 ≡ value
@@ -181,66 +196,48 @@ module _ (costs before corners built entered : List ℕ) (f : BuiltOn costs befo
       pub around-grown : Grown s t
       pub around-least : (z : ℕ) → Neighbour c ds z → getD entered z 0 ≡ value → getD (t .places) z 0 ≤ i
 
-    abbrev Mines : FieldCell → List CompassDir → Type 0
-    Mines c ds = (z : ℕ) → Neighbour c ds z → getD entered z 0 ≡ value → Mine costs before corners built entered z i
+    -- trying the cell where one step arrives, if it arrives at one
+    record Stepping (t : Stepped) (s u : Placing) : Type 0 where
+      floods : Floods u
+      grown : Grown s u
+      least-there : (n : FieldCell) → t ≡ Cell n → getD entered (indexOf n) 0 ≡ value → getD (u .places) (indexOf n) 0 ≤ i
 
-    step-around : (c : FieldCell) (d : CompassDir) (t : Stepped) → stepped c d ≡ t → (s : Placing) → QueueRoom s → Mines c (d ∷ []) → Floods s
-        → Around c (d ∷ []) s (placedTo entered value i t s)
-    step-around c d (Cell n) e s r m q =
+    step-on : (c : FieldCell) (d : CompassDir) (t : Stepped) → stepped c d ≡ t → (s : Placing) → QueueRoom s
+        → ((n : FieldCell) → t ≡ Cell n → getD entered (indexOf n) 0 ≡ value → Mine costs before corners built entered (indexOf n) i) → Floods s
+        → Stepping t s (placedTo entered value i t s)
+    step-on c d (Cell n) e s r m q =
         let x = indexOf n in
         let h : x < 100 = index-below n (stepped-cell c d n e .within) in
         let t = tried entered value i x s in
-        let only : (z : ℕ) → Neighbour c (d ∷ []) z → z ≡ x = λ z b. one z b (List·Memᴰ·cases-cons (b .listed)) in
         record {
-          around-flood = flood-at x s h r (λ v. m x (record { way = d; listed = List·Memᴰ·head refl; cell = n; step = e; index = refl }) v) q t;
-          around-grown = grown-at entered value i x s t;
-          around-least = λ z b v. (let w = only z b in rw w (tried-least x s h r q t (rw w at v)));
+          floods = flood-at x s h r (m n refl) q t;
+          grown = grown-at entered value i x s t;
+          least-there = λ o w v. (let same : o ≡ n = cc in rw same (tried-least x s h r q t (rw same at v)));
         }
-      where
-        one : (z : ℕ) (b : Neighbour c (d ∷ []) z) → (b .way ≡ d) ⊎ List·Memᴰ (b .way) [] → z ≡ indexOf n
-        one z b (inl w) = let same : Cell (b .cell) ≡ Cell n = sym (b .step) ∙ ap (stepped c) w ∙ e in b .index ∙ ap indexOf cc
-        one z b (inr w) = absurd (List·Memᴰ·not-nil w)
-    step-around c d Outside e s r m q = record {
-      around-flood = q;
-      around-grown = grown-none s;
-      around-least = λ z b v. absurd (none z b (List·Memᴰ·cases-cons (b .listed)));
+    step-on c d Outside e s r m q = record {
+      floods = q;
+      grown = grown-none s;
+      least-there = λ n w v. (let zero-one : _≡_ {A = ℕ} 0 1 = cc in absurd (omega arith));
     }
-      where
-        none : (z : ℕ) (b : Neighbour c (d ∷ []) z) → (b .way ≡ d) ⊎ List·Memᴰ (b .way) [] → ⊥
-        none z b (inl w) =
-            let clash : Cell (b .cell) ≡ Outside = sym (b .step) ∙ ap (stepped c) w ∙ e in
-            let zero-one : _≡_ {A = ℕ} 0 1 = cc in
-            absurd (omega arith)
-        none z b (inr w) = List·Memᴰ·not-nil w
 
-    abbrev first-of : {c : FieldCell} {d : CompassDir} {ds : List CompassDir} {z : ℕ} → Neighbour c (d ∷ []) z → Neighbour c (d ∷ ds) z
-    first-of {c} {d} {ds} {z} b =
-        record {
-          way = b .way;
-          listed = ⊎-elim (λ w. List·Memᴰ·head w) (λ w. absurd (List·Memᴰ·not-nil w)) (List·Memᴰ·cases-cons (b .listed));
-          cell = b .cell;
-          step = b .step;
-          index = b .index;
-        }
-
-    pub around : (c : FieldCell) (ds : List CompassDir) (s : Placing) → QueueRoom s → Mines c ds → Floods s
+    pub around : (c : FieldCell) (ds : List CompassDir) (s : Placing) → QueueRoom s
+        → ((z : ℕ) → Neighbour c ds z → getD entered z 0 ≡ value → Mine costs before corners built entered z i) → Floods s
         → Around c ds s (placedAround entered value i c ds s)
     unfolding placedAround
     around c [] s r m q = record { around-flood = q; around-grown = grown-none s; around-least = λ z b v. absurd (List·Memᴰ·not-nil (b .listed)) }
     around c (d ∷ ds) s r m q =
-        let mid = placedTo entered value i (stepped c d) s in
-        let one = step-around c d (stepped c d) refl s r (λ z b v. m z (first-of b) v) q in
-        let rest = around c ds mid (room-to entered value i small c d (stepped c d) refl s r) (λ z b v. m z (later b) v) (one .around-flood) in
+        let here : (n : FieldCell) → stepped c d ≡ Cell n → Neighbour c (d ∷ ds) (indexOf n) =
+        λ n e. record { way = d; listed = List·Memᴰ·head refl; cell = n; step = e; index = refl } in
+        let one = step-on c d (stepped c d) refl s r (λ n e. m (indexOf n) (here n e)) q in
+        let rest = around c ds _ (room-to entered value i small c d (stepped c d) refl s r) (λ z b. m z (later b)) (one .floods) in
         record {
           around-flood = rest .around-flood;
-          around-grown = grown-then (one .around-grown) (rest .around-grown);
-          around-least = λ z b v. (⊎-elim
-              (λ (w : b .way ≡ d).
-              (let here : Neighbour c (d ∷ []) z = record { way = b .way; listed = List·Memᴰ·head w; cell = b .cell; step = b .step; index = b .index } in
-              let l = one .around-least z here v in
-              omega (arith, rest .around-grown .places-kept z (λ a. absurd (omega arith)))))
-              (λ (w : List·Memᴰ (b .way) ds). rest .around-least z (record { way = b .way; listed = w; cell = b .cell; step = b .step; index = b .index }) v)
-              (List·Memᴰ·cases-cons (b .listed)));
+          around-grown = grown-then (one .grown) (rest .around-grown);
+          around-least = λ z b v. ⊎-elim
+              (λ w. rw (b .index)
+              (kept-least (rest .around-grown) _ i small (one .least-there (b .cell) (ap (stepped c) (sym w) ∙ b .step) (rw (b .index) at v))))
+              (λ w. rest .around-least z (record { way = b .way; listed = w; cell = b .cell; step = b .step; index = b .index }) v)
+              (List·Memᴰ·cases-cons (b .listed));
         }
 
   -- ---- one cell of the queue gone around from

@@ -1,5 +1,9 @@
 -- There is room in the queue for every cell that has no position: as many are queued as have one.
---     queued-few, has-room, room-at, room-to
+--     tried                          what becomes of a cell that is tried
+--     grown-none .. grown-around     what was queued and placed stays so
+--     kept-least                     a cell keeps its position, or the earlier one that it has
+--     queued-few, has-room           no more are queued than there are cells
+--     room-at, room-to               there is room behind a cell that was tried
 -- Assumes nothing.
 use mathlib.Core.Path.{_≡_, refl, sym, ap, _∙_}
 use mathlib.Core.List.{List, [], _∷_}
@@ -46,6 +50,10 @@ grown-then g h = record {
   queue-kept = λ j l. h .queue-kept j (omega (arith, g .more)) ∙ g .queue-kept j l;
   places-kept = λ z n. h .places-kept z (λ e. n (sym (g .places-kept z n) ∙ e)) ∙ g .places-kept z n;
 }
+
+-- a cell that holds a position or an earlier one goes on to
+pub kept-least : {s t : Placing} → Grown s t → (x p : ℕ) → p < 255 → getD (s .places) x 0 ≤ p → getD (t .places) x 0 ≤ p
+kept-least g x p h l = omega (arith, g .places-kept x (λ e. absurd (omega arith)))
 
 -- a cell written behind the queue
 pub behind-queue : (s : Placing) (x j : ℕ) → j < s .queued → getD (set (s .queue) (s .queued) x) j 0 ≡ getD (s .queue) j 0

@@ -16,10 +16,10 @@ use Rattle.fields.specs.Neighbours.{BesideAt}
 use Rattle.integration_waves.specs.Walks.{start}
 use Rattle.integration_field.specs.Word.{low}
 use Rattle.integration_field.specs.Listed.{noPositions}
-use Rattle.integration_positions.specs.Inner.{isPlaced, enteredFrom, Placing, placing, QueueRoom, Grown, placedAt, BuiltOn, Mine, Flood}
-use Rattle.integration_positions.specs.Inner.{Sources, Gone, Decided}
-use Rattle.integration_positions.proofs.Room.{Tried, tried, grown-at}
-use Rattle.integration_positions.proofs.Flooding.{least, lowered, entered-at, flood-at, tried-least}
+use Rattle.integration_positions.specs.Inner.{enteredFrom, Placing, placing, QueueRoom, Grown, placedAt, BuiltOn, Mine, Flood}
+use Rattle.integration_positions.specs.Inner.{Gone, Decided}
+use Rattle.integration_positions.proofs.Room.{Tried, tried, grown-at, grown-then, kept-least}
+use Rattle.integration_positions.proofs.Flooding.{lowered, entered-at, flood-at, tried-least}
 
 module _ (costs before corners built entered : List ℕ) (f : BuiltOn costs before corners built entered) where
   -- what is entered from 65536 was left alone by building: a walk that stays put arrives at its built cost
@@ -64,20 +64,11 @@ module _ (costs before corners built entered : List ℕ) (f : BuiltOn costs befo
           closed = u .closed;
         };
         sources = λ j l e. elim (ℕ-discrete j i) [
-          | yes q ↦
-              (let least = tried-least costs before corners built entered f i (s .queued) 65536 small corner s inside r (d .flood) attempt (rw q at e) in
-              rw q (kept corner least))
-          | no q ↦ (let old = d .sources j (omega arith) e in kept-from j (omega arith) old)
+          | yes q ↦ rw q (kept-least g corner i small (tried-least costs before corners built entered f i (s .queued) 65536 small corner s inside r
+              (d .flood) attempt (rw q at e)))
+          | no q ↦ kept-least (grown-then (grown-at entered 65536 i corner s attempt) g) _ j (omega arith) (d .sources j (omega arith) e)
         ];
       }
-        where
-          kept : (x : ℕ) → getD (after .places) x 0 ≤ i → getD (t .places) x 0 ≤ i
-          kept x l = omega (arith, g .places-kept x (λ a. absurd (omega arith)))
-
-          kept-from : (j : ℕ) → j < i → getD (s .places) (getD corners j 0) 0 ≤ j → getD (t .places) (getD corners j 0) 0 ≤ j
-          kept-from j k l =
-              let one = grown-at entered 65536 i corner s attempt .places-kept (getD corners j 0) (λ a. absurd (omega arith)) in
-              omega (arith, one, g .places-kept (getD corners j 0) (λ a. absurd (omega arith)))
 
   -- after the last corner
   pub decided : (s : Placing) → QueueRoom s → Gone costs before corners built entered (length corners) s
