@@ -22,13 +22,12 @@ use Rattle.fields.proofs.Beside.{beside-below}
 use Rattle.integration_waves.specs.Walks.{start, move}
 use Rattle.integration_field.specs.Word.{low, isGoal, isLos, isImpassable}
 use Rattle.integration_field.specs.Listed.{Indexes, noPositions}
-use Rattle.integration_field.specs.Build.{build}
 use Rattle.integration_field.specs.Walks.{MayEnter, Permitted}
 use Rattle.integration_field.specs.Position.{isUnplaced, firstPosition, positionAt, positions}
 use Rattle.integration_field.specs.Promise.{Walked, Placed, Position}
 use Rattle.integration_field.specs.Promise.Position.{earliest, none, unplaced}
 use Rattle.integration_field.proofs.Position.{listed-at, walk-on, positions-told, position-one}
-use Rattle.integration_positions.specs.Inner.{enteredFrom, keptOf, Lowered, BuiltOn, Decided}
+use Rattle.integration_positions.specs.Inner.{enteredFrom, keptOf, Lowered, BuiltFrom, BuiltOn, Decided}
 use Rattle.integration_positions.proofs.Flooding.{least, lowered, entered-at, exact-back}
 
 module _ (costs before corners built entered : List ℕ) (f : BuiltOn costs before corners built entered) where
@@ -164,17 +163,16 @@ pub given-corners : (corners : List ℕ) (count : ℕ) → Indexes 100 corners c
 given-corners corners count h = length-take-le count corners (omega (arith, h .full, h .count-in))
 
 -- the field that the call is given, built
-pub given : (costs before corners built entered : List ℕ) (count : ℕ) → length before ≡ 100 → Indexes 100 corners count
-    → built ≡ build costs before (take count corners) .cells
+pub given : {costs before built corners : List ℕ} {count : ℕ} → BuiltFrom costs before built corners count → (entered : List ℕ)
     → entered ≡ map (λ x. enteredFrom (getD costs x 0) (getD before x 0) (getD built x 0)) (below 100)
     → BuiltOn costs before (take count corners) built entered
-given costs before corners built entered count full h b e =
-    let long = given-corners corners count h in
+given {corners = corners} {count = count} b entered e =
+    let long = given-corners corners count (b .listed) in
     record {
-      full = full;
+      full = b .full;
       corners-in = members-in (take count corners) (λ i l.
-          (let k : i < count = omega (arith, long) in rw (getD-take count corners i 0 k) (h .cells-in i k)));
-      few-corners = omega (arith, long, h .count-in);
-      is-built = b;
+          (let k : i < count = omega (arith, long) in rw (getD-take count corners i 0 k) (b .listed .cells-in i k)));
+      few-corners = omega (arith, long, b .listed .count-in);
+      is-built = b .is-built;
       is-entered = e;
     }

@@ -75,24 +75,24 @@ module _ (entered : List ℕ) (value p x : ℕ) (entering : value ≤ 65536) (sm
 -- ---- room
 
 pub has-few : (entries queue : List ℕ) (queued : ℕ) → HasRoom entries queue queued → queued ≤ 100
-has-few entries queue queued h = let m = h .1 .1 in omega (arith, m .same-queued, queued-few (h .1 .0) (m .room))
+has-few entries queue queued h = omega (arith, h .stands .same-queued, queued-few (h .state) (h .stands .room))
 
 pub has-cells : (entries queue : List ℕ) (queued : ℕ) → HasRoom entries queue queued → (j : ℕ) → j < queued → getD queue j 0 < 100
 has-cells entries queue queued h j l =
-    let m = h .1 .1 in
+    let m = h .stands in
     rw (m .same-queue) (m .room .indexes .cells-in j (omega (arith, m .same-queued)))
 
 -- behind a step of the code
 module _ {entries queue : List ℕ} {queued : ℕ} {entries-then queue-then : List ℕ} {queued-then : ℕ} (step : List ℕ → ℕ → Placing → Placing)
     (steps : StepsTo entries queue queued entries-then queue-then queued-then step) (h : HasRoom entries queue queued) where
-  behind : StandsFor (h .0) entries-then queue-then queued-then (step (h .0) 0 (h .1 .0))
-  behind = steps (h .0) 0 (h .1 .0) (omega arith) (h .1 .1)
+  behind : StandsFor (h .entered) entries-then queue-then queued-then (step (h .entered) 0 (h .state))
+  behind = steps (h .entered) 0 (h .state) (omega arith) (h .stands)
 
   pub has-next : HasRoom entries-then queue-then queued-then
-  has-next = (h .0, (step (h .0) 0 (h .1 .0), behind))
+  has-next = record { entered = h .entered; state = step (h .entered) 0 (h .state); stands = behind }
 
   pub has-more : ((entered : List ℕ) (s : Placing) → Grown s (step entered 0 s)) → queued ≤ queued-then
-  has-more grown = omega (arith, h .1 .1 .same-queued, grown (h .0) (h .1 .0) .more, behind .same-queued)
+  has-more grown = omega (arith, h .stands .same-queued, grown (h .entered) (h .state) .more, behind .same-queued)
 
 -- before the first corner
 pub stands-none : (entered queue : List ℕ) → length entered ≡ 100 → length queue ≡ 101 → StandsFor entered entered queue 0 (placing noPositions queue 0)

@@ -5,7 +5,7 @@ use mathlib.Core.Bool.{Bool, not, cond, _&&_}
 use mathlib.Core.List.{List, [], _∷_, map, List·Memᴰ}
 use Prim.Native.Nat.{ℕ, suc, _-_, _≤_, _<_}
 use lib.Dec.{eqb}
-use lib.ListN.{length, getD, set}
+use lib.ListN.{length, getD, set, take}
 use Rattle.utilities.specs.declared.CompassDir.{CompassDir}
 use Rattle.utilities.specs.Lists.{below}
 use Rattle.utilities.specs.Count.{count}
@@ -15,7 +15,7 @@ use Rattle.fields.specs.declared.Stepped.the-variants.{Cell, Outside}
 use Rattle.fields.specs.Cell.{indexOf, stepped}
 use Rattle.fields.specs.Neighbours.{BesideAt}
 use Rattle.integration_field.specs.Word.{low}
-use Rattle.integration_field.specs.Listed.{Indexes}
+use Rattle.integration_field.specs.Listed.{Indexes, noPositions}
 use Rattle.integration_field.specs.Build.{build}
 use Rattle.integration_field.specs.Position.{isUnplaced}
 use Rattle.integration_field.specs.Promise.{WalkFrom}
@@ -97,8 +97,31 @@ pub record StandsFor (entered entries queue : List ℕ) (queued : ℕ) (s : Plac
   pub entry-at : (x : ℕ) → x < 100 → getD entries x 0 ≡ entryOf (getD entered x 0) (getD (s .places) x 0)
 
 -- they stand for some positions, and so there is room
-abbrev pub HasRoom : List ℕ → List ℕ → ℕ → Type 0
-HasRoom entries queue queued = (entered : List ℕ) × ((s : Placing) × StandsFor entered entries queue queued s)
+pub record HasRoom (entries queue : List ℕ) (queued : ℕ) : Type 0 where
+  pub entered : List ℕ
+  pub state : Placing
+  pub stands : StandsFor entered entries queue queued state
+
+-- what the functions that place cells are given
+pub record PlaceReady (entries queue : List ℕ) (queued value index : ℕ) : Type 0 where
+  pub inside : index < 100
+  pub value-in : value ≤ 65536
+  pub room : HasRoom entries queue queued
+
+pub record FloodReady (entries queue : List ℕ) (gone queued position : ℕ) : Type 0 where
+  pub small : position < 255
+  pub behind : gone ≤ queued
+  pub room : HasRoom entries queue queued
+
+pub record CornerReady (entries queue : List ℕ) (queued position corner : ℕ) : Type 0 where
+  pub inside : corner < 100
+  pub small : position < 255
+  pub room : HasRoom entries queue queued
+
+pub record CornersReady (entries positions corners : List ℕ) (count : ℕ) : Type 0 where
+  pub listed : Indexes 100 corners count
+  pub full : length entries ≡ 100
+  pub none-yet : positions ≡ noPositions
 
 -- whichever positions they stand for before a step of the code, behind it they stand for those that `step` leaves, for any position p
 abbrev pub StepsTo : List ℕ → List ℕ → ℕ → List ℕ → List ℕ → ℕ → (List ℕ → ℕ → Placing → Placing) → Type 0
@@ -113,6 +136,13 @@ pub record Written (gone : ℕ) (positions : List ℕ) (s : Placing) : Type 0 wh
   pub unwritten : (x : ℕ) → x < 100 → getD (s .places) x 0 ≡ 255 → getD positions x 0 ≡ 255
 
 -- ---- what holds while positions are handed on
+
+-- what positions are sought for: a field's costs, its cells before building and after, and the corners that it was built from
+pub record BuiltFrom (costs before built corners : List ℕ) (count : ℕ) : Type 0 where
+  pub costs-hundred : length costs ≡ 100
+  pub full : length before ≡ 100
+  pub listed : Indexes 100 corners count
+  pub is-built : built ≡ build costs before (take count corners) .cells
 
 -- the field that is meant: `built` are its cells after building, and `entered` the values from which moves arrive at built costs
 pub record BuiltOn (costs before corners built entered : List ℕ) : Type 0 where

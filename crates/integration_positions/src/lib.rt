@@ -11,11 +11,10 @@ ghost use lib.ListN.{length, getD, take};
 ghost use Rattle.utilities.specs.Compass.{orthogonal};
 ghost use Rattle.utilities.specs.Lists.{below};
 ghost use Rattle.fields.specs.Cell.{cellAt, stepped};
-ghost use Rattle.integration_field.specs.Listed.{Indexes, noPositions};
-ghost use Rattle.integration_field.specs.Build.{build};
 ghost use Rattle.integration_field.specs.Position.{positions};
 ghost use Rattle.integration_positions.specs.Inner.{enteredFrom, Lowered, Placing, placing, placedAt, placedTo, placedAround, keptOf};
 ghost use Rattle.integration_positions.specs.Inner.{StandsFor, HasRoom, StepsTo, Written, BuiltOn, Flood, FloodedOn, GoneOn, Decided};
+ghost use Rattle.integration_positions.specs.Inner.{PlaceReady, FloodReady, CornerReady, CornersReady, BuiltFrom};
 
 // The entry of a cell that building left as it was: above every cell's value, so that no move is made into the cell.
 const LEFT_ALONE: u32 = 65536;
@@ -70,7 +69,7 @@ fn place_at(
     value: u32,
     index: usize,
 ) -> usize
-    requires { ⌜ (index < 100) × ((value ≤ 65536) × HasRoom (now entered) (now queue) queued) ⌝ }
+    requires { ⌜ PlaceReady (now entered) (now queue) queued value index ⌝ }
     ensures { λ r. ⌜ StepsTo (now (entered .entry)) (now (queue .entry)) queued (now (entered .exit)) (now (queue .exit)) r
         (λ values p. placedAt values value p index) ⌝ }
 {
@@ -139,7 +138,7 @@ fn flood(
     queued: usize,
     position: u8,
 ) -> usize
-    requires { ⌜ (position < 255) × ((gone ≤ queued) × HasRoom (now entered) (now queue) queued) ⌝ }
+    requires { ⌜ FloodReady (now entered) (now queue) gone queued position ⌝ }
     ensures { λ r. ⌜ HasRoom (now (entered .exit)) (now (queue .exit)) r × ((costs before corners values : List ℕ) (s : Placing)
         → BuiltOn costs before corners (now (built .entry)) values
         → StandsFor values (now (entered .entry)) (now (queue .entry)) queued s
@@ -170,7 +169,7 @@ fn place_corner(
     position: u8,
     corner: usize,
 ) -> usize
-    requires { ⌜ (corner < 100) × ((position < 255) × HasRoom (now entered) (now queue) queued) ⌝ }
+    requires { ⌜ CornerReady (now entered) (now queue) queued position corner ⌝ }
     ensures { λ r. ⌜ HasRoom (now (entered .exit)) (now (queue .exit)) r × ((costs before corners values : List ℕ)
         → BuiltOn costs before corners (now (built .entry)) values
         → position < length corners
@@ -192,7 +191,7 @@ fn place_corners(
     corners: &[usize; 100],
     count: usize,
 )
-    requires { ⌜ (Indexes 100 (now corners) count) × ((length (now entered) ≡ 100) × (now positions ≡ noPositions)) ⌝ }
+    requires { ⌜ CornersReady (now entered) (now positions) (now corners) count ⌝ }
     ensures { λ _. ⌜ ((costs before : List ℕ)
         → BuiltOn costs before (take count (now (corners .entry))) (now (built .entry)) (now (entered .entry))
         → Decided costs before (take count (now (corners .entry))) (now (built .entry)) (now (entered .entry)) (now (positions .exit))) ⌝ }
@@ -254,8 +253,7 @@ pub fn corner_positions<'a>(
     corners: &'a [usize; 100],
     count: usize,
 ) -> [u8; 100]
-    requires { ⌜ (length (now costs) ≡ 100) × ((length (now before) ≡ 100) × ((Indexes 100 (now corners) count)
-        × (now built ≡ build (now costs) (now before) (take count (now corners)) .cells))) ⌝ }
+    requires { ⌜ BuiltFrom (now costs) (now before) (now built) (now corners) count ⌝ }
     ensures { λ r. ⌜ r ≡ positions (now (costs .entry)) (now (before .entry)) (take count (now (corners .entry))) ⌝ }
 {
     // Without corners no cell belongs to one.

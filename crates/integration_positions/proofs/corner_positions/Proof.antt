@@ -17,28 +17,25 @@ none-listed : tie.Need-returns
 none-listed c = let a = c .before .before .args in no-corners (now (a .costs)) (now (a .before)) (now (a .corners)) (a .count) (c .if1 .taken)
 
 entered-from-requires : tie.Need-entered-from-requires
-entered-from-requires c κs =
-    let s = c .before .before in
-    let a = s .args in
-    let f = given _ (now (a .before)) (now (a .corners)) (now (a .built)) _ (a .count) (s .pre .1 .0) (s .pre .1 .1 .0) (s .pre .1 .1 .1) refl in
-    (s .pre .0, paid-for _ _ _ _ _ f)
+entered-from-requires c κs = let p = c .before .before .pre in (p .costs-hundred, paid-for _ _ _ _ _ (given p _ refl))
+
+-- where the entries are made: the call
+abbrev start : tie.After-entered-from → tie.Start
+start c = c .before .before .before
 
 place-corners-requires : tie.Need-place-corners-requires
 place-corners-requires c κs =
     let made = c .before .before in
-    let s = made .before .before .before in
-    let a = s .args in
+    let a = start made .args in
     let by : ℕ → ℕ = λ x. enteredFrom (getD (now (a .costs)) x 0) (getD (now (a .before)) x 0) (getD (now (a .built)) x 0) in
-    (s .pre .1 .1 .0, (rw (made .entered-from .ensures) (table-length by 100), refl))
+    record { listed = start made .pre .listed; full = rw (made .entered-from .ensures) (table-length by 100); none-yet = refl }
 
 returns : tie.Need-returns-2
 returns c =
     let flood = c .before .before in
     let made = flood .before .before .before in
-    let s = made .before .before .before in
-    let a = s .args in
-    let f = given _ (now (a .before)) (now (a .corners)) (now (a .built)) _ (a .count) (s .pre .1 .0) (s .pre .1 .1 .0) (s .pre .1 .1 .1)
-    (made .entered-from .ensures) in
+    let a = start made .args in
+    let f = given (start made .pre) _ (made .entered-from .ensures) in
     c .keep .ensures ∙ keeps-all _ _ _ _ _ f _ (flood .place-corners .ensures (now (a .costs)) (now (a .before)) f)
 
 pub corner-positions-spec : {M : Type 1} → statement M

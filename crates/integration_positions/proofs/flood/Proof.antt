@@ -82,8 +82,8 @@ abbrev μ-loop : tie.MeasureT-loop
 
 loop-holds : tie.Need-loop-holds Inv-loop μ-loop
 loop-holds c = record {
-  room = c .pre .1 .1;
-  within = omega (arith, c .pre .1 .0);
+  room = c .pre .room;
+  within = c .pre .behind;
   turned = λ costs before corners values s f m w d. record { state = s; stands = m; written = w; grown = grown-none s; flood = d };
 }
 
@@ -134,7 +134,7 @@ loop-again c =
     let cell = named (valued c) in
     let l = turn cell .loop in
     let a = turn cell .before .args in
-    let small = turn cell .before .pre .0 in
+    let small = turn cell .before .pre .small in
     let y = cell .index-of .result in
     let v = valued c .low-bits .result in
     let here : l .i < l .count = omega arith in

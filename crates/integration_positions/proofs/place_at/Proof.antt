@@ -18,7 +18,7 @@ use Rattle.integration_positions.proofs.place_at.Statement.{statement}
 use Rattle.integration_positions.proofs.place_at.Tie as tie
 
 few : (s : tie.Start) → s .args .queued ≤ 100
-few s = has-few (now (s .args .entered)) (now (s .args .queue)) (s .args .queued) (s .pre .1 .1)
+few s = has-few (now (s .args .entered)) (now (s .args .queue)) (s .args .queued) (s .pre .room)
 
 element-write-queue : tie.Need-element-write-queue
 element-write-queue c = omega (arith, few (c .before .before .before))
@@ -35,9 +35,9 @@ returns c values p s small m =
     let pre = chosen .before .before .pre in
     ⊎-elim
     (λ w. rw (w .1, w .0 .taken, c .narrow .ensures, add-one (a .queued))
-    (stands-taken values (a .value) p (a .index) (pre .1 .0) small (pre .0) _ _ _ s m (eqb-true _ _ (w .0 .taken)) (tried _ _ _ _ s)))
+    (stands-taken values (a .value) p (a .index) (pre .value-in) small (pre .inside) _ _ _ s m (eqb-true _ _ (w .0 .taken)) (tried _ _ _ _ s)))
     (λ w. rw (w .1, w .0 .left, c .narrow .ensures, add-zero (a .queued), set-getD (now (a .entered)) (a .index) 0)
-    (stands-left values (a .value) p (a .index) (pre .1 .0) small (pre .0) _ _ _ s m (eqb-false _ _ (w .0 .left)) (tried _ _ _ _ s)))
+    (stands-left values (a .value) p (a .index) (pre .value-in) small (pre .inside) _ _ _ s m (eqb-false _ _ (w .0 .left)) (tried _ _ _ _ s)))
     (chosen .if1 .came)
 
 pub place-at-spec : {M : Type 1} → statement M

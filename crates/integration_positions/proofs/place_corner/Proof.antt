@@ -31,7 +31,7 @@ module _ (s : tie.Start) (costs before corners values : List ℕ) (f : BuiltOn c
     after = go s values (s .args .position) (entry s)
 
     floods : Flood costs before corners (now (s .args .built)) values (s .args .position) (s .args .queued) after
-    floods = rw (← c) (corner-flood costs before corners _ _ f (s .args .position) (s .pre .1 .0) h (entry s) (g .stands .room) (g .gone) (rw c (s .pre .0)))
+    floods = rw (← c) (corner-flood costs before corners _ _ f (s .args .position) (s .pre .small) h (entry s) (g .stands .room) (g .gone) (rw c (s .pre .inside)))
 
     written : Written (s .args .queued) (now (s .args .positions)) after
     written =
@@ -43,7 +43,7 @@ module _ (s : tie.Start) (costs before corners values : List ℕ) (f : BuiltOn c
     gone-on entries t o = record {
       stands = o .stands;
       gone =
-          gone-next costs before corners _ _ f (s .args .position) (s .pre .1 .0) h (entry s) (g .stands .room) (g .gone) (rw c (s .pre .0)) t
+          gone-next costs before corners _ _ f (s .args .position) (s .pre .small) h (entry s) (g .stands .room) (g .gone) (rw c (s .pre .inside)) t
           (rw c (o .grown)) (o .flood);
     }
 
@@ -52,15 +52,18 @@ abbrev start : tie.After-place-at → tie.Start
 start c = c .before .before .before
 
 place-at-requires : tie.Need-place-at-requires
-place-at-requires c κs = let s = c .before .before in (s .pre .0, (omega arith, s .pre .1 .1))
+place-at-requires c κs = let p = c .before .before .pre in record { inside = p .inside; value-in = omega arith; room = p .room }
 
 flood-requires : tie.Need-flood-requires
 flood-requires c κs =
     let try = c .before .before .before in
     let s = start try in
     let steps = try .place-at .ensures in
-    let more = has-more (go s) steps (s .pre .1 .1) (λ values t. grown-at _ _ _ (s .args .corner) t (tried _ _ _ _ t)) in
-    (s .pre .1 .0, (more, has-next (go s) steps (s .pre .1 .1)))
+    record {
+      small = s .pre .small;
+      behind = has-more (go s) steps (s .pre .room) (λ values t. grown-at _ _ _ (s .args .corner) t (tried _ _ _ _ t));
+      room = has-next (go s) steps (s .pre .room);
+    }
 
 returns : tie.Need-returns
 returns c =
@@ -70,7 +73,7 @@ returns c =
       end .0,
       λ costs before corners values f h q g.
           gone-on s costs before corners values f h q g _ _
-          (end .1 costs before corners values _ f (try .place-at .ensures values (s .args .position) (entry s) (s .pre .1 .0) (g .stands))
+          (end .1 costs before corners values _ f (try .place-at .ensures values (s .args .position) (entry s) (s .pre .small) (g .stands))
           (written s costs before corners values f h q g) (floods s costs before corners values f h q g)),
     )
 

@@ -37,19 +37,22 @@ abbrev μ-loop : tie.MeasureT-loop
 loop-holds : tie.Need-loop-holds Inv-loop μ-loop
 loop-holds c = (
   omega arith,
-  rw (c .pre .1 .1)
-      (let none = stands-none _ _ (c .pre .1 .0) refl in
-      record { room = (_, (_, none)); gone = λ costs before f. record { stands = none; gone = gone-none costs before _ _ _ f _ } }),
+  rw (c .pre .none-yet)
+      (let none = stands-none _ _ (c .pre .full) refl in
+      record {
+        room = record { entered = _; state = _; stands = none };
+        gone = λ costs before f. record { stands = none; gone = gone-none costs before _ _ _ f _ };
+      }),
 )
 
 mul-corner : tie.Need-mul-corner Inv-loop μ-loop
-mul-corner c = omega (arith, c .before .before .pre .0 .count-in)
+mul-corner c = omega (arith, c .before .before .pre .listed .count-in)
 
 element-copy-out-corner : tie.Need-element-copy-out-corner Inv-loop μ-loop
-element-copy-out-corner c = omega (arith, c .before .before .pre .0 .count-in)
+element-copy-out-corner c = omega (arith, c .before .before .pre .listed .count-in)
 
 narrow-requires : tie.Need-narrow-requires Inv-loop μ-loop
-narrow-requires c κs = omega (arith, c .before .before .before .pre .0 .count-in)
+narrow-requires c κs = omega (arith, c .before .before .before .pre .listed .count-in)
 
 -- the turn of a call, and its position
 abbrev narrowed : tie.After-place-corner Inv-loop μ-loop → tie.After-narrow Inv-loop μ-loop
@@ -59,21 +62,18 @@ abbrev turn : tie.After-narrow Inv-loop μ-loop → tie.At-loop Inv-loop μ-loop
 turn c = c .before .before .before
 
 small : (c : tie.After-narrow Inv-loop μ-loop) → c .narrow .result < 100
-small c = omega (arith, c .narrow .ensures, turn c .before .pre .0 .count-in)
+small c = omega (arith, c .narrow .ensures, turn c .before .pre .listed .count-in)
 
 corner-in : (c : tie.After-narrow Inv-loop μ-loop) → getD (now (turn c .before .args .corners)) (turn c .loop .place) 0 < 100
-corner-in c = turn c .before .pre .0 .cells-in (turn c .loop .place) (omega arith)
+corner-in c = turn c .before .pre .listed .cells-in (turn c .loop .place) (omega arith)
 
 place-corner-requires : tie.Need-place-corner-requires Inv-loop μ-loop
 place-corner-requires c κs =
     let at = c .before .before .before in
-    (corner-in at, (omega (arith, small at), turn at .loop .inv .1 .room))
+    record { inside = corner-in at; small = omega (arith, small at); room = turn at .loop .inv .1 .room }
 
 add-place : tie.Need-add-place Inv-loop μ-loop
-add-place c = omega (arith, turn (narrowed c) .before .pre .0 .count-in)
-
-loop-less : tie.Need-loop-less Inv-loop μ-loop
-loop-less c = omega arith
+add-place c = omega (arith, turn (narrowed c) .before .pre .listed .count-in)
 
 loop-again : tie.Need-loop-again Inv-loop μ-loop
 loop-again c =
@@ -82,7 +82,7 @@ loop-again c =
     let a = turn at .before .args in
     let corners = take (a .count) (now (a .corners)) in
     let h : l .place < a .count = omega arith in
-    let long : length corners ≡ a .count = given-corners (now (a .corners)) (a .count) (turn at .before .pre .0) in
+    let long : length corners ≡ a .count = given-corners (now (a .corners)) (a .count) (turn at .before .pre .listed) in
     let p : at .narrow .result ≡ l .place = at .narrow .ensures in
     let more = c .place-corner .ensures in (
       omega arith,
@@ -98,11 +98,12 @@ returns : tie.Need-returns Inv-loop μ-loop
 returns c costs before f =
     let l = c .before .loop in
     let a = c .before .before .args in
-    let long = given-corners (now (a .corners)) (a .count) (c .before .before .pre .0) in
+    let long = given-corners (now (a .corners)) (a .count) (c .before .before .pre .listed) in
     let e : l .place ≡ length (take (a .count) (now (a .corners))) = omega (arith, long, l .inv .0) in
     let end = rw e at (l .inv .1 .gone costs before f) in
     decided costs before _ _ _ f _ (end .stands .room) (end .gone)
 
 pub place-corners-spec : {M : Type 1} → statement M
 place-corners-spec = tie.close (tie.spec
-    Inv-loop μ-loop loop-holds mul-corner element-copy-out-corner narrow-requires place-corner-requires add-place loop-less loop-again returns)
+    Inv-loop μ-loop loop-holds mul-corner element-copy-out-corner narrow-requires place-corner-requires add-place (λ c. omega arith) loop-again
+    returns)

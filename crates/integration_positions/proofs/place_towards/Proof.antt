@@ -36,7 +36,8 @@ index c = c .index-beside .ensures _ (arrives (c .before))
 place-at-requires : tie.Need-place-at-requires
 place-at-requires c κs =
     let found = c .before .before in
-    (index found .1, start (found .before) .pre)
+    let p = start (found .before) .pre in
+    record { inside = index found .1; value-in = p .0; room = p .1 }
 
 returns-2 : tie.Need-returns-2
 returns-2 c values p s small m =
