@@ -23,54 +23,28 @@ abbrev μ-loop : tie.MeasureT-loop
 loop-holds : tie.Need-loop-holds Inv-loop μ-loop
 loop-holds c = (omega arith, record { full = refl; first = refl })
 
-shared-slice-read-entered-at : tie.Need-shared-slice-read-entered-at Inv-loop μ-loop
-shared-slice-read-entered-at c = omega (arith, c .before .before .before .before .pre .0)
+-- from where a cell's entry is worked out, the turn; and the rule that it goes by
+abbrev turn : tie.After-entered-at-arg2 Inv-loop μ-loop → tie.At-loop Inv-loop μ-loop
+turn c = c .before .before .before .before
 
-mul-entered-at : tie.Need-mul-entered-at Inv-loop μ-loop
-mul-entered-at c = omega arith
-
-element-copy-out-entered-at : tie.Need-element-copy-out-entered-at Inv-loop μ-loop
-element-copy-out-entered-at c = omega arith
-
-mul-entered-at-2 : tie.Need-mul-entered-at-2 Inv-loop μ-loop
-mul-entered-at-2 c = omega arith
-
-element-copy-out-entered-at-2 : tie.Need-element-copy-out-entered-at-2 Inv-loop μ-loop
-element-copy-out-entered-at-2 c = omega arith
+abbrev by : tie.At-loop Inv-loop μ-loop → ℕ → ℕ
+by t = let a = t .before .before .args in rule (now (a .costs)) (now (a .before)) (now (a .built))
 
 entered-at-requires : tie.Need-entered-at-requires Inv-loop μ-loop
-entered-at-requires c κs =
-    let turn = c .before .before .before .before in
-    turn .before .before .pre .1 (turn .loop .i) (omega arith)
-
-mul-entered : tie.Need-mul-entered Inv-loop μ-loop
-mul-entered c = omega arith
-
-array-write-entered : tie.Need-array-write-entered Inv-loop μ-loop
-array-write-entered c = omega arith
-
-add-i : tie.Need-add-i Inv-loop μ-loop
-add-i c = omega arith
-
-loop-less : tie.Need-loop-less Inv-loop μ-loop
-loop-less c = omega arith
+entered-at-requires c κs = turn c .before .before .pre .1 (turn c .loop .i) (omega arith)
 
 loop-again : tie.Need-loop-again Inv-loop μ-loop
 loop-again c =
-    let turn = c .before .before .before .before .before in
-    let l = turn .loop in
-    let a = turn .before .before .args in
-    let by = rule (now (a .costs)) (now (a .before)) (now (a .built)) in
-    (omega arith, filled-more 100 by (l .i) (l .entered) _ (omega arith) (c .entered-at .ensures) (l .inv .1))
+    let t = turn (c .before) in
+    (omega arith, filled-more 100 (by t) (t .loop .i) (t .loop .entered) _ (omega arith) (c .entered-at .ensures) (t .loop .inv .1))
 
 returns : tie.Need-returns Inv-loop μ-loop
 returns c =
-    let l = c .before .loop in
-    let a = c .before .before .before .args in
-    let e : l .i ≡ 100 = omega arith in
-    filled-all 100 (rule (now (a .costs)) (now (a .before)) (now (a .built))) (l .entered) (rw e at (l .inv .1))
+    let t = c .before in
+    let e : t .loop .i ≡ 100 = omega arith in
+    filled-all 100 (by t) (t .loop .entered) (rw e at (t .loop .inv .1))
 
 pub entered-from-spec : {M : Type 1} → statement M
 entered-from-spec = tie.close (tie.spec
-    Inv-loop μ-loop loop-holds shared-slice-read-entered-at mul-entered-at element-copy-out-entered-at mul-entered-at-2 element-copy-out-entered-at-2
-    entered-at-requires mul-entered array-write-entered add-i loop-less loop-again returns)
+    Inv-loop μ-loop loop-holds (λ c. omega (arith, c .before .before .before .before .pre .0)) (λ c. omega arith) (λ c. omega arith) (λ c. omega arith) (λ c. omega arith)
+    entered-at-requires (λ c. omega arith) (λ c. omega arith) (λ c. omega arith) (λ c. omega arith) loop-again returns)

@@ -24,39 +24,22 @@ abbrev μ-loop : tie.MeasureT-loop
 loop-holds : tie.Need-loop-holds Inv-loop μ-loop
 loop-holds c = (omega arith, record { full = refl; first = refl })
 
-mul-kept : tie.Need-mul-kept Inv-loop μ-loop
-mul-kept c = omega arith
-
-element-copy-out-kept : tie.Need-element-copy-out-kept Inv-loop μ-loop
-element-copy-out-kept c = omega arith
-
-element-copy-out-kept-2 : tie.Need-element-copy-out-kept-2 Inv-loop μ-loop
-element-copy-out-kept-2 c = omega arith
-
-array-write-left : tie.Need-array-write-left Inv-loop μ-loop
-array-write-left c = omega arith
-
-add-i : tie.Need-add-i Inv-loop μ-loop
-add-i c = omega arith
-
-loop-less : tie.Need-loop-less Inv-loop μ-loop
-loop-less c = omega arith
+-- the rule that a turn goes by
+abbrev by : tie.At-loop Inv-loop μ-loop → ℕ → ℕ
+by t = let a = t .before .args in rule (now (a .before)) (now (a .positions))
 
 loop-again : tie.Need-loop-again Inv-loop μ-loop
 loop-again c =
-    let turn = c .before .before .before .before in
-    let l = turn .loop in
-    let a = turn .before .args in
-    (omega arith, filled-more 100 (rule (now (a .before)) (now (a .positions))) (l .i) (l .left) _ (omega arith) (c .kept .ensures) (l .inv .1))
+    let t = c .before .before .before .before in
+    (omega arith, filled-more 100 (by t) (t .loop .i) (t .loop .left) _ (omega arith) (c .kept .ensures) (t .loop .inv .1))
 
 returns : tie.Need-returns Inv-loop μ-loop
 returns c =
-    let l = c .before .loop in
-    let a = c .before .before .args in
-    let e : l .i ≡ 100 = omega arith in
-    filled-all 100 (rule (now (a .before)) (now (a .positions))) (l .left) (rw e at (l .inv .1))
+    let t = c .before in
+    let e : t .loop .i ≡ 100 = omega arith in
+    filled-all 100 (by t) (t .loop .left) (rw e at (t .loop .inv .1))
 
 pub keep-spec : {M : Type 1} → statement M
 keep-spec = tie.close (tie.spec
-    Inv-loop μ-loop loop-holds mul-kept element-copy-out-kept element-copy-out-kept-2 (λ c κs. search needs) array-write-left add-i loop-less
-    loop-again returns)
+    Inv-loop μ-loop loop-holds (λ c. omega arith) (λ c. omega arith) (λ c. omega arith) (λ c κs. search needs) (λ c. omega arith) (λ c. omega arith)
+    (λ c. omega arith) loop-again returns)
