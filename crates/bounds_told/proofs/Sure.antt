@@ -24,7 +24,8 @@ use Rattle.flow_byte.specs.New.{newBytes}
 use Rattle.flow_arrows.specs.Arrows.{arrow, Away}
 use Rattle.flow_arrows.proofs.Fall.{is-in, in-among, Sector, value, Plain, NoWall, end-word}
 use Rattle.flow_arrows.proofs.Around.{Sees, near-in, pointing-in, reached-there, reached-back}
-use Rattle.flow_arrows.proofs.Look.{First, first-or-none, first-holds, first-same, LooksAt, Takes, is-taking, takes-first, ends-least}
+use Rattle.flow_arrows.proofs.Look.{Takes, is-taking}
+use Rattle.flow_arrows.proofs.Reached.{First, first-or-none, first-holds, first-same, LooksAt, takes-first, ends-least}
 use Rattle.flow_arrows.proofs.Bytes.{pointed-is}
 use Rattle.flow_arrows.proofs.Moves.{away}
 use Rattle.flow_arrows.proofs.CellBytes.{plain-byte}
@@ -64,7 +65,7 @@ module _ {costs window cells corners built : List ℕ} (s : Sector costs window 
   window-reached : (n : ℕ) → WindowCell (to-window window) n → value s n < 65535
   window-reached n w = omega (arith, ap low (end-word s n (mem-among n window w)))
 
-  looks-first : NoWall s x → {d : CompassDir} → First (Takes built x h) all d → (n : ℕ) → Sees built x d n → LooksAt built x n (lookAround built x)
+  looks-first : NoWall s x → {d : CompassDir} → First (Takes built x) all d → (n : ℕ) → Sees built x d n → LooksAt built x n (lookAround built x)
   looks-first o {d} f n v =
       let t = first-holds f in
       let r = all-reached o d (t .0) (t .1) (window-reached (t .0) (taken-window (t .0) (near-in (t .1 .to)) (t .2))) in
@@ -97,13 +98,13 @@ module _ {floor window cells corners on-floor : List ℕ} (s : Sector floor wind
     from-sees : {d : CompassDir} {n : ℕ} → Sees on-other x d n → Sees on-floor x d n
     from-sees = same-sees on-other on-floor (λ n l. wall-known t n l ∙ sym (wall-known s n l)) x h
 
-    to-takes : (d : CompassDir) → Takes on-floor x h d → Takes on-other x h d
+    to-takes : (d : CompassDir) → Takes on-floor x d → Takes on-other x d
     to-takes d (n, v, e) = let l = near-in (v .to) in (n, to-sees v, taken-known t n l ∙ sym (taken-known s n l) ∙ e)
 
-    from-takes : (d : CompassDir) → Takes on-other x h d → Takes on-floor x h d
+    from-takes : (d : CompassDir) → Takes on-other x d → Takes on-floor x d
     from-takes d (n, v, e) = let l = near-in (v .to) in (n, from-sees v, taken-known s n l ∙ sym (taken-known t n l) ∙ e)
 
-  chosen-first : (d : CompassDir) → First (Takes on-floor x h) all d → Chosen
+  chosen-first : (d : CompassDir) → First (Takes on-floor x) all d → Chosen
   chosen-first d f =
       let r = first-holds f in
       record {
@@ -114,7 +115,7 @@ module _ {floor window cells corners on-floor : List ℕ} (s : Sector floor wind
         looks = λ t w o. looks-first t x h o (first-same (to-takes t) (from-takes t) f) (r .0) (to-sees t (r .1));
       }
 
-  chosen-least : ((d : CompassDir) → List·Memᴰ d all → Takes on-floor x h d → ⊥) → (n : ℕ) → (p : PermittedNeighbour on-floor x n) → getD greatest n 0 < 65535
+  chosen-least : ((d : CompassDir) → List·Memᴰ d all → Takes on-floor x d → ⊥) → (n : ℕ) → (p : PermittedNeighbour on-floor x n) → getD greatest n 0 < 65535
       → ((m : ℕ) → PermittedNeighbour on-floor x m → (m ≡ n → ⊥) → getD greatest n 0 < getD least m 0) → Chosen
   chosen-least none n p r o =
       let v = permitted-sees on-floor x h p in
@@ -133,9 +134,9 @@ module _ {floor window cells corners on-floor : List ℕ} (s : Sector floor wind
       }
 
   pub chosen : (n : ℕ) → SureBy on-floor (to-window window) least greatest x n → Chosen
-  chosen n b = go (first-or-none (Takes on-floor x h) (is-taking on-floor x h) all) b
+  chosen n b = go (first-or-none (Takes on-floor x) (is-taking on-floor x h) all) b
     where
-      go : ((d : CompassDir) × First (Takes on-floor x h) all d) ⊎ ((d : CompassDir) → List·Memᴰ d all → Takes on-floor x h d → ⊥)
+      go : ((d : CompassDir) × First (Takes on-floor x) all d) ⊎ ((d : CompassDir) → List·Memᴰ d all → Takes on-floor x d → ⊥)
           → SureBy on-floor (to-window window) least greatest x n → Chosen
       go (inl f) b = chosen-first (f .0) (f .1)
       go (inr none) (by-window p w) =

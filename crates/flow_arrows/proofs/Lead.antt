@@ -52,7 +52,8 @@ use Rattle.flow_arrows.proofs.Fall.{end-open, EndSector, value, word-lo
 use Rattle.flow_arrows.proofs.Fall.{falls, rank, rank-less, rank-few}
 use Rattle.flow_arrows.proofs.Around.{Sees, differ, near-in, reached-there, reached-back, sees-beside}
 use Rattle.flow_arrows.proofs.Clear.{arrows-clear, target-on}
-use Rattle.flow_arrows.proofs.Look.{Found, found, Nothing, nothing}
+use Rattle.flow_arrows.proofs.Look.{Nothing, nothing}
+use Rattle.flow_arrows.proofs.Reached.{Found, found}
 use Rattle.flow_arrows.proofs.Moves.{away, reads-so, away-once}
 use Rattle.flow_arrows.proofs.Bytes.{new-length, Pointed, pointed-is}
 use Rattle.flow_arrows.proofs.CellBytes.{small-untaken, endWord, window-listed, end-sector, window-sector}
@@ -152,7 +153,7 @@ module _ (costs : List ℕ) (target : Target) (sightless : isSightless target �
       d : (d : CompassDir) × List·Memᴰ d all × Sees built x d (f .cell)
       d = sees-beside built x (p .inside) (f .cell) (beside-flip (cellAt (f .cell)) (cellAt x) (f .beside)) open-cell
 
-      go : (look : Look) → getD bytes x 0 ≡ lookedByte 0 look → Found built x (p .inside) reached b look → Next b x
+      go : (look : Look) → getD bytes x 0 ≡ lookedByte 0 look → Found built x b look → Next b x
       go (Looking best v) e q = record { way = best; next = q .0; sees = q .1; lower = q .2; byte = e }
       go (Taken t) e q = record {
         way = t;
