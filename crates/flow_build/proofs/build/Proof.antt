@@ -22,9 +22,11 @@ returns c =
 returns-2 : tie.Need-returns-2
 unfolding buildNumber
 returns-2 c =
-    let a = c .before .before .before .before .before .before .before .before .args in
-    let e = eq-eqb (length (now (a .sheet))) 100 (c .before .before .before .before .before .before .if1 .left) in
-    let w = c .before .before .calculate-flow-cells .ensures in
+    let built = c .before .before in
+    let full = built .before .before .before .before in
+    let a = full .before .before .args in
+    let e = eq-eqb (length (now (a .sheet))) 100 (full .if1 .left) in
+    let w = built .calculate-flow-cells .ensures in
     (rw e, (rw e w, build-arrows (a .field .field) (now (a .sheet)) _ (λ h. w)))
 
 pub build-spec : {M : Type 1} → statement M

@@ -9,14 +9,21 @@ use borrow.Author.Needs.{needs}
 use Rattle.flow_build.proofs.key_of.Statement.{statement}
 use Rattle.flow_build.proofs.key_of.Tie as tie
 
+-- the call, from where the cell is no wall; and that place, from where it is no portal
+abbrev start : tie.Else1 → tie.Start
+start c = c .before .before
+
+abbrev open-cell : tie.Else3 → tie.Else1
+open-cell c = c .before .before .before .before
+
 -- what each test has left
-no-wall : (c : tie.Else1) → isImpassable (c .before .before .args .word) ≡ false
+no-wall : (c : tie.Else1) → isImpassable (start c .args .word) ≡ false
 no-wall c = sym (c .before .is-impassable .ensures) ∙ c .if1 .left
 
-no-goal : (c : tie.Else2) → isGoal (c .before .before .before .before .args .word) ≡ false
+no-goal : (c : tie.Else2) → isGoal (start (c .before .before) .args .word) ≡ false
 no-goal c = sym (c .before .is-goal .ensures) ∙ c .if2 .left
 
-no-portal : (c : tie.Else3) → isPortal (c .before .before .before .before .before .before .args .word) ≡ false
+no-portal : (c : tie.Else3) → isPortal (start (open-cell c) .args .word) ≡ false
 no-portal c = sym (c .before .is-portal .ensures) ∙ c .if3 .left
 
 returns : tie.Need-returns
@@ -35,25 +42,16 @@ returns-4 : tie.Need-returns-4
 unfolding cellKey
 returns-4 c =
     let m = c .before .before in
-    rw (
-      no-wall (m .before .before .before .before),
-      no-goal (m .before .before),
-      no-portal m,
-      eq-eqb _ 65535 (sym (c .before .low-bits .ensures) ∙ c .if4 .taken),
-    )
+    let e = eq-eqb _ 65535 (sym (c .before .low-bits .ensures) ∙ c .if4 .taken) in
+    rw (no-wall (open-cell m), no-goal (m .before .before), no-portal m, e)
 
 returns-5 : tie.Need-returns-5
 unfolding cellKey
 returns-5 c =
     let m = c .before .before in
     let e = c .before .low-bits .ensures in
-    rw (
-      no-wall (m .before .before .before .before),
-      no-goal (m .before .before),
-      no-portal m,
-      ← e,
-      ne-eqb (c .before .low-bits .result) 65535 (c .if4 .left),
-    )
+    let f = ne-eqb (c .before .low-bits .result) 65535 (c .if4 .left) in
+    rw (no-wall (open-cell m), no-goal (m .before .before), no-portal m, ← e, f)
 
 pub key-of-spec : {M : Type 1} → statement M
 key-of-spec = tie.close (tie.spec

@@ -52,7 +52,8 @@ seen-key-requires c κs =
 
 returns-2 : tie.Need-returns-2
 returns-2 c =
-    let turned = c .before .before .before .before .before .before in
+    let read = c .before .before .before in
+    let turned = read .before .before .before in
     let looked = turned .before in
     let m = looked .before in
     let s = start m in

@@ -23,16 +23,11 @@ look-from-requires c κs =
     let p = turn .before .before .pre in
     (record { column-in = omega (arith, turn .loop-test .taken); row-in = p .0 }, p .1)
 
-add-column : tie.Need-add-column Inv-loop μ-loop
-add-column c = omega arith
-
-loop-less : tie.Need-loop-less Inv-loop μ-loop
-loop-less c = omega arith
-
 loop-again : tie.Need-loop-again Inv-loop μ-loop
 loop-again c =
-    let l = c .before .before .before .before .loop in
-    let a = c .before .before .before .before .before .args in
+    let turn = c .before .before .before .before in
+    let l = turn .loop in
+    let a = turn .before .args in
     let at = a .row * 10 + l .column in
     (omega arith, then-on (now (a .cells)) (a .dir) (a .row * 10) at (at + 1) (a .row * 10 + (l .column + 1)) (omega arith) (l .inv .1) (c .look-from .ensures))
 
@@ -43,4 +38,4 @@ returns c =
     on-to (now (a .cells)) (a .dir) (a .row * 10) (a .row * 10 + l .column) (a .row * 10 + 10) (omega arith) (l .inv .1)
 
 pub look-from-row-spec : {M : Type 1} → statement M
-look-from-row-spec = tie.close (tie.spec Inv-loop μ-loop loop-holds look-from-requires add-column loop-less loop-again returns)
+look-from-row-spec = tie.close (tie.spec Inv-loop μ-loop loop-holds look-from-requires (λ c. omega arith) (λ c. omega arith) loop-again returns)

@@ -20,16 +20,11 @@ loop-holds c = (omega arith, λ looks h. h)
 look-from-row-requires : tie.Need-look-from-row-requires Inv-loop μ-loop
 look-from-row-requires c κs = let turn = c .before .before in (turn .loop-test .taken, turn .before .before .pre)
 
-add-row : tie.Need-add-row Inv-loop μ-loop
-add-row c = omega arith
-
-loop-less : tie.Need-loop-less Inv-loop μ-loop
-loop-less c = omega arith
-
 loop-again : tie.Need-loop-again Inv-loop μ-loop
 loop-again c =
-    let l = c .before .before .before .before .loop in
-    let a = c .before .before .before .before .before .args in
+    let turn = c .before .before .before .before in
+    let l = turn .loop in
+    let a = turn .before .args in
     let at = l .row * 10 in
     (omega arith, then-on (now (a .cells)) (a .dir) 0 at (at + 10) ((l .row + 1) * 10) (omega arith) (l .inv .1) (c .look-from-row .ensures))
 
@@ -40,4 +35,5 @@ returns c =
     on-to (now (a .cells)) (a .dir) 0 (l .row * 10) 100 (omega arith) (l .inv .1)
 
 pub look-in-direction-spec : {M : Type 1} → statement M
-look-in-direction-spec = tie.close (tie.spec Inv-loop μ-loop loop-holds look-from-row-requires add-row loop-less loop-again returns)
+look-in-direction-spec = tie.close (tie.spec
+    Inv-loop μ-loop loop-holds look-from-row-requires (λ c. omega arith) (λ c. omega arith) loop-again returns)

@@ -27,13 +27,11 @@ both false b e = absurd (false≢true e)
 loop-holds : tie.Need-loop-holds Inv-loop μ-loop
 loop-holds c = (omega arith, λ e k h. absurd (omega arith))
 
-place-in : tie.Need-shared-slice-read-is-kept Inv-loop μ-loop
-place-in c = search needs
-
 loop-again : tie.Need-loop-again Inv-loop μ-loop
 loop-again c =
-    let l = c .before .before .before .loop in
-    let sheet = now (c .before .before .before .before .before .args .sheet) in (
+    let turn = c .before .before .before in
+    let l = turn .loop in
+    let sheet = now (turn .before .before .args .sheet) in (
       omega arith,
       λ e.
           let p = both (l .kept) (c .is-kept .result) e in
@@ -45,4 +43,4 @@ returns c e k h = let l = c .before .loop in l .inv .1 e k (omega arith)
 
 pub none-looks-spec : {M : Type 1} → statement M
 none-looks-spec = tie.close (tie.spec
-    Inv-loop μ-loop loop-holds place-in (λ c κs. search needs) (λ c. search needs) (λ c. search needs) loop-again returns)
+    Inv-loop μ-loop loop-holds (λ c. search needs) (λ c κs. search needs) (λ c. search needs) (λ c. search needs) loop-again returns)

@@ -30,35 +30,16 @@ loop-holds c =
 slice-read-byte-after : tie.Need-slice-read-byte-after Inv-loop μ-loop
 slice-read-byte-after c = omega (arith, c .before .before .before .before .pre, c .before .before .loop .inv .1 .long)
 
-mul-byte-after : tie.Need-mul-byte-after Inv-loop μ-loop
-mul-byte-after c = omega arith
-
-element-copy-out-byte-after :
-    tie.Need-element-copy-out-byte-after Inv-loop μ-loop
-element-copy-out-byte-after c = omega arith
-
-element-copy-out-byte-after-2 :
-    tie.Need-element-copy-out-byte-after-2 Inv-loop μ-loop
-element-copy-out-byte-after-2 c = omega arith
-
-byte-after-requires : tie.Need-byte-after-requires Inv-loop μ-loop
-byte-after-requires c κs = search needs
-
 slice-write-sheet : tie.Need-slice-write-sheet Inv-loop μ-loop
 slice-write-sheet c =
     let turn = c .before .before .before .before in
     omega (arith, turn .before .before .before .pre, turn .before .loop .inv .1 .long)
 
-add-i : tie.Need-add-i Inv-loop μ-loop
-add-i c = omega arith
-
-loop-less : tie.Need-loop-less Inv-loop μ-loop
-loop-less c = omega arith
-
 loop-again : tie.Need-loop-again Inv-loop μ-loop
 loop-again c =
-    let l = c .before .before .before .before .before .loop in
-    let s = c .before .before .before .before .before .before .before in
+    let turn = c .before .before .before .before in
+    let l = turn .before .loop in
+    let s = turn .before .before .before in
     let a = s .args in
     let old = now (a .sheet) in
     let g = rule (now (a .best)) (now (a .bits)) old in
@@ -79,5 +60,5 @@ returns c =
 
 pub point-cells-spec : {M : Type 1} → statement M
 point-cells-spec = tie.close (tie.spec
-    Inv-loop μ-loop loop-holds slice-read-byte-after mul-byte-after element-copy-out-byte-after element-copy-out-byte-after-2 byte-after-requires
-    slice-write-sheet add-i loop-less loop-again same-length returns)
+    Inv-loop μ-loop loop-holds slice-read-byte-after (λ c. omega arith) (λ c. omega arith) (λ c. omega arith) (λ c κs. search needs)
+    slice-write-sheet (λ c. omega arith) (λ c. omega arith) loop-again same-length returns)

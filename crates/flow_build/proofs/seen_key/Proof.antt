@@ -18,7 +18,10 @@ use Rattle.flow_build.proofs.seen_key.Tie as tie
 -- where the diagonal rule was asked: the start, and the answer is the rule's
 module _ (m : tie.After-passes-wall) where
   abbrev start : tie.Start
-  start = m .before .before .before .before .before .before .before .before .before .before
+  start =
+      let row-read = m .before .before .before .before in
+      let key-read = row-read .before .before .before in
+      key-read .before .before .before
 
   barred : passesWall (now (start .args .cells)) (indexOf (start .args .from)) (indexOf (start .args .to)) ≡ m .passes-wall .result
   barred = passes-at (now (start .args .cells)) (start .args .from) (start .args .to) (start .pre .0 .0) (start .pre .0 .1) ∙ sym (m .passes-wall .ensures)
