@@ -37,14 +37,7 @@ unfolding dirOf
 dir-mask byte = ap (dirWith all) (and-mask byte 4)
 
 pub dir-none : (x : ℕ) → (x ≡ 1 → ⊥) → (x ≡ 2 → ⊥) → (x ≡ 4 → ⊥) → (x ≡ 8 → ⊥) → (x ≡ 3 → ⊥) → (x ≡ 6 → ⊥) → (x ≡ 12 → ⊥) → (x ≡ 9 → ⊥) → dirWith all x ≡ Zero
-dir-none x n e s w ne se sw nw =
-    rw (
-      ne-eqb 1 x (λ h. n (sym h)),
-      ne-eqb 2 x (λ h. e (sym h)),
-      ne-eqb 4 x (λ h. s (sym h)),
-      ne-eqb 8 x (λ h. w (sym h)),
-      ne-eqb 3 x (λ h. ne (sym h)),
-      ne-eqb 6 x (λ h. se (sym h)),
-      ne-eqb 12 x (λ h. sw (sym h)),
-      ne-eqb 9 x (λ h. nw (sym h)),
-    )
+dir-none x n e s w ne se sw nw = rw (other 1 n, other 2 e, other 4 s, other 8 w, other 3 ne, other 6 se, other 12 sw, other 9 nw)
+  where
+    other : (k : ℕ) → (x ≡ k → ⊥) → eqb k x ≡ false
+    other k f = ne-eqb k x (λ h. f (sym h))
