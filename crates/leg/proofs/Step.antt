@@ -1,7 +1,6 @@
 -- One step of a leg, and step after step.
---     in-floor                 its sector is one of the floor's
---     made-target              the target that the program makes of a step is the step's, is inside the sector, and is closed where it is
---     lent-part                the part of the floor that is lent is the sector's own
+--     made-target              the target that the program makes of a parsed step is the step's, is inside the sector, and is closed where it is
+--     built-step               the field that the program builds of it is the step's
 --     wrote-step               what writing the step leaves, where its sector's part is lent
 --     from-first, from-more, from-last    planning step after step: before the first, a step more, and behind the last
 --     shut-first, shut-here, shut-more, shut-last    whether a window from a place on is closed: before the first step, at a closed one, behind an
@@ -16,7 +15,6 @@ use lib.Dec.{eqb, ltb}
 use lib.ListN.{length, take, drop}
 use lib.Seq.{drop-drop}
 use borrow.Author.Tests.{lt-ltb}
-use Rattle.route.specs.declared.PortalWindow.{PortalWindow}
 use Rattle.route.specs.declared.RouteStep.{RouteStep}
 use Rattle.route.specs.declared.Target as program
 use Rattle.route.specs.Step.{sectorOf, stepNumber, routeStep}
@@ -27,7 +25,7 @@ use Rattle.route.proofs.Targets.{held-listed, listed-held, held-window}
 use Rattle.sector.specs.Sector.{sectorField, sectorBytes}
 use Rattle.sector.specs.Inner.{flowBytes}
 use Rattle.sector.proofs.Planned.{run-bytes}
-use Rattle.leg_counting.specs.Counting.{legTarget}
+use Rattle.leg_counting.specs.Counting.{legTarget, isClosed}
 use Rattle.leg_counting.specs.Inner.{routeLegTarget}
 use Rattle.leg_counting.proofs.Counting.{leg-target-in, made-is, closed-listed}
 use Rattle.step_list.specs.Steps.{stepsOf}
@@ -35,36 +33,43 @@ use Rattle.step_list.specs.Inner.{stepAt}
 use Rattle.step_list.proofs.Steps.{stepsFrom, from-start, from-here, from-done}
 use Rattle.leg_plan.specs.Leg.{part, stepField, stepBytes, closedFrom, someClosed, withPart, plannedFrom, planned}
 use Rattle.leg_plan.proofs.Sheet.{from-none, closed-from-none}
-use Rattle.leg.specs.Inner.{StepTarget}
 
-pub in-floor : (step : List ℕ) → stepNumber step ≡ 0 → sectorOf step < 64
-in-floor step accepted = accepted-step step accepted .sector-in
+-- a step as the program holds it, parsed and with its target; and the program finds a window closed exactly where it is
+pub record StepTarget (sight : Bool) (step : List ℕ) (has : Bool) (previous : List ℕ) (s : RouteStep) (t : program.Target) : Type 0 where
+  pub parsed : s ≡ routeStep step
+  pub sector-in : s .sector < 64
+  pub is : heldTarget t ≡ legTarget sight has previous step
+  pub held : TargetHeld t
+  pub closed-is : (t .«has_window» && eqb (t .window .count) 0) ≡ isClosed (legTarget sight has previous step)
 
 pub made-target : (sight : Bool) (step : List ℕ) → stepNumber step ≡ 0 → (has : Bool) (previous : List ℕ) {s : RouteStep} {t : program.Target}
-    → s ≡ routeStep step → t ≡ listedTarget (routeLegTarget s sight has previous) → StepTarget sight step has previous t
+    → s ≡ routeStep step → t ≡ listedTarget (routeLegTarget s sight has previous) → StepTarget sight step has previous s t
 made-target sight step accepted has previous {s} {t} parsed made =
     let target = legTarget sight has previous step in
     let is : t ≡ listedTarget target = made-is step sight has previous parsed made in
     record {
+      parsed = parsed;
+      sector-in = rw parsed (accepted-step step accepted .sector-in);
       is = ap heldTarget is ∙ held-listed target;
       held = subst TargetHeld (sym is) (listed-held target (leg-target-in sight has previous step accepted));
       closed-is = ap (λ (u : program.Target). u .«has_window» && eqb (u .window .count) 0) is ∙ closed-listed target;
     }
 
--- as parts are lent: by the sector's number as it was read, and by a length as it was worked out
-pub lent-part : (floor : List ℕ) (sector w : ℕ) → w ≡ sector → (n : ℕ) → n ≡ 100 → take n (drop (w * 100) floor) ≡ part floor sector
-lent-part floor sector w e n f = rw (e, f)
+-- the field that is built of it
+module _ (sight : Bool) (floor step : List ℕ) (has : Bool) (previous : List ℕ) {s : RouteStep} {t : program.Target}
+    (m : StepTarget sight step has previous s t) {cells : List ℕ} (built : cells ≡ sectorField (part floor (s .sector)) (heldTarget t) .field) where
+  pub built-step : cells ≡ stepField sight floor has previous step
+  built-step = built ∙ ap₂ (λ (r : RouteStep) (u : Target). sectorField (part floor (r .sector)) u .field) (m .parsed) (m .is)
 
-pub wrote-step : (sight : Bool) (floor step : List ℕ) (has : Bool) (previous sheet : List ℕ) {t : program.Target} → StepTarget sight step has previous t
-    → {s : RouteStep} → s ≡ routeStep step → (cells bytes : List ℕ) → cells ≡ sectorField (part floor (sectorOf step)) (heldTarget t) .field
-    → bytes ≡ flowBytes (s .portal) (heldCells (t .window)) cells has previous
-    → (w : ℕ) → w ≡ sectorOf step → (n : ℕ) → n ≡ 100
-    → take (w * 100) sheet ++ (bytes ++ drop n (drop (w * 100) sheet)) ≡ withPart sheet (sectorOf step) (stepBytes sight floor has previous step)
-wrote-step sight floor step has previous sheet {t} target {s} parsed cells bytes p q w e n f =
-    let costs = part floor (sectorOf step) in
-    let written = run-bytes costs (heldTarget t) (s .portal) has previous cells (heldCells (t .window)) bytes p (sym (held-window t (target .held))) q
-    ∙ ap₂ (λ (u : Target) (v : PortalWindow). sectorBytes costs u v has previous) (target .is) (ap (λ (r : RouteStep). r .portal) parsed) in
-    rw (e, f) (ap₂ (λ (x y : List ℕ). take (sectorOf step * 100) sheet ++ (x ++ y)) written (drop-drop 100 (sectorOf step * 100) sheet))
+  -- as the part is lent: by a length as it was worked out
+  pub wrote-step : (sheet : List ℕ) {bytes : List ℕ} → bytes ≡ flowBytes (s .portal) (heldCells (t .window)) cells has previous → (n : ℕ) → n ≡ 100
+      → take (s .sector * 100) sheet ++ (bytes ++ drop n (drop (s .sector * 100) sheet))
+      ≡ withPart sheet (sectorOf step) (stepBytes sight floor has previous step)
+  wrote-step sheet {bytes} q n f =
+      let written = run-bytes (part floor (s .sector)) (heldTarget t) (s .portal) has previous cells (heldCells (t .window)) bytes built
+      (sym (held-window t (m .held))) q in
+      rw f (ap₂ (λ (x y : List ℕ). take (s .sector * 100) sheet ++ (x ++ y)) written (drop-drop 100 (s .sector * 100) sheet)
+      ∙ ap₂ (λ (r : RouteStep) (u : Target). withPart sheet (r .sector) (sectorBytes (part floor (r .sector)) u (r .portal) has previous)) (m .parsed) (m .is))
 
 -- ---- step after step
 
@@ -86,17 +91,17 @@ module _ (sight : Bool) (floor steps : List ℕ) where
     unfolding plannedFrom
     from-more sheet p q = rw (from-here steps k h, p, q, e, lt-ltb 0 (k + 1) (omega arith))
 
-    shut-at : {t : program.Target} → StepTarget sight step (ltb 0 k) previous t → {b : Bool} → b ≡ (t .«has_window» && eqb (t .window .count) 0)
+    shut-at : {s : RouteStep} {t : program.Target} → StepTarget sight step (ltb 0 k) previous s t → {b : Bool} → b ≡ (t .«has_window» && eqb (t .window .count) 0)
         → closedFrom sight floor (stepsFrom steps k) (ltb 0 k) previous
         ≡ (b || closedFrom sight floor (stepsFrom steps (k + 1)) true (stepField sight floor (ltb 0 k) previous step))
     unfolding closedFrom
     shut-at p c = rw (from-here steps k h, c, p .closed-is, e)
 
-    pub shut-here : {t : program.Target} → StepTarget sight step (ltb 0 k) previous t → {b : Bool} → b ≡ (t .«has_window» && eqb (t .window .count) 0)
+    pub shut-here : {s : RouteStep} {t : program.Target} → StepTarget sight step (ltb 0 k) previous s t → {b : Bool} → b ≡ (t .«has_window» && eqb (t .window .count) 0)
         → b ≡ true → closedFrom sight floor (stepsFrom steps k) (ltb 0 k) previous ≡ true
     shut-here p c z = shut-at p c ∙ rw z
 
-    pub shut-more : {t : program.Target} → StepTarget sight step (ltb 0 k) previous t → {b : Bool} → b ≡ (t .«has_window» && eqb (t .window .count) 0)
+    pub shut-more : {s : RouteStep} {t : program.Target} → StepTarget sight step (ltb 0 k) previous s t → {b : Bool} → b ≡ (t .«has_window» && eqb (t .window .count) 0)
         → b ≡ false → {cells : List ℕ} → cells ≡ stepField sight floor (ltb 0 k) previous step
         → closedFrom sight floor (stepsFrom steps k) (ltb 0 k) previous ≡ closedFrom sight floor (stepsFrom steps (k + 1)) (ltb 0 (k + 1)) cells
     shut-more p c z q = shut-at p c ∙ rw (z, q, lt-ltb 0 (k + 1) (omega arith))

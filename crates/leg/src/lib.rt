@@ -19,8 +19,8 @@ ghost use Prim.Native.Nat.{ℕ, _≤_};
 ghost use lib.ListN.{length};
 ghost use Rattle.utilities.specs.Compass.{sideOf};
 ghost use Rattle.route.specs.Table.{firstNumber};
-ghost use Rattle.route.specs.Step.{sectorOf, stepNumber};
-ghost use Rattle.route.specs.Inner.{heldTarget, TargetHeld};
+ghost use Rattle.route.specs.Step.{sectorOf};
+ghost use Rattle.route.specs.Inner.{heldTarget};
 ghost use Rattle.sector.specs.Sector.{sectorField};
 ghost use Rattle.sectors.specs.Floor.{across};
 ghost use Rattle.step_list.specs.Steps.{stepsOf};
@@ -31,7 +31,7 @@ ghost use Rattle.leg_plan.specs.Leg.{part, stepField, stepBytes, someClosed, wi
 ghost use Rattle.leg_plan.specs.Inner.{LegReady};
 ghost use Rattle.leg_plan.specs.Promise.{LegPlanned, LegPlannedBy};
 ghost use Rattle.leg_journey.specs.Journey.{LegArrives, LegArrivesAtGoal, Arrives};
-ghost use Rattle.leg.specs.Inner.{StepReady, StepTarget};
+ghost use Rattle.leg.specs.Inner.{StepReady, WriteReady};
 
 // 4 to 8, or 16, for a step that is refused on its own sector's costs, else 0. A sector that is off the floor has no costs to cut.
 fn floor_number(floor: &[u8], step: &[u8]) -> u8
@@ -184,20 +184,12 @@ pub fn leg_number(floor: &[u8], steps: &[u8], sheet_length: usize) -> u8
     0
 }
 
-// What a step's field starts from, in a leg: of its window the cells that count.
-pub fn target_of(step: &[u8], sight: bool, has_previous: bool, previous: &[u32; 100]) -> Target
-    requires { ⌜ stepNumber (now step) ≡ 0 ⌝ }
-    ensures { λ r. ⌜ StepTarget sight (now (step .entry)) «has_previous» (now (previous .entry)) r ⌝ }
-{
-    leg_counting::leg_target(RouteStep::new(step), sight, has_previous, previous)
-}
-
 // A step's field on its own sector's costs, started and built, without positions.
-pub fn build_step(floor: &[u8], step: &[u8], target: Target) -> IntegrationField
-    requires { ⌜ StepReady (now floor) (now step) × TargetHeld target ⌝ }
-    ensures { λ r. ⌜ r .field ≡ sectorField (part (now (floor .entry)) (sectorOf (now (step .entry)))) (heldTarget target) .field ⌝ }
+pub fn build_step(floor: &[u8], sector: usize, target: Target) -> IntegrationField
+    requires { ⌜ StepReady (now floor) sector target ⌝ }
+    ensures { λ r. ⌜ r .field ≡ sectorField (part (now (floor .entry)) sector) (heldTarget target) .field ⌝ }
 {
-    let at = index_of(step[STEP_SECTOR]) * 100;
+    let at = sector * 100;
     let end = at + 100;
     integration_target::build_target(&floor[at..end], target)
 }
@@ -213,15 +205,15 @@ pub fn is_some_closed(floor: &[u8], steps: &[u8], sight: bool) -> bool
     let mut k = 0;
     while k < count {
         let at = k * STEP_LENGTH;
-        let step = &steps[at..at + STEP_LENGTH];
-        let target = target_of(step, sight, 0 < k, &previous);
+        let route_step = RouteStep::new(&steps[at..at + STEP_LENGTH]);
+        let target = leg_counting::leg_target(route_step, sight, 0 < k, &previous);
         if leg_counting::is_closed(target) {
             return true;
         }
         if k + 1 == count {
             return false;
         }
-        let built = build_step(floor, step, target);
+        let built = build_step(floor, route_step.sector, target);
         previous = built.field;
         k += 1;
     }
@@ -237,18 +229,19 @@ fn write_step(
     previous: &[u32; 100],
     sheet: &mut [u8],
 ) -> [u32; 100]
-    requires { ⌜ StepReady (now floor) (now step) × (length (now sheet) ≡ 6400) ⌝ }
+    requires { ⌜ WriteReady (now floor) (now step) (now sheet) ⌝ }
     ensures cells { λ r. ⌜ r ≡ stepField sight (now (floor .entry)) «has_previous» (now (previous .entry)) (now (step .entry)) ⌝ }
     ensures wrote { λ _. ⌜ now (sheet .exit) ≡ withPart (now (sheet .entry)) (sectorOf (now (step .entry)))
         (stepBytes sight (now (floor .entry)) «has_previous» (now (previous .entry)) (now (step .entry))) ⌝ }
 {
-    let target = target_of(step, sight, has_previous, previous);
-    let built = build_step(floor, step, target);
-    let portal = RouteStep::new(step).portal;
-    let at = index_of(step[STEP_SECTOR]) * 100;
+    let route_step = RouteStep::new(step);
+    let sector = route_step.sector;
+    let target = leg_counting::leg_target(route_step, sight, has_previous, previous);
+    let built = build_step(floor, sector, target);
+    let at = sector * 100;
     let end = at + 100;
     sector::write(
-        portal,
+        route_step.portal,
         target.window,
         built,
         has_previous,

@@ -11,8 +11,9 @@ use native.Mathlib.Omega.{arith}
 use lib.Dec.{ltb}
 use lib.ListN.{length}
 use borrow.Author.Tests.{lt-ltb}
+use Rattle.route.specs.declared.RouteStep.{RouteStep}
 use Rattle.route.specs.declared.Target as program
-use Rattle.route.specs.Step.{sectorOf}
+use Rattle.route.specs.Step.{routeStep}
 use Rattle.route.specs.Target.{Target, to-window, bySight, targetOf}
 use Rattle.route.specs.Inner.{heldTarget}
 use Rattle.integration_field.specs.declared.BuildAnswer.{BuildAnswer}
@@ -26,7 +27,7 @@ use Rattle.step_list.proofs.Steps.{step-of}
 use Rattle.leg_plan.specs.Leg.{part}
 use Rattle.leg_plan.specs.Promise.{costsAt, targetAt, builtAt}
 use Rattle.leg_plan.proofs.Sheet.{built-is}
-use Rattle.leg.specs.Inner.{StepTarget}
+use Rattle.leg.proofs.Step.{StepTarget}
 use Rattle.leg_field.specs.Inner.{Handed}
 
 module _ (sight : Bool) (floor steps : List ℕ) where
@@ -44,23 +45,23 @@ module _ (sight : Bool) (floor steps : List ℕ) where
       rw (lt-ltb 0 (suc j) (omega arith))
       (ap₂ (λ (p s : List ℕ). to-window (countingCells p s)) (handed j refl) (sym (step-of steps (suc j) h)))
 
-  -- the step, lent as this part of the bytes, and its target as the program holds it
+  -- the step, lent as this part of the bytes, and as the program holds it
   module _ {k : ℕ} (h : k < length steps / 8) {step : List ℕ} (e : step ≡ stepAt steps k) {previous : List ℕ} (handed : Handed sight floor steps k previous)
-      {t : program.Target} (made : StepTarget sight step (ltb 0 k) previous t) where
+      {s : RouteStep} {t : program.Target} (made : StepTarget sight step (ltb 0 k) previous s t) where
     on-target : heldTarget t ≡ target k
     on-target = made .is ∙ ap (legTarget sight (ltb 0 k) previous) e ∙ target-is k h previous handed
 
-    on-costs : part floor (sectorOf step) ≡ costs k
-    on-costs = ap (λ (s : List ℕ). part floor (sectorOf s)) (e ∙ sym (step-of steps k h))
+    on-costs : part floor (s .sector) ≡ costs k
+    on-costs = ap (λ (r : RouteStep). part floor (r .sector)) (made .parsed ∙ ap routeStep (e ∙ sym (step-of steps k h)))
 
-    cells-at : {cells : List ℕ} → cells ≡ sectorField (part floor (sectorOf step)) (heldTarget t) .field → cells ≡ builtAt sight floor (stepsOf steps) k
+    cells-at : {cells : List ℕ} → cells ≡ sectorField (part floor (s .sector)) (heldTarget t) .field → cells ≡ builtAt sight floor (stepsOf steps) k
     cells-at q =
         q ∙ ap₂ (λ (c : List ℕ) (u : Target). sectorField c u .field) on-costs on-target
         ∙ sym (built-is sight floor (stepsOf steps) k)
 
-    pub handed-on : {cells : List ℕ} → cells ≡ sectorField (part floor (sectorOf step)) (heldTarget t) .field → Handed sight floor steps (k + 1) cells
+    pub handed-on : {cells : List ℕ} → cells ≡ sectorField (part floor (s .sector)) (heldTarget t) .field → Handed sight floor steps (k + 1) cells
     handed-on q j z = let same : k ≡ j = omega arith in cells-at q ∙ ap (builtAt sight floor (stepsOf steps)) same
 
-    pub answer-at : {r : BuildAnswer} → r ≡ answerOf 0 (part floor (sectorOf step)) (started (part floor (sectorOf step)) (heldTarget t))
+    pub answer-at : {r : BuildAnswer} → r ≡ answerOf 0 (part floor (s .sector)) (started (part floor (s .sector)) (heldTarget t))
         → r ≡ answerOf 0 (costs k) (started (costs k) (target k))
     answer-at q = q ∙ ap₂ (λ (c : List ℕ) (u : Target). answerOf 0 c (started c u)) on-costs on-target

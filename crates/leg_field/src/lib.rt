@@ -1,17 +1,15 @@
 // The field behind a leg: the built field of one of its steps, as the leg plans it.
 use integration_field::BuildAnswer;
+use route::RouteStep;
 use route::STEP_LENGTH;
-use route::STEP_SECTOR;
 use route::Target;
-use utilities::index_of;
 ghost use mathlib.Core.Path.{_≡_};
 ghost use mathlib.Core.Bool.{true, false};
 ghost use mathlib.Core.Logic.{_↔_};
 ghost use Prim.Native.Nat.{_/_, _≤_};
 ghost use lib.ListN.{length};
 ghost use Rattle.route.specs.Table.{firstNumber};
-ghost use Rattle.route.specs.Step.{sectorOf};
-ghost use Rattle.route.specs.Inner.{heldTarget, TargetHeld};
+ghost use Rattle.route.specs.Inner.{heldTarget};
 ghost use Rattle.integration_field.specs.Answer.{answerOf};
 ghost use Rattle.integration_field.specs.Promise.{BuildRefused};
 ghost use Rattle.integration_started.specs.Started.{started};
@@ -48,9 +46,9 @@ fn cells_before(floor: &[u8], steps: &[u8], sight: bool, place: usize) -> [u32; 
     let mut k = 0;
     while k < place {
         let at = k * STEP_LENGTH;
-        let step = &steps[at..at + STEP_LENGTH];
-        let target = leg::target_of(step, sight, 0 < k, &previous);
-        let built = leg::build_step(floor, step, target);
+        let route_step = RouteStep::new(&steps[at..at + STEP_LENGTH]);
+        let target = leg_counting::leg_target(route_step, sight, 0 < k, &previous);
+        let built = leg::build_step(floor, route_step.sector, target);
         previous = built.field;
         k += 1;
     }
@@ -58,12 +56,11 @@ fn cells_before(floor: &[u8], steps: &[u8], sight: bool, place: usize) -> [u32; 
 }
 
 // A step's field on its own sector's costs, started and built, with positions.
-fn field_of(floor: &[u8], step: &[u8], target: Target) -> BuildAnswer
-    requires { ⌜ StepReady (now floor) (now step) × TargetHeld target ⌝ }
-    ensures { λ r. ⌜ r ≡ answerOf 0 (part (now (floor .entry)) (sectorOf (now (step .entry))))
-        (started (part (now (floor .entry)) (sectorOf (now (step .entry)))) (heldTarget target)) ⌝ }
+fn field_of(floor: &[u8], sector: usize, target: Target) -> BuildAnswer
+    requires { ⌜ StepReady (now floor) sector target ⌝ }
+    ensures { λ r. ⌜ r ≡ answerOf 0 (part (now (floor .entry)) sector) (started (part (now (floor .entry)) sector) (heldTarget target)) ⌝ }
 {
-    let at = index_of(step[STEP_SECTOR]) * 100;
+    let at = sector * 100;
     let end = at + 100;
     let costs = &floor[at..end];
     let field = integration_init::start(costs, target);
@@ -98,9 +95,9 @@ fn field_by_sight(number: u8, floor: &[u8], steps: &[u8], sight: bool, place: us
     }
     let previous = cells_before(floor, steps, sight, place);
     let at = place * STEP_LENGTH;
-    let step = &steps[at..at + STEP_LENGTH];
-    let target = leg::target_of(step, sight, 0 < place, &previous);
-    field_of(floor, step, target)
+    let route_step = RouteStep::new(&steps[at..at + STEP_LENGTH]);
+    let target = leg_counting::leg_target(route_step, sight, 0 < place, &previous);
+    field_of(floor, route_step.sector, target)
 }
 
 // The field of a leg's step: nothing that is lent is written.

@@ -9,13 +9,11 @@ use denote.Ref.{now}
 use borrow.Author.Needs.{needs}
 use lib.ListN.{length, take, drop}
 use lib.Dec.{ltb}
-use Rattle.route.specs.Step.{sectorOf, stepNumber}
-use Rattle.route.specs.Target.{Target}
-use Rattle.sector.specs.Sector.{sectorField}
+use Rattle.route.specs.Step.{stepNumber}
 use Rattle.step_list.specs.Steps.{stepsOf}
 use Rattle.step_list.proofs.Steps.{stepsFrom, lent-step}
-use Rattle.leg_plan.specs.Leg.{part, closedFrom, someClosed}
-use Rattle.leg.proofs.Step.{shut-first, shut-here, shut-more, shut-last}
+use Rattle.leg_plan.specs.Leg.{closedFrom, someClosed}
+use Rattle.leg.proofs.Step.{StepTarget, made-target, built-step, shut-first, shut-here, shut-more, shut-last}
 use Rattle.leg.proofs.is_some_closed.Statement.{statement}
 use Rattle.leg.proofs.is_some_closed.Tie as tie
 
@@ -26,25 +24,32 @@ Inv-loop floor steps sight count previous₀ k₀ previous k =
 abbrev μ-loop : tie.MeasureT-loop
 μ-loop floor steps sight count previous₀ k₀ previous k = length steps / 8 - k
 
--- where a step is lent: the loop's test and its head, and the call
-abbrev Step : Type 0
-Step = tie.After-step Inv-loop μ-loop
+-- where a step's target is made: the loop's test and its head, and the call
+abbrev Targeted : Type 0
+Targeted = tie.After-leg-target Inv-loop μ-loop
 
-abbrev tested : Step → tie.In-loop Inv-loop μ-loop
-tested p = p .before
+abbrev tested : Targeted → tie.In-loop Inv-loop μ-loop
+tested t = t .before .before .before .before
 
-abbrev here : Step → tie.At-loop Inv-loop μ-loop
-here p = tested p .before
+abbrev here : Targeted → tie.At-loop Inv-loop μ-loop
+here t = tested t .before
 
-abbrev start : Step → tie.Start Inv-loop μ-loop
-start p = here p .before .before .before
+abbrev start : Targeted → tie.Start Inv-loop μ-loop
+start t = here t .before .before .before
 
-abbrev steps : Step → List ℕ
-steps p = now (start p .args .steps)
+abbrev steps : Targeted → List ℕ
+steps t = now (start t .args .steps)
 
--- the step that is lent is the leg's, and is not refused
-accepted : (p : Step) → let k = here p .loop .k in stepNumber (take (k * 8 + 8 - k * 8) (drop (k * 8) (steps p))) ≡ 0
-accepted p = let k = here p .loop .k in ap stepNumber (lent-step (steps p) k) ∙ start p .pre .accepted k (tested p .loop-test .taken)
+-- the step as it is lent, which is the leg's and is not refused, and as it is held
+abbrev step : Targeted → List ℕ
+step t = let at = here t .loop .k * 8 in take (at + 8 - at) (drop at (steps t))
+
+made : (t : Targeted) → let l = here t .loop in
+    StepTarget (start t .args .sight) (step t) (ltb 0 (l .k)) (l .previous) (t .before .before .new .result) (t .leg-target .result)
+made t =
+    let l = here t .loop in
+    let accepted = ap stepNumber (lent-step (steps t) (l .k)) ∙ start t .pre .accepted (l .k) (tested t .loop-test .taken) in
+    made-target (start t .args .sight) (step t) accepted (ltb 0 (l .k)) (l .previous) (t .before .before .new .ensures) (t .leg-target .ensures)
 
 loop-holds : tie.Need-loop-holds Inv-loop μ-loop
 loop-holds c =
@@ -55,11 +60,10 @@ returns : tie.Need-returns Inv-loop μ-loop
 returns c =
     let closed = c .before in
     let t = closed .before in
-    let p = t .before .before in
-    let l = here p .loop in
-    let a = start p .args in
-    sym (l .inv .1 ∙ shut-here (a .sight) (now (a .floor)) (steps p) (tested p .loop-test .taken) (lent-step (steps p) (l .k)) (l .previous)
-    (t .target-of .ensures) (closed .is-closed .ensures) (c .if1 .taken))
+    let l = here t .loop in
+    let a = start t .args in
+    sym (l .inv .1 ∙ shut-here (a .sight) (now (a .floor)) (steps t) (tested t .loop-test .taken) (lent-step (steps t) (l .k)) (l .previous)
+    (made t) (closed .is-closed .ensures) (c .if1 .taken))
 
 -- no window is closed where the last step's is open
 returns-2 : tie.Need-returns-2 Inv-loop μ-loop
@@ -67,37 +71,32 @@ returns-2 c =
     let still = c .before in
     let closed = still .before in
     let t = closed .before in
-    let p = t .before .before in
-    let l = here p .loop in
-    let a = start p .args in
-    let done : length (steps p) / 8 ≤ l .k + 1 = omega arith in
+    let l = here t .loop in
+    let a = start t .args in
+    let done : length (steps t) / 8 ≤ l .k + 1 = omega arith in
     sym (l .inv .1
-    ∙ shut-more (a .sight) (now (a .floor)) (steps p) (tested p .loop-test .taken) (lent-step (steps p) (l .k)) (l .previous)
-    (t .target-of .ensures) (closed .is-closed .ensures) (still .if1 .left) refl
-    ∙ shut-last (a .sight) (now (a .floor)) (steps p) (l .k + 1) done (ltb 0 (l .k + 1)) _)
+    ∙ shut-more (a .sight) (now (a .floor)) (steps t) (tested t .loop-test .taken) (lent-step (steps t) (l .k)) (l .previous)
+    (made t) (closed .is-closed .ensures) (still .if1 .left) refl
+    ∙ shut-last (a .sight) (now (a .floor)) (steps t) (l .k + 1) done (ltb 0 (l .k + 1)) _)
 
 build-step-requires : tie.Need-build-step-requires Inv-loop μ-loop
 build-step-requires c κs =
     let t = c .before .before .before in
-    let p = t .before .before in
-    (record { floor-full = start p .pre .floor-full; accepted = accepted p }, t .target-of .ensures .held)
+    record { floor-full = start t .pre .floor-full; sector-in = made t .sector-in; target-held = made t .held }
 
 loop-again : tie.Need-loop-again Inv-loop μ-loop
 loop-again c =
     let built = c .before in
-    let more = built .before in
-    let still = more .before in
+    let still = built .before .before in
     let closed = still .before in
     let t = closed .before in
-    let p = t .before .before in
-    let l = here p .loop in
-    let a = start p .args in
-    let floor = now (a .floor) in
-    let step = take (l .k * 8 + 8 - l .k * 8) (drop (l .k * 8) (steps p)) in
-    let cells = built .build-step .ensures ∙ ap (λ (u : Target). sectorField (part floor (sectorOf step)) u .field) (t .target-of .ensures .is) in (
-      omega (arith, tested p .loop-test .taken),
-      l .inv .1 ∙ shut-more (a .sight) floor (steps p) (tested p .loop-test .taken) (lent-step (steps p) (l .k)) (l .previous)
-          (t .target-of .ensures) (closed .is-closed .ensures) (still .if1 .left) cells,
+    let l = here t .loop in
+    let a = start t .args in
+    let floor = now (a .floor) in (
+      omega (arith, tested t .loop-test .taken),
+      l .inv .1 ∙ shut-more (a .sight) floor (steps t) (tested t .loop-test .taken) (lent-step (steps t) (l .k)) (l .previous)
+          (made t) (closed .is-closed .ensures) (still .if1 .left)
+          (built-step (a .sight) floor (step t) (ltb 0 (l .k)) (l .previous) (made t) (built .build-step .ensures)),
     )
 
 returns-3 : tie.Need-returns-3 Inv-loop μ-loop
@@ -111,5 +110,5 @@ returns-3 c =
 pub is-some-closed-spec : {M : Type 1} → statement M
 is-some-closed-spec = tie.close (tie.spec
     Inv-loop μ-loop loop-holds (λ c. omega arith) (λ c. omega arith) (λ c. omega arith) (λ c. omega arith) (λ c. omega arith)
-    (λ c κs. accepted (c .before)) (λ c κs. search needs) returns (λ c. omega arith) returns-2 build-step-requires (λ c. omega arith)
+    (λ c κs. search needs) (λ c κs. search needs) (λ c κs. search needs) returns (λ c. omega arith) returns-2 build-step-requires (λ c. omega arith)
     (λ c. omega arith) loop-again returns-3)

@@ -47,7 +47,7 @@ write-step-requires c κs =
     let l = here t .loop in
     let ready = start t .pre .0 in
     let good = ap stepNumber (lent-step (steps t) (l .k)) ∙ ready .accepted (l .k) (t .loop-test .taken) in
-    (record { floor-full = ready .floor-full; accepted = good }, l .inv .1 .0)
+    record { floor-full = ready .floor-full; accepted = good; sheet-full = l .inv .1 .0 }
 
 loop-again : tie.Need-loop-again Inv-loop μ-loop
 loop-again c =

@@ -5,9 +5,12 @@ use mathlib.Core.List.{List}
 use Prim.Native.Nat.{ℕ, _+_, _-_, _*_, _/_, _≤_, _<_}
 use native.Mathlib.Omega.{arith}
 use denote.Ref.{now}
+use lib.Dec.{ltb}
 use lib.ListN.{length, take, drop}
+use borrow.Author.Needs.{needs}
 use Rattle.route.specs.Step.{stepNumber}
 use Rattle.step_list.proofs.Steps.{lent-step}
+use Rattle.leg.proofs.Step.{StepTarget, made-target}
 use Rattle.leg_field.specs.Inner.{Handed}
 use Rattle.leg_field.proofs.Built.{handed-on}
 use Rattle.leg_field.proofs.cells_before.Statement.{statement}
@@ -19,43 +22,47 @@ Inv-loop floor steps sight place previous₀ k₀ previous k = (k ≤ place) × 
 abbrev μ-loop : tie.MeasureT-loop
 μ-loop floor steps sight place previous₀ k₀ previous k = place - k
 
--- where a step is lent: the loop's test and its head, and the call
-abbrev Step : Type 0
-Step = tie.After-step Inv-loop μ-loop
+-- where a step's target is made: the loop's test and its head, and the call
+abbrev Targeted : Type 0
+Targeted = tie.After-leg-target Inv-loop μ-loop
 
-abbrev tested : Step → tie.In-loop Inv-loop μ-loop
-tested p = p .before
+abbrev tested : Targeted → tie.In-loop Inv-loop μ-loop
+tested t = t .before .before .before .before
 
-abbrev here : Step → tie.At-loop Inv-loop μ-loop
-here p = tested p .before
+abbrev here : Targeted → tie.At-loop Inv-loop μ-loop
+here t = tested t .before
 
-abbrev start : Step → tie.Start Inv-loop μ-loop
-start p = here p .before .before .before
+abbrev start : Targeted → tie.Start Inv-loop μ-loop
+start t = here t .before .before .before
 
-abbrev steps : Step → List ℕ
-steps p = now (start p .args .steps)
+abbrev steps : Targeted → List ℕ
+steps t = now (start t .args .steps)
 
-inside : (p : Step) → here p .loop .k < length (steps p) / 8
-inside p = omega (arith, tested p .loop-test .taken, start p .pre .1)
+inside : (t : Targeted) → here t .loop .k < length (steps t) / 8
+inside t = omega (arith, tested t .loop-test .taken, start t .pre .1)
 
--- the step that is lent is the leg's, and is not refused
-accepted : (p : Step) → let k = here p .loop .k in stepNumber (take (k * 8 + 8 - k * 8) (drop (k * 8) (steps p))) ≡ 0
-accepted p = let k = here p .loop .k in ap stepNumber (lent-step (steps p) k) ∙ start p .pre .0 .accepted k (inside p)
+-- the step as it is lent, which is the leg's and is not refused, and as it is held
+abbrev step : Targeted → List ℕ
+step t = let at = here t .loop .k * 8 in take (at + 8 - at) (drop at (steps t))
+
+made : (t : Targeted) → let l = here t .loop in
+    StepTarget (start t .args .sight) (step t) (ltb 0 (l .k)) (l .previous) (t .before .before .new .result) (t .leg-target .result)
+made t =
+    let l = here t .loop in
+    let accepted = ap stepNumber (lent-step (steps t) (l .k)) ∙ start t .pre .0 .accepted (l .k) (inside t) in
+    made-target (start t .args .sight) (step t) accepted (ltb 0 (l .k)) (l .previous) (t .before .before .new .ensures) (t .leg-target .ensures)
 
 build-step-requires : tie.Need-build-step-requires Inv-loop μ-loop
-build-step-requires c κs =
-    let p = c .before .before in
-    (record { floor-full = start p .pre .0 .floor-full; accepted = accepted p }, c .target-of .ensures .held)
+build-step-requires c κs = record { floor-full = start c .pre .0 .floor-full; sector-in = made c .sector-in; target-held = made c .held }
 
 loop-again : tie.Need-loop-again Inv-loop μ-loop
 loop-again c =
     let built = c .before in
     let t = built .before in
-    let p = t .before .before in
-    let l = here p .loop in
-    let a = start p .args in (
-      omega (arith, tested p .loop-test .taken),
-      handed-on (a .sight) (now (a .floor)) (steps p) (inside p) (lent-step (steps p) (l .k)) (l .inv .1) (t .target-of .ensures) (built .build-step .ensures),
+    let l = here t .loop in
+    let a = start t .args in (
+      omega (arith, tested t .loop-test .taken),
+      handed-on (a .sight) (now (a .floor)) (steps t) (inside t) (lent-step (steps t) (l .k)) (l .inv .1) (made t) (built .build-step .ensures),
     )
 
 returns : tie.Need-returns Inv-loop μ-loop
@@ -68,4 +75,4 @@ returns c =
 pub cells-before-spec : {M : Type 1} → statement M
 cells-before-spec = tie.close (tie.spec
     Inv-loop μ-loop (λ c. (omega arith, λ j q. absurd (omega arith))) (λ c. omega arith) (λ c. omega arith) (λ c. omega arith) (λ c. omega arith)
-    (λ c. omega arith) (λ c κs. accepted (c .before)) build-step-requires (λ c. omega arith) (λ c. omega arith) loop-again returns)
+    (λ c. omega arith) (λ c κs. search needs) (λ c κs. search needs) build-step-requires (λ c. omega arith) (λ c. omega arith) loop-again returns)

@@ -6,6 +6,7 @@ use mathlib.Core.List.{List}
 use Prim.Native.Nat.{ℕ, _+_, _-_, _*_, _/_, _<_}
 use native.Mathlib.Omega.{arith}
 use denote.Ref.{now}
+use lib.Dec.{ltb}
 use lib.ListN.{length, take, drop}
 use Rattle.route.specs.Table.{firstNumber}
 use Rattle.route.specs.Step.{stepNumber}
@@ -15,6 +16,7 @@ use Rattle.leg_plan.proofs.Numbers.{ready}
 use Rattle.leg_field.specs.Field.{fieldRows, fieldNumberBy}
 use Rattle.leg_field.proofs.Numbers.{place-in, judged-so, judged-0, none-closed, refuses, accepts}
 use Rattle.leg_field.proofs.Built.{answer-at}
+use Rattle.leg.proofs.Step.{StepTarget, made-target}
 use borrow.Author.Needs.{needs}
 use Rattle.leg_field.proofs.field_by_sight.Statement.{statement}
 use Rattle.leg_field.proofs.field_by_sight.Tie as tie
@@ -48,15 +50,25 @@ module _ (e : tie.Else1) where
   leg-ready : LegReady floor steps
   leg-ready = ready (judged-so floor steps place judged)
 
-  accepted : stepNumber (take (place * 8 + 8 - place * 8) (drop (place * 8) steps)) ≡ 0
+  -- the step as it is lent
+  abbrev step : List ℕ
+  step = take (place * 8 + 8 - place * 8) (drop (place * 8) steps)
+
+  accepted : stepNumber step ≡ 0
   accepted = ap stepNumber (lent-step steps place) ∙ leg-ready .accepted place below
 
--- from where the step is lent: the cells that are handed to it, and where the number is 0
-abbrev before : tie.After-step → tie.After-cells-before
-before p = p .before
+-- where its target is made: the cells that are handed to it, where the number is 0, and the step as it is held
+abbrev before : tie.After-leg-target → tie.After-cells-before
+before t = t .before .before .before .before
 
-abbrev open-leg : tie.After-step → tie.Else1
-open-leg p = before p .before
+abbrev open-leg : tie.After-leg-target → tie.Else1
+open-leg t = before t .before
+
+made : (t : tie.After-leg-target) → let e = open-leg t in
+    StepTarget (sight e) (step e) (ltb 0 (place e)) (before t .cells-before .result) (t .before .before .new .result) (t .leg-target .result)
+made t =
+    let e = open-leg t in
+    made-target (sight e) (step e) (accepted e) (ltb 0 (place e)) (before t .cells-before .result) (t .before .before .new .ensures) (t .leg-target .ensures)
 
 returns : tie.Need-returns
 returns c =
@@ -66,18 +78,14 @@ returns c =
     refuses (a .sight) (now (a .floor)) (now (a .steps)) (a .place) (a .number) (s .pre) (t .if1 .taken) (c .refused .result) (c .refused .ensures)
 
 field-of-requires : tie.Need-field-of-requires
-field-of-requires c κs =
-    let e = open-leg (c .before .before) in
-    (record { floor-full = leg-ready e .floor-full; accepted = accepted e }, c .target-of .ensures .held)
+field-of-requires c κs = record { floor-full = leg-ready (open-leg c) .floor-full; sector-in = made c .sector-in; target-held = made c .held }
 
 returns-2 : tie.Need-returns-2
 returns-2 c =
     let t = c .before in
-    let p = t .before .before in
-    let e = open-leg p in
+    let e = open-leg t in
     accepts (sight e) (floor e) (steps e) (place e) (judged e) (none-closed (floor e) (steps e) (place e) (sight e) (none e)) (c .field-of .result)
-    (answer-at (sight e) (floor e) (steps e) (below e) (lent-step (steps e) (place e)) (before p .cells-before .ensures) (t .target-of .ensures)
-    (c .field-of .ensures))
+    (answer-at (sight e) (floor e) (steps e) (below e) (lent-step (steps e) (place e)) (before t .cells-before .ensures) (made t) (c .field-of .ensures))
 
 pub field-by-sight-spec : {M : Type 1} → statement M
 field-by-sight-spec = tie.close (tie.spec
@@ -85,4 +93,4 @@ field-by-sight-spec = tie.close (tie.spec
     (λ c κs. (let h = below c in (leg-ready c, omega arith)))
     (λ c. omega (arith, below (c .before))) (λ c. omega (arith, below (c .before)))
     (λ c. omega arith) (λ c. omega arith) (λ c. omega (arith, below (c .before)))
-    (λ c κs. accepted (open-leg (c .before))) field-of-requires returns-2)
+    (λ c κs. search needs) (λ c κs. search needs) field-of-requires returns-2)
