@@ -12,11 +12,11 @@ use mathlib.Core.Path.{_≡_, refl, sym, ap, _∙_}
 use mathlib.Core.Bool.{Bool, true, false, not, cond, _&&_, and-eq-true-iff}
 use mathlib.Core.List.{List, [], _∷_, _++_, append-nil}
 use mathlib.Core.Logic.{_⊎_, inl, inr, ⊎-elim}
-use Prim.Native.Nat.{ℕ, _+_, _-_, _*_, _/_, _%_, _≤_}
+use Prim.Native.Nat.{ℕ, _+_, _*_, _/_, _%_, _≤_}
 use native.Mathlib.Omega.{arith}
 use lib.Dec.{eqb, leb}
 use lib.ListN.{length, take, drop, length-drop, drop-of-length-le}
-use lib.Seq.{sets, sets-eq, take-length, take-all}
+use lib.Seq.{sets, sets-eq, paste, take-length}
 use borrow.Author.Tests.{eqb-true, eq-eqb, ne-eqb, le-ltb, le-leb, leb-true}
 use Rattle.route.specs.Step.{noStepList}
 use Rattle.route.proofs.Accepted.{accepted-list}
@@ -210,15 +210,11 @@ writes steps file after e s =
 
 -- ---- the bytes stored: the six of the head, and the steps copied behind them
 
-pub copied : (steps file : List ℕ) → length file ≡ 6 + length steps
-    → take 6 file ++ ((take (length steps) steps ++ drop (length steps) (take (length file - 6) (drop 6 file))) ++ drop (length file - 6) (drop 6 file))
-    ≡ take 6 file ++ steps
+-- a copy of all the steps behind the first six bytes ends the file, since nothing stands behind it
+pub copied : (steps file : List ℕ) → length file ≡ 6 + length steps → paste file 6 steps (length steps) ≡ take 6 file ++ steps
 copied steps file long =
-    let rest = drop 6 file in
-    let k = length file - 6 in
-    let all : length rest ≤ k = omega (arith, length-drop 6 file) in
-    let behind : length rest ≤ length steps = omega (arith, length-drop 6 file) in
-    rw (take-length steps, take-all k rest all, drop-of-length-le rest behind, drop-of-length-le rest all, append-nil steps, append-nil steps)
+    let behind : drop (6 + length steps) file ≡ [] = drop-of-length-le file {i = 6 + length steps} (omega arith) in
+    rw (take-length steps, behind) (append-nil (take 6 file ++ steps))
 
 abbrev head : ℕ → List ℕ
 head count = 76 ∷ 69 ∷ 71 ∷ 1 ∷ 0 ∷ count ∷ []

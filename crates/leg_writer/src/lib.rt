@@ -33,12 +33,16 @@ fn put_head(file: &mut [u8], count: u8)
     file[5] = count;
 }
 
-// The steps, behind the head.
+// The steps, byte by byte behind the head.
 fn put_steps(steps: &[u8], file: &mut [u8])
     requires { ⌜ length (now file) ≡ 6 + length (now steps) ⌝ }
     ensures { λ _. ⌜ now (file .exit) ≡ take 6 (now (file .entry)) ++ now (steps .entry) ⌝ }
 {
-    bytes::copy(steps, &mut file[6..]);
+    let mut i = 0;
+    while i < steps.len() {
+        file[6 + i] = steps[i];
+        i += 1;
+    }
 }
 
 // Writes the file of a list of steps to a buffer exactly as long: 0, or number 3 or 2.

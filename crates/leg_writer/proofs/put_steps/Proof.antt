@@ -1,16 +1,72 @@
--- `leg_writer::put_steps` meets its contract: the copied part, with nothing behind it.
+-- `leg_writer::put_steps` meets its contract. The loop's invariant: the first i bytes of the steps stand behind the head.
 -- Assumes nothing.
 use denote.Ref.{now}
+use mathlib.Core.Path.{_≡_, refl, _∙_}
+use Prim.Native.Nat.{_-_, _≤_}
+use native.Mathlib.Omega.{arith}
+use native.Mathlib.Numerals.{add-one}
+use lib.ListN.{length, length-set}
+use lib.Seq.{paste, paste-zero, paste-suc}
 use borrow.Author.Needs.{needs}
 use Rattle.leg_file.proofs.Laws.{copied}
 use Rattle.leg_writer.proofs.put_steps.Statement.{statement}
 use Rattle.leg_writer.proofs.put_steps.Tie as tie
 
-returns : tie.Need-returns
+abbrev Inv-loop : tie.InvT-loop
+Inv-loop steps file₀ i₀ file i = (i ≤ length steps) × (length file ≡ length file₀) × (file ≡ paste file₀ 6 steps i)
+
+abbrev μ-loop : tie.MeasureT-loop
+μ-loop steps file₀ i₀ file i = length steps - i
+
+loop-holds : tie.Need-loop-holds Inv-loop μ-loop
+loop-holds c = (omega arith, refl, paste-zero (now (c .args .file)) 6 (now (c .args .steps)))
+
+shared-slice-read-file : tie.Need-shared-slice-read-file Inv-loop μ-loop
+shared-slice-read-file c = search needs
+
+add-file : tie.Need-add-file Inv-loop μ-loop
+add-file c = search needs
+
+slice-write-file : tie.Need-slice-write-file Inv-loop μ-loop
+slice-write-file c = omega arith
+
+add-i : tie.Need-add-i Inv-loop μ-loop
+add-i c = search needs
+
+loop-less : tie.Need-loop-less Inv-loop μ-loop
+loop-less c = search needs
+
+loop-again : tie.Need-loop-again Inv-loop μ-loop
+loop-again c =
+    let turn = c .before .before in
+    let a = turn .before .args in
+    let i = turn .loop .i in (
+      omega arith,
+      simp length-set (turn .loop .inv .1),
+      rw (turn .loop .inv .2, add-one i) (paste-suc (now (a .file)) 6 (now (a .steps)) i 0 (omega arith) (omega arith)),
+    )
+
+same-length : tie.Need-same-length Inv-loop μ-loop
+same-length c = search needs
+
+returns : tie.Need-returns Inv-loop μ-loop
 returns c =
-    let ended = c .before .before in
-    let start = ended .before .before .before .before in
-    rw (ended .copy .ensures .1) (copied (now (start .args .steps)) (now (start .args .file)) (start .pre))
+    let a = c .before .before .args in
+    let all : c .before .loop .i ≡ length (now (a .steps)) = omega arith in
+    c .before .loop .inv .2 ∙ rw all (copied (now (a .steps)) (now (a .file)) (c .before .before .pre))
 
 pub put-steps-spec : {M : Type 1} → statement M
-put-steps-spec = tie.close (tie.spec (λ c. search needs) (λ c. search needs) (λ c. search needs) (λ c κs. search needs) (λ c. search needs) returns)
+put-steps-spec =
+    tie.close
+    (tie.spec
+    Inv-loop
+    μ-loop
+    loop-holds
+    shared-slice-read-file
+    add-file
+    slice-write-file
+    add-i
+    loop-less
+    loop-again
+    same-length
+    returns)
