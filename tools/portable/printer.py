@@ -22,6 +22,7 @@ The rules, by the names under which tools/portable/test tries them:
     tail        A function that calls itself as the last thing it does goes back to its beginning instead, where no local of its own is
                 lent to the call.
     inline      Every function but an export is `static inline`.
+    exits       An exit of a block around a loop is a `break` where nothing else stands between, and a `goto` behind the block otherwise.
     switch      The last case of a switch without a default is printed as its default: the proof says that no other value comes.
     kit         Nothing of the kit is printed. `std::num::wrapping_add_u32` is written here from its contract; any other is refused.
     refused     Every operation, type, statement or function that is not named in this file is refused by its name.
@@ -289,6 +290,21 @@ def symbol(name):
     return name.replace("::", "__")
 
 
+def place_of(x):
+    return {"local": x, "steps": []}
+
+
+def renamed(node, x, to):
+    """A statement, or a part of one, that mentions another local in place of x; no statement that has others inside it."""
+    if isinstance(node, (list, tuple)):
+        return type(node)(renamed(part, x, to) for part in node)
+    if isinstance(node, dict):
+        if "local" in node and "steps" in node:
+            return {"local": to if node["local"] == x else node["local"], "steps": node["steps"]}
+        return {k: renamed(v, x, to) for k, v in node.items()}
+    return node
+
+
 class Function:
     """One function of MIR, printed as C."""
 
@@ -302,7 +318,7 @@ class Function:
         self.lines, self.depth, self.used, self.labels, self.fresh, self.scratch = [], 1, set(), [], 0, []
         self.body = tree(item["body"])
         for t in self.locals:
-            if key(t) not in ("Int", "Bool", "Unit", "Ptr", "Ref", "Array", "Struct", "Named"):
+            if key(t) not in ("Int", "Bool", "Unit", "Ptr", "Ref", "Array", "Struct", "Named") or is_number(t) and t["Int"] not in WIDTHS:
                 refuse(f"type {told(t)} in {name}")
         for i in self.params:
             if self.locals[i] in ("Unit", "Ptr"):
@@ -314,6 +330,7 @@ class Function:
         self.find_constants()
         self.drop_dead()
         self.find_tails()
+        self.split_pointers()
         self.to_write = self.written_pointers()
         self.pairs = self.find_pairs()
 
@@ -512,6 +529,28 @@ class Function:
         lent = any(s[0] == "assign" and key(s[2]) == "AddrOf" and not self.through(s[2]["AddrOf"]) for s in every(self.body))
         if not lent and any(s[0] == "call" and s[1] == self.name for s in every(self.body)):
             self.body = self.turn_tails(self.drop_unit(self.body), self.locals[0] == "Unit")
+
+    def split_pointers(self):
+        """A raw pointer that is made several times becomes several, so that each is for reading or for writing. Only where each time it is
+        made and read in one list of statements."""
+        lists, todo = [], [self.body]
+        while todo:
+            lists.append(todo.pop())
+            todo += [part for s in lists[-1] for part in inside(s)]
+        for x in [i for i, t in enumerate(self.locals) if t == "Ptr"]:
+            mentioned = [[s for s in one if x in mentions(s)] for one in lists]
+            made = [[s for s in one if s[0] == "assign" and s[1] == place_of(x) and x not in read_locals(s)] for one in mentioned]
+            if sum(map(len, made)) < 2 or any(one and (not new or one[0] is not new[0]) for one, new in zip(mentioned, made)):
+                continue
+            for one in lists:
+                now = None
+                for at, s in enumerate(one):
+                    if s[0] == "assign" and s[1] == place_of(x):
+                        self.locals.append("Ptr")
+                        now = len(self.locals) - 1
+                        one[at] = ("assign", place_of(now), s[2])
+                    elif x in mentions(s):
+                        one[at] = renamed(s, x, now)
 
     def drop_unit(self, statements):
         return without(statements, {id(s) for s in every(statements) if s[0] == "assign" and not s[1]["steps"] and self.locals[s[1]["local"]] == "Unit"})
@@ -768,6 +807,8 @@ class Function:
         e, _, _, whole = self.place(place, True)
         if key(r) == "Repeat":
             self.repeat(self.elements(e, whole), whole and e, r["Repeat"], t)
+        elif key(r) == "Aggregate" and whole and not is_array(t["Array"][0]) and len(r["Aggregate"]) == count(t):
+            self.put(f"{e} = ({self.types.c(t)}){{ {{ {', '.join(self.operand(o)[0] for o in r['Aggregate'])} }} }};")
         elif key(r) == "Opd":
             o = r["Opd"]
             if key(o) not in ("Copy", "Move") or self.place_type(o[key(o)]) != t or local_of(o) == place["local"]:
@@ -877,18 +918,19 @@ class Function:
             self.used.add(x)
 
     def go_back(self, arguments):
-        """A call of the function itself that ends it: its parameters are set, and it begins again."""
+        """A call of the function itself that ends it: its parameters are set, and it begins again. One that a later argument reads is set
+        last, from a copy of its new value."""
         set_ = [(f"x{i}", self.operand(o)[0], self.locals[i]) for i, o in zip(self.params, arguments)]
         set_ = [(name, text, t) for name, text, t in set_ if name != text]
-        late = []
+        first, last = [], []
         for at, (name, text, t) in enumerate(set_):
             if any(re.search(rf"\b{name}\b", other) for _, other, _ in set_[at + 1:]):
                 self.scratch.append((t, f"n{name}"))
                 self.put(f"n{name} = {text};")
-                late.append(f"{name} = n{name};")
+                last.append(f"{name} = n{name};")
             else:
-                late.append(f"{name} = {text};")
-        for line in late:
+                first.append(f"{name} = {text};")
+        for line in first + last:
             self.put(line)
         self.used.update(self.params)
         self.again = True
