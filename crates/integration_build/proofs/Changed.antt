@@ -1,5 +1,6 @@
 -- The cells that a wave's offers change, listed as they change.
 --     changed-none                     before the first offer none is listed
+--     not-below-more                   what is no lower than a value that is not below all is neither
 --     changed-few                      at most 99 are listed, since a cell with the least value stays as it was: there is a place behind them
 --     changed-behind                   what stands in the place behind the list does not count
 --     changed-first, changed-again     a cell that an offer lowers for the first time, and one that an offer lowered already
@@ -25,7 +26,7 @@ use Rattle.integration_field.specs.Word.{low, isOpen}
 use Rattle.integration_field.specs.Wave.{isWritten, relaxed, changedFrom}
 use Rattle.integration_field.proofs.Offers.{differs-changed, changed-differs}
 use Rattle.integration_field.proofs.Position.{listed-at}
-use Rattle.integration_build.specs.Inner.{Differs, NotBelowAll, ChangedCells}
+use Rattle.integration_build.specs.Inner.{Differs, NotBelowAll, Fallen, StandsIn, ChangedCells}
 
 pub changed-none : (cells next : List ℕ) → length cells ≡ 100 → length next ≡ 100 → ChangedCells cells cells next 0
 changed-none cells next full long = record {
@@ -37,16 +38,29 @@ changed-none cells next full long = record {
   lowered = λ x d. absurd (d refl);
 }
 
--- a cell of the first n with the least value
-least-at : (l : List ℕ) (n : ℕ) → 0 < n → (m : ℕ) × (m < n) × ((y : ℕ) → y < n → low (getD l m 0) ≤ low (getD l y 0))
-least-at l zero h = absurd (omega arith)
-least-at l (suc zero) h = (0, omega arith, λ y k. let q : y ≡ 0 = omega arith in rw q (omega arith))
-least-at l (suc (suc n)) h =
-    let r = least-at l (suc n) (omega arith) in
-    elim (decLt (low (getD l (suc n) 0)) (low (getD l (r .0) 0))) [
-      | yes less ↦ (suc n, omega arith, λ y k. elim (ℕ-discrete y (suc n)) [ yes q ↦ rw q (omega arith) | no d ↦ omega (arith, r .2 y (omega arith)) ])
-      | no more ↦ (r .0, omega (arith, r .1), λ y k. elim (ℕ-discrete y (suc n)) [ yes q ↦ rw q (omega arith) | no d ↦ r .2 y (omega arith) ])
+pub not-below-more : {before : List ℕ} {v w : ℕ} → NotBelowAll before v → v ≤ w → NotBelowAll before w
+not-below-more n h = record { cell = n .cell; cell-in = n .cell-in; no-lower = omega (arith, n .no-lower) }
+
+-- of the first n cells, one with the least value
+record Least (l : List ℕ) (n : ℕ) : Type 0 where
+  cell : ℕ
+  cell-in : cell < n
+  least : (y : ℕ) → y < n → low (getD l cell 0) ≤ low (getD l y 0)
+
+least-of : (l : List ℕ) (n : ℕ) → 0 < n → Least l n
+least-of l zero h = absurd (omega arith)
+least-of l (suc zero) h = record { cell = 0; cell-in = omega arith; least = λ y k. let q : y ≡ 0 = omega arith in rw q (omega arith) }
+least-of l (suc (suc n)) h =
+    let m = least-of l (suc n) (omega arith) in
+    elim (decLt (low (getD l (suc n) 0)) (low (getD l (m .cell) 0))) [
+      | yes less ↦ record { cell = suc n; cell-in = omega arith; least = λ y k. or-last m y k (omega arith) (λ e. omega (arith, e)) }
+      | no more ↦ record { cell = m .cell; cell-in = omega (arith, m .cell-in); least = λ y k. or-last m y k (omega arith) (λ e. e) }
     ]
+  where
+    -- v is no more than the value of cell y, which is the last or another
+    or-last : (m : Least l (suc n)) (y : ℕ) → y < suc (suc n) → {v : ℕ} → v ≤ low (getD l (suc n) 0)
+        → (low (getD l (m .cell) 0) ≤ low (getD l y 0) → v ≤ low (getD l y 0)) → v ≤ low (getD l y 0)
+    or-last m y k last other = elim (ℕ-discrete y (suc n)) [ yes q ↦ rw q last | no d ↦ other (m .least y (omega arith)) ]
 
 -- a sum that is written is not the word before: its value is lower
 not-before : (sum old was : ℕ) → sum < low old → low old ≤ low was → sum ≡ was → ⊥
@@ -61,32 +75,52 @@ module _ {before cells next : List ℕ} {found : ℕ} (c : ChangedCells before c
 
   -- values have only fallen
   fallen : (x : ℕ) → low (getD cells x 0) ≤ low (getD before x 0)
-  fallen x = elim (ℕ-discrete (getD cells x 0) (getD before x 0)) [ yes e ↦ rw e (omega arith) | no d ↦ omega (arith, c .lowered x d .0) ]
+  fallen x = elim (ℕ-discrete (getD cells x 0) (getD before x 0)) [ yes e ↦ rw e (omega arith) | no d ↦ omega (arith, c .lowered x d .lower) ]
 
-  -- a cell with the least value stays as it was
-  stays : (m : ℕ) → ((y : ℕ) → y < 100 → low (getD before m 0) ≤ low (getD before y 0)) → Differs before cells m → ⊥
-  stays m least d = let o = c .lowered m d in absurd (omega (arith, o .0, o .1 .2, least (o .1 .0) (o .1 .1)))
+  -- ---- at most 99 are listed
 
-  -- each cell once, and that one not: of a hundred ones, of which its own is made 0, each listed cell counts another
+  abbrev is-one : ℕ → Bool
+  is-one = eqb 1
+
+  -- Of a hundred ones, that of a cell m with the least value is made 0. The cell stays as it was, so that each listed cell counts another one.
+  module _ (m : Least before 100) where
+    ones : List ℕ
+    ones = set (replicate 100 1) (m .cell) 0
+
+    ones-full : length ones ≡ 100
+    unfolding ones
+    ones-full = length-set (replicate 100 1) (m .cell) 0
+
+    zero-there : is-one (getD ones (m .cell) 0) ≡ false
+    unfolding ones
+    zero-there = ap is-one (getD-set-same (replicate 100 1) (m .cell) 0 0 (m .cell-in))
+
+    one-elsewhere : (x : ℕ) → x < 100 → (x ≡ m .cell → ⊥) → is-one (getD ones x 0) ≡ true
+    unfolding ones
+    one-elsewhere x h other = ap is-one (getD-set-other (replicate 100 1) (m .cell) x 0 0 other ∙ getD-replicate 100 x 1 0 h)
+
+    stays : Differs before cells (m .cell) → ⊥
+    stays d = let f = c .lowered (m .cell) d in absurd (omega (arith, f .lower, f .offered-by .no-lower, m .least _ (f .offered-by .cell-in)))
+
+    one-each : Each (Passes is-one ones) (take found next)
+    one-each i h =
+        let k : i < found = omega (arith, list-length) in
+        let x-in = c .indexes .cells-in i k in
+        let other : getD next i 0 ≡ m .cell → ⊥ = λ q. stays (subst (Differs before cells) q (c .differs i k)) in
+        rw (list-at i k) (omega (arith, ones-full, x-in), one-elsewhere (getD next i 0) x-in other)
+
+    distinct : Once (take found next)
+    distinct i j h k e =
+        let l : j < found = omega (arith, list-length) in
+        c .once i j h l (sym (list-at i (omega arith)) ∙ e ∙ list-at j l)
+
+    few : found ≤ 99
+    few =
+        let less = count-room is-one ones (m .cell) (omega (arith, ones-full, m .cell-in)) zero-there in
+        omega (arith, list-length, ones-full, less, once-room is-one refl (take found next) ones one-each distinct)
+
   pub changed-few : found ≤ 99
-  changed-few =
-      let m = least-at before 100 (omega arith) in
-      let ones : List ℕ = set (replicate 100 1) (m .0) 0 in
-      let size-ones : length ones ≡ 100 = length-set (replicate 100 1) (m .0) 0 in
-      let is-one : ℕ → Bool = eqb 1 in
-      let one-each : Each (Passes is-one ones) (take found next) = λ i h.
-      let k : i < found = omega (arith, list-length) in
-      let n : getD (take found next) i 0 < 100 = omega (arith, list-at i k, c .indexes .cells-in i k) in
-      let other : getD (take found next) i 0 ≡ m .0 → ⊥ = λ q. stays (m .0) (m .2) (subst (Differs before cells) (sym (list-at i k) ∙ q) (c .differs i k)) in
-      let x = getD (take found next) i 0 in
-      let one : getD ones x 0 ≡ 1 = getD-set-other (replicate 100 1) (m .0) x 0 0 other ∙ getD-replicate 100 x 1 0 n in
-      (omega (arith, size-ones, n), ap is-one one) in
-      let distinct : Once (take found next) = λ i j h k e.
-      let l : j < found = omega (arith, list-length) in
-      c .once i j h l (sym (list-at i (omega arith)) ∙ e ∙ list-at j l) in
-      let zero-there : is-one (getD ones (m .0) 0) ≡ false = ap is-one (getD-set-same (replicate 100 1) (m .0) 0 0 (m .1)) in
-      let room = once-room is-one refl (take found next) ones one-each distinct in
-      omega (arith, list-length, room, count-room is-one ones (m .0) (omega (arith, size-ones, m .1)) zero-there, size-ones)
+  changed-few = few (least-of before 100 (omega arith))
 
   module _ (x : ℕ) (inside : x < 100) where
     behind : (i : ℕ) → i < found → getD (set next found x) i 0 ≡ getD next i 0
@@ -94,6 +128,9 @@ module _ {before cells next : List ℕ} {found : ℕ} (c : ChangedCells before c
 
     last : (i : ℕ) → i ≡ found → getD (set next found x) i 0 ≡ x
     last i e = rw e (getD-set-same next found x 0 (omega (arith, changed-few, c .indexes .full)))
+
+    still-listed : {z : ℕ} → StandsIn next found z → StandsIn (set next found x) found z
+    still-listed r = record { place = r .place; place-in = r .place-in; there = behind (r .place) (r .place-in) ∙ r .there }
 
     pub changed-behind : ChangedCells before cells (set next found x) found
     changed-behind = record {
@@ -105,7 +142,7 @@ module _ {before cells next : List ℕ} {found : ℕ} (c : ChangedCells before c
       };
       once = λ i j h k e. c .once i j h k (sym (behind i (omega arith)) ∙ e ∙ behind j k);
       differs = λ i h. rw (behind i h) (c .differs i h);
-      listed = λ z d. let r = c .listed z d in (r .0, r .1, behind (r .0) (r .1) ∙ r .2);
+      listed = λ z d. still-listed (c .listed z d);
       lowered = c .lowered;
     }
 
@@ -116,11 +153,16 @@ module _ {before cells next : List ℕ} {found : ℕ} (c : ChangedCells before c
       size : length (set cells x sum) ≡ 100
       size = length-set cells x sum ∙ c .full
 
-      now-lowered : (z : ℕ) → Differs before (set cells x sum) z
-          → (low (getD (set cells x sum) z 0) < low (getD before z 0)) × NotBelowAll before (low (getD (set cells x sum) z 0))
+      -- what is offered to cell x is lower than its value before the wave
+      fallen-now : (z : ℕ) → z ≡ x → Fallen before z sum
+      fallen-now z q = rw q (record {
+        lower = omega (arith, fallen x);
+        offered-by = not-below-more offer (omega arith);
+      })
+
+      now-lowered : (z : ℕ) → Differs before (set cells x sum) z → Fallen before z (getD (set cells x sum) z 0)
       now-lowered z =
-          at-set (λ w. (w ≡ getD before z 0 → ⊥) → (low w < low (getD before z 0)) × NotBelowAll before (low w)) cells x sum z (omega (arith, c .full))
-          (λ q d. (rw q (omega (arith, fallen x)), (offer .0, offer .1, omega (arith, offer .2)))) (λ n. c .lowered z)
+          at-set (λ w. (w ≡ getD before z 0 → ⊥) → Fallen before z w) cells x sum z (omega (arith, c .full)) (λ q d. fallen-now z q) (λ n. c .lowered z)
 
       elsewhere : (z : ℕ) → (z ≡ x → ⊥) → Differs before (set cells x sum) z → Differs before cells z
       elsewhere z n d e = d (getD-set-other cells x z sum 0 n ∙ e)
@@ -134,7 +176,7 @@ module _ {before cells next : List ℕ} {found : ℕ} (c : ChangedCells before c
             at-set (λ w. w ≡ getD before (getD next i 0) 0 → ⊥) cells x sum (getD next i 0) (omega (arith, c .full))
             (now-differs (getD next i 0)) (λ n. c .differs i h);
         listed = λ z d. elim (ℕ-discrete z x) [
-          | yes q ↦ (let r = c .listed x was in (r .0, r .1, r .2 ∙ sym q))
+          | yes q ↦ rw q (c .listed x was)
           | no n ↦ c .listed z (elsewhere z n d)
         ];
         lowered = now-lowered;
@@ -163,6 +205,9 @@ module _ {before cells next : List ℕ} {found : ℕ} (c : ChangedCells before c
               | no m ↦ absurd (n (last i (omega arith)))
             ])
 
+        one-more : {l : List ℕ} {z : ℕ} → StandsIn l found z → StandsIn l (suc found) z
+        one-more r = record { place = r .place; place-in = omega (arith, r .place-in); there = r .there }
+
         pub changed-first : ChangedCells before (set cells x sum) (set next found x) (suc found)
         changed-first = record {
           full = size;
@@ -175,8 +220,8 @@ module _ {before cells next : List ℕ} {found : ℕ} (c : ChangedCells before c
           once = first-once;
           differs = first-differs;
           listed = λ z d. elim (ℕ-discrete z x) [
-            | yes q ↦ (found, omega arith, last found refl ∙ sym q)
-            | no n ↦ (let r = c .listed z (elsewhere z n d) in (r .0, omega (arith, r .1), behind (r .0) (r .1) ∙ r .2))
+            | yes q ↦ record { place = found; place-in = omega arith; there = last found refl ∙ sym q }
+            | no n ↦ one-more (still-listed (c .listed z (elsewhere z n d)))
           ];
           lowered = now-lowered;
         }
@@ -221,16 +266,15 @@ module _ {before cells next : List ℕ} {found : ℕ} (c : ChangedCells before c
   pub changed-first-member : 0 < found → List·Memᴰ (getD next 0 0) (changedFrom 0 before cells)
   changed-first-member h = differs-member (getD next 0 0) (c .differs 0 h)
 
+  each-differs : Each (Differs before cells) (take found next)
+  each-differs i h = let k : i < found = omega (arith, list-length c) in rw (list-at c i k) (c .differs i k)
+
   pub changed-member : (x : ℕ) → List·Memᴰ x (take found next) → List·Memᴰ x (changedFrom 0 before cells)
-  changed-member x m =
-      let each : Each (Differs before cells) (take found next) = λ i h.
-      let k : i < found = omega (arith, list-length c) in
-      subst (Differs before cells) (sym (list-at c i k)) (c .differs i k) in
-      differs-member x (each-member (Differs before cells) (take found next) each x m)
+  changed-member x m = differs-member x (each-member (Differs before cells) (take found next) each-differs x m)
 
   pub member-changed : (x : ℕ) → List·Memᴰ x (changedFrom 0 before cells) → List·Memᴰ x (take found next)
   member-changed x m =
       let d = changed-differs 0 before cells x m in
       let r = c .listed (d .0) (d .2) in
-      let q : getD (take found next) (r .0) 0 ≡ x = list-at c (r .0) (r .1) ∙ r .2 ∙ sym (zero-add (d .0)) ∙ sym (d .1) in
-      subst (λ (z : ℕ). List·Memᴰ z (take found next)) q (listed-at (take found next) (r .0) (omega (arith, list-length c, r .1)))
+      let q : getD (take found next) (r .place) 0 ≡ x = list-at c (r .place) (r .place-in) ∙ r .there ∙ sym (zero-add (d .0)) ∙ sym (d .1) in
+      subst (λ (z : ℕ). List·Memᴰ z (take found next)) q (listed-at (take found next) (r .place) (omega (arith, list-length c, r .place-in)))

@@ -27,11 +27,11 @@ use Rattle.integration_field.proofs.Lists.{padded-length, padded-list, padded-b
 -- ---- the offers of a wavefront
 
 module _ (costs old wave : List ℕ) (count : ℕ) where
-  pub wave-step : (i : ℕ) (cells : List ℕ) → i < count → count ≤ length wave
-      → offeredBy costs old (slice i count wave) cells
-      ≡ offeredBy costs old (slice (i + 1) count wave) (offeredAround costs (low (getD old (getD wave i 0) 0)) (cellAt (getD wave i 0)) orthogonal cells)
+  pub wave-step : (i cell value : ℕ) (cells new : List ℕ) → i < count → count ≤ length wave → cell ≡ getD wave i 0 → value ≡ low (getD old cell 0)
+      → new ≡ offeredAround costs value (cellAt cell) orthogonal cells
+      → offeredBy costs old (slice i count wave) cells ≡ offeredBy costs old (slice (i + 1) count wave) new
   unfolding offeredBy
-  wave-step i cells h k = rw (add-one i, slice-cons i count wave 0 h k)
+  wave-step i cell value cells new h k e v n = rw (add-one i, slice-cons i count wave 0 h k, n, v, e)
 
   pub wave-end : (cells : List ℕ) → offeredBy costs old (slice count count wave) cells ≡ cells
   unfolding offeredBy

@@ -1,4 +1,4 @@
--- One wave of the recursion.
+-- One wave of the recursion, and all of them.
 --     settles-none     no wave is left
 --     settles-empty    a wave from no cell changes none
 --     settles-still    a wave that changes no cell is the last
@@ -20,7 +20,6 @@ use native.Mathlib.Omega.{arith}
 use lib.ListN.{length, getD, take, replicate}
 use lib.Seq.{ext-getD, getD-take, take-append-seam}
 use borrow.Author.Tests.{eq-eqb}
-use Rattle.utilities.specs.Padded.{padded as paddedTo}
 use Rattle.utilities.proofs.Padded.{padded-length}
 use Rattle.integration_field.specs.declared.IntegrationField.{IntegrationField}
 use Rattle.integration_field.specs.Listed.{padded, Indexes, listOf}
@@ -34,7 +33,7 @@ use Rattle.integration_field.proofs.Answers.{all-cells, all-below}
 use Rattle.integration_build.proofs.Changed.{changed-member, member-changed, changed-first-member}
 use Rattle.integration_build.proofs.Members.{settles-same}
 use Rattle.integration_build.specs.Wavefront.{Settles, SettlesFrom}
-use Rattle.integration_build.specs.Inner.{ChangedCells}
+use Rattle.integration_build.specs.Inner.{ChangedCells, WavesReady}
 
 -- where the cells are as before, none changed
 none-changed : (i : ℕ) (cells : List ℕ) → changedFrom i cells cells ≡ []
@@ -63,7 +62,7 @@ module _ (costs cells wave : List ℕ) where
     unfolding next
     settles-still falling e =
         let same : new ≡ cells = ext-getD 0 new cells (found .full ∙ sym full)
-        (λ x h. elim (ℕ-discrete (getD new x 0) (getD cells x 0)) [ yes q ↦ q | no d ↦ absurd (omega (arith, found .listed x d .1)) ]) in
+        (λ x h. elim (ℕ-discrete (getD new x 0) (getD cells x 0)) [ yes q ↦ q | no d ↦ absurd (omega (arith, found .listed x d .place-in)) ]) in
         let q : next costs (record { cells = cells; changed = wave }) .changed ≡ [] = ap (changedFrom 0 cells) (sym made ∙ same) ∙ none-changed 0 cells in
         record {
           within = omega arith;
@@ -111,17 +110,16 @@ module _ (costs : List ℕ) (f : IntegrationField) (long : length (f .«los_corn
   many = corners-length f long (a .count-in)
 
   -- wave 0 of an accepted field: the listed corners, and 0 in the places beyond them
-  module _ (n : ℕ) (room : 100 ≤ n) (places : List ℕ) (e : places ≡ paddedTo n 0 (listOf f)) where
-    pub listed : take (f .count) places ≡ listOf f
-    listed = ap₂ take (sym many) e ∙ take-append-seam (listOf f) (replicate (n - length (listOf f)) 0)
+  module _ (places : List ℕ) (e : places ≡ padded (listOf f)) where
+    listed : take (f .count) places ≡ listOf f
+    listed = ap₂ take (sym many) e ∙ take-append-seam (listOf f) (replicate (100 - length (listOf f)) 0)
 
-    -- of so many of them, or fewer
-    pub corners-indexes : (few : ℕ) → few ≤ f .count → Indexes n places few
-    corners-indexes few l = record {
-      full = ap length e ∙ padded-length n 0 (listOf f) (omega (arith, many, a .count-in));
-      count-in = omega (arith, a .count-in);
+    corners-indexes : Indexes 100 places (f .count)
+    corners-indexes = record {
+      full = ap length e ∙ padded-length 100 0 (listOf f) (omega (arith, many, a .count-in));
+      count-in = a .count-in;
       cells-in = λ i h.
-          subst (λ (x : ℕ). x < 100) (sym (ap (λ (l : List ℕ). getD l i 0) listed) ∙ getD-take (f .count) places i 0 (omega arith))
+          subst (λ (x : ℕ). x < 100) (sym (ap (λ (l : List ℕ). getD l i 0) listed) ∙ getD-take (f .count) places i 0 h)
           (all-below (listOf f) (a .corners-in) i (omega (arith, many)));
     }
 
@@ -137,20 +135,20 @@ module _ (costs : List ℕ) (f : IntegrationField) (long : length (f .«los_corn
   -- so the waves from the first wave on: the list's, where the places beyond the list are cleared
   module _ (places wave : List ℕ) (cleared : places ≡ padded (listOf f)) (first : wave ≡ padded (take (f .count) places)) where
     pub same-list : take (f .count) places ≡ listOf f
-    same-list = listed 100 (omega arith) places cleared
+    same-list = listed places cleared
 
     pub places-in : Indexes 100 places (f .count)
-    places-in = corners-indexes 100 (omega arith) places cleared (f .count) (omega arith)
+    places-in = corners-indexes places cleared
 
     wave-is : wave ≡ padded (listOf f)
     wave-is = first ∙ ap padded same-list
 
-    pub wave-in : Indexes 100 wave (f .count)
-    wave-in = corners-indexes 100 (omega arith) wave wave-is (f .count) (omega arith)
+    pub waves-ready : length (f .field) ≡ 100 → WavesReady costs (f .field) wave (f .count)
+    waves-ready full = record { costs-hundred = a .costs-hundred; full = full; wave-in = corners-indexes wave wave-is }
 
     pub waves-leave : length (f .field) ≡ 100 → {left : List ℕ} {waves : ℕ} → Settles costs (f .field) (take (f .count) wave) 100 left waves
         → record { cells = left; waves = waves } ≡ build costs (f .field) (listOf f)
-    waves-leave full s = built-cells 100 (omega arith) wave wave-is full s (omega arith)
+    waves-leave full s = built-cells wave wave-is full s (omega arith)
 
     -- and the record that holds what they leave, whatever positions it has
     pub built-is : {left : List ℕ} {waves : ℕ} → record { cells = left; waves = waves } ≡ build costs (f .field) (listOf f) → (positions : List ℕ)

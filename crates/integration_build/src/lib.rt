@@ -19,7 +19,7 @@ ghost use Rattle.integration_walks.specs.Promise.{BuildsStarted};
 ghost use Rattle.flow_arrows.specs.Promise.{StartedArrows};
 ghost use Rattle.integration_build.specs.Without.{builtWithout};
 ghost use Rattle.integration_build.specs.Wavefront.{Settles, SettlesFrom};
-ghost use Rattle.integration_build.specs.Inner.{NotBelowAll, ChangedCells, OfferReady, WaveReady};
+ghost use Rattle.integration_build.specs.Inner.{ChangedCells, RelaxReady, OfferReady, WavesReady, WaveReady};
 
 // A cost byte as a number of a cell's width.
 fn wide(cost: u8) -> u32
@@ -58,7 +58,7 @@ fn relax(
     index: usize,
     sum: u32,
 ) -> usize
-    requires { ⌜ (index < 100) × (NotBelowAll (now before) sum × ChangedCells (now before) (now cells) (now next) found) ⌝ }
+    requires { ⌜ RelaxReady (now before) (now cells) (now next) found index sum ⌝ }
     ensures offers { λ _. ⌜ now (cells .exit) ≡ relaxed sum index (now (cells .entry)) ⌝ }
     ensures changes { λ r. ⌜ ChangedCells (now (before .entry)) (now (cells .exit)) (now (next .exit)) r ⌝ }
 {
@@ -205,7 +205,7 @@ fn held_costs(costs: &[u8]) -> [u8; 100]
 // Runs the waves of building, from the first wavefront on. What they are lent is held here, once for all of them. A limit of 100 waves cuts nothing off:
 // every limit from 99 on gives the same answer. Answers how many waves changed a cell.
 fn run_waves(costs: &[u8], cells: &mut [u32; 100], wavefront: &mut [u8; 100], count: usize) -> usize
-    requires { ⌜ (length (now costs) ≡ 100) × ((length (now cells) ≡ 100) × Indexes 100 (now wavefront) count) ⌝ }
+    requires { ⌜ WavesReady (now costs) (now cells) (now wavefront) count ⌝ }
     ensures { λ r. ⌜ Settles (now (costs .entry)) (now (cells .entry)) (take count (now (wavefront .entry))) 100 (now (cells .exit)) r ⌝ }
 {
     let held = held_costs(costs);

@@ -1,6 +1,6 @@
 -- `integration_build::build_with_positions` meets its contract: the waves run as they do without positions, and positions are sought in what they leave.
 -- Assumes nothing.
-use mathlib.Core.Path.{_≡_, refl, sym, ap, ap₂, _∙_}
+use mathlib.Core.Path.{_≡_, refl, ap, ap₂, _∙_}
 use mathlib.Core.List.{List}
 use Prim.Native.Nat.{ℕ}
 use denote.Ref.{now}
@@ -10,11 +10,14 @@ use Rattle.integration_field.specs.declared.IntegrationField.{IntegrationField}
 use Rattle.integration_field.specs.Listed.{listOf}
 use Rattle.integration_field.specs.Build.{Built, build}
 use Rattle.integration_field.specs.Position.{positions as positionsOf}
-use Rattle.integration_build.proofs.Recursion.{builtWith, same-list, places-in, wave-in, waves-leave, built-is}
+use Rattle.integration_build.proofs.Recursion.{builtWith, same-list, places-in, waves-ready, waves-leave, built-is}
 use Rattle.integration_build.proofs.build_with_positions.Statement.{statement}
 use Rattle.integration_build.proofs.build_with_positions.Tie as tie
 
--- the places: where the waves have run, the first wave is made, the places beyond the list are cleared; the call
+-- the places: where positions are sought, the waves have run, the first wave is made, the places beyond the list are cleared; the call
+abbrev ran : tie.After-corner-positions-arg2 → tie.After-run-waves
+ran c = c .before .before .before .before
+
 abbrev first : tie.After-run-waves → tie.After-corner-wave
 first r = r .before .before .before
 
@@ -48,7 +51,7 @@ run-waves-requires c κs =
     let w = c .before .before in
     let m = cleared w in
     let s = start m in
-    (s .pre .costs-hundred, (full s, wave-in (costs s) (given s) (long s) (s .pre) _ _ (m .clear-beyond .ensures) (w .corner-wave .ensures)))
+    waves-ready (costs s) (given s) (long s) (s .pre) _ _ (m .clear-beyond .ensures) (w .corner-wave .ensures) (full s)
 
 -- where the waves have run: what they leave, and the list that positions are sought for
 module _ (r : tie.After-run-waves) where
@@ -68,17 +71,19 @@ module _ (r : tie.After-run-waves) where
 
 positions-requires : tie.Need-corner-positions-requires
 positions-requires c κs =
-    let r = c .before .before .before .before in
+    let r = ran c in
     let p = s r .pre in
-    let m = cleared (w r) in
-    let corners-in = places-in (costs (s r)) (given (s r)) (long (s r)) p _ _ (m .clear-beyond .ensures) refl in
-    let cells-are = ap (λ (b : Built). b .cells) (left r) ∙ ap (λ (l : List ℕ). build (costs (s r)) (given (s r) .field) l .cells) (sym (listed r)) in
-    (p .costs-hundred, (full (s r), (corners-in, cells-are)))
+    record {
+      costs-hundred = p .costs-hundred;
+      full = full (s r);
+      listed = places-in (costs (s r)) (given (s r)) (long (s r)) p _ _ (cleared (w r) .clear-beyond .ensures) refl;
+      is-built = rw (listed r) (ap (λ (b : Built). b .cells) (left r));
+    }
 
 returns : tie.Need-returns
 returns c =
     let found = c .before .before in
-    let r = found .before .before .before .before .before in
+    let r = ran (found .before) in
     let m = cleared (w r) in
     let sought = c .put .ensures ∙ found .corner-positions .ensures ∙ ap (positionsOf (costs (s r)) (given (s r) .field)) (listed r) in
     let field = built-is (costs (s r)) (given (s r)) (long (s r)) (s r .pre) _ _ (m .clear-beyond .ensures) (w r .corner-wave .ensures) (left r) _

@@ -7,7 +7,7 @@ use denote.Ref.{now}
 use lib.ListN.{length}
 use borrow.Author.Needs.{needs}
 use Rattle.integration_field.specs.declared.IntegrationField.{IntegrationField}
-use Rattle.integration_build.proofs.Recursion.{places-in, wave-in, waves-leave, built-is}
+use Rattle.integration_build.proofs.Recursion.{places-in, waves-ready, waves-leave, built-is}
 use Rattle.integration_build.proofs.build_without_positions.Statement.{statement}
 use Rattle.integration_build.proofs.build_without_positions.Tie as tie
 
@@ -42,7 +42,7 @@ run-waves-requires c κs =
     let w = c .before .before in
     let m = cleared w in
     let s = start m in
-    (s .pre .costs-hundred, (full s, wave-in (costs s) (given s) (long s) (s .pre) _ _ (m .clear-beyond .ensures) (w .corner-wave .ensures)))
+    waves-ready (costs s) (given s) (long s) (s .pre) _ _ (m .clear-beyond .ensures) (w .corner-wave .ensures) (full s)
 
 returns : tie.Need-returns
 returns c =

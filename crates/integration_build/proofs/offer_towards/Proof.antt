@@ -1,28 +1,22 @@
 -- `integration_build::offer_towards` meets its contract. A step arrives inside, so the index and the sum fit.
 -- Assumes nothing.
-use mathlib.Core.Path.{_≡_, sym, ap, _∙_}
-use Prim.Native.Nat.{ℕ, _<_, _+_}
+use mathlib.Core.Path.{_≡_}
+use Prim.Native.Nat.{_<_}
 use native.Mathlib.Omega.{arith}
-use lib.ListN.{getD}
-use denote.Ref.{now}
 use borrow.Author.Needs.{needs}
 use Rattle.fields.specs.declared.FieldCell.{FieldCell}
-use Rattle.fields.specs.declared.Stepped.{Stepped}
 use Rattle.fields.specs.declared.Stepped.the-variants.{Cell}
 use Rattle.fields.specs.Cell.{stepped, cellAt, indexOf}
 use Rattle.fields.proofs.Steps.{near-made, step-told}
-use Rattle.integration_field.specs.Wave.{relaxed, offered}
+use Rattle.integration_build.proofs.Changed.{not-below-more}
 use Rattle.integration_build.proofs.offer_towards.Statement.{statement}
 use Rattle.integration_build.proofs.offer_towards.Tie as tie
 
 returns : tie.Need-returns
 returns c =
-    let step = c .before .before in
-    let s = step .before .before in
-    let a = s .args in (
-      ap (λ (t : Stepped). offered (now (a .costs)) (a .value) t (now (a .cells)))
-          (sym (step-told _ _ (step .before .from-index .ensures) (step .get-in-compass-direction .ensures .0) (c .enum-told .given .1))),
-      s .pre .changed,
+    let step = c .before .before in (
+      rw (step-told _ _ (step .before .from-index .ensures) (step .get-in-compass-direction .ensures .0) (c .enum-told .given .1)),
+      step .before .before .pre .changed,
     )
 
 -- where the step is taken, the call, and where its step arrives
@@ -47,20 +41,13 @@ relax-requires : tie.Need-relax-requires
 relax-requires c κs =
     let found = c .before .before .before .before in
     let p = start (found .before) .pre in
-    let least = p .not-below in
-    (index found .1, ((least .0, least .1, omega (arith, least .2)), p .changed))
+    record { inside = index found .1; not-below = not-below-more (p .not-below) (omega arith); changed = p .changed }
 
 returns-2 : tie.Need-returns-2
 returns-2 c =
     let summed = c .before .before .before in
     let found = summed .before .before in
-    let a = start (found .before) .args in (
-      c .relax .ensures .0
-          ∙ ap (λ (w : ℕ). relaxed (a .value + w) (found .index-beside .result) (now (a .cells))) (summed .wide .ensures .0)
-          ∙ ap (λ (i : ℕ). relaxed (a .value + getD (now (a .costs)) i 0) i (now (a .cells))) (index found .0)
-          ∙ sym (ap (λ (s : Stepped). offered (now (a .costs)) (a .value) s (now (a .cells))) (arrives (found .before))),
-      c .relax .ensures .1,
-    )
+    (rw (arrives (found .before), ← (index found .0), ← (summed .wide .ensures .0)) (c .relax .ensures .0), c .relax .ensures .1)
 
 pub offer-towards-spec : {M : Type 1} → statement M
 offer-towards-spec = tie.close (tie.spec

@@ -19,7 +19,7 @@ abbrev start : tie.After-is-written → tie.Start
 start c = c .before .before
 
 few : (c : tie.After-is-written) → start c .args .found ≤ 99
-few c = changed-few (start c .pre .1 .1)
+few c = changed-few (start c .pre .changed)
 
 element-write-next : tie.Need-element-write-next
 element-write-next c = omega (arith, few (c .before))
@@ -41,8 +41,9 @@ returns : tie.Need-returns
 returns c =
     let new = c .before .before in
     let s = start (new .before) in
+    let p = s .pre in
     let e = written new in
-    (e, changed-offer (s .pre .1 .1) (s .args .index) (s .pre .0) (s .args .sum) (s .pre .1 .0) e (new .before .is-written .ensures) (c .is-first .ensures))
+    (e, changed-offer (p .changed) (s .args .index) (p .inside) (s .args .sum) (p .not-below) e (new .before .is-written .ensures) (c .is-first .ensures))
 
 pub relax-spec : {M : Type 1} → statement M
 relax-spec = tie.close (tie.spec

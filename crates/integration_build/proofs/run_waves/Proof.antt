@@ -19,7 +19,7 @@ abbrev start : tie.After-next → tie.Start
 start m = held m .before .before .before
 
 waves-requires : tie.Need-propagate-integrated-wavefront-requires
-waves-requires c κs = let p = start c .pre .1 in record { full = p .0; wave-in = p .1; room = refl; at-most = omega arith }
+waves-requires c κs = let p = start c .pre in record { full = p .full; wave-in = p .wave-in; room = refl; at-most = omega arith }
 
 returns : tie.Need-returns
 returns c =
@@ -30,4 +30,4 @@ returns c =
     (held m .before .held-costs .ensures) (settles-all (ran .ensures))
 
 pub run-waves-spec : {M : Type 1} → statement M
-run-waves-spec = tie.close (tie.spec (λ c κs. c .before .pre .0) waves-requires returns)
+run-waves-spec = tie.close (tie.spec (λ c κs. c .before .pre .costs-hundred) waves-requires returns)
