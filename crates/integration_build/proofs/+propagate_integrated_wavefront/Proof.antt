@@ -14,6 +14,7 @@ use Rattle.integration_build.proofs.offer_wave.Reads as offers
 use Rattle.integration_build.proofs.+propagate_integrated_wavefront.{statement}
 use Rattle.integration_build.proofs.+propagate_integrated_wavefront.Tie.{close}
 
+-- the last of its eight arguments
 abbrev μ : Measures 5 kinds.ps ℕ
 μ κs a = a .1 .1 .1 .1 .1 .1 .1 .0
 
@@ -28,21 +29,22 @@ abbrev calls : ℕ → lts.Claims
 calls t = (offers.Asked, offers.Learnt, below t, go.Post)
 
 module _ (t : ℕ) where
-  -- where the wave's offers are made; where it was seen that the falling number is not 0; the call
+  -- the places: where the wave's offers are made, and before them the words are kept; where it was seen that the falling number is not 0; the call;
+  -- and where the next wave is called for, from where it was seen that a cell changed
   abbrev Made : Type 0
   Made = lts.After-offer-wave (calls t) (at t) go.Post
 
-  abbrev lent : Made → lts.After-offer-wave-arg (calls t) (at t) go.Post
-  lent m = m .before .before .before .before
-
-  abbrev offering : Made → lts.Else2 (calls t) (at t) go.Post
-  offering m = lent m .before .before
+  abbrev kept : lts.After-offer-wave-arg4 (calls t) (at t) go.Post → lts.After-before2 (calls t) (at t) go.Post
+  kept c = c .before .before .before .before
 
   abbrev not-fallen : Made → lts.Else1 (calls t) (at t) go.Post
-  not-fallen m = offering m .before
+  not-fallen m = kept (m .before) .before .before
 
   abbrev start : Made → lts.Start (calls t) (at t) go.Post
   start m = not-fallen m .before
+
+  abbrev changing : lts.After-propagate-integrated-wavefront-arg4 (calls t) (at t) go.Post → lts.Else3 (calls t) (at t) go.Post
+  changing c = c .before .before .before .before
 
   some-falling : (m : Made) → 0 < start m .args .falling
   some-falling m = pos-of-ne-zero (not-fallen m .if1 .left)
@@ -55,8 +57,7 @@ module _ (t : ℕ) where
 
   offer-wave-requires : lts.Need-offer-wave-requires (calls t) (at t) go.Post
   offer-wave-requires c κs =
-      let left = c .before .before .before .before .before in
-      let p = left .before .before .pre .1 in
+      let p = kept c .before .before .before .pre .1 in
       (p .wave-in, changed-none _ _ (p .full) (p .room))
 
   returns-3 : lts.Need-returns-3 (calls t) (at t) go.Post
@@ -66,14 +67,14 @@ module _ (t : ℕ) where
       settles-on (settles-still _ _ _ _ _ _ (start m .pre .1 .full) (made .0) (made .1) _ (c .if3 .taken))
 
   add-waves : lts.Need-add-propagate-integrated-wavefront (calls t) (at t) go.Post
-  add-waves c = let m = c .before .before .before .before .before in omega (arith, start m .pre .1 .at-most)
+  add-waves c = omega (arith, start (changing c .before) .pre .1 .at-most)
 
   sub-falling : lts.Need-sub-propagate-integrated-wavefront (calls t) (at t) go.Post
-  sub-falling c = some-falling (c .before .before .before .before .before)
+  sub-falling c = some-falling (changing c .before)
 
   go-requires : lts.Need-propagate-integrated-wavefront-requires (calls t) (at t) go.Post
   go-requires c κs =
-      let m = c .before .before .before .before .before in
+      let m = changing c .before in
       let p = start m .pre in
       let a = start m .args in
       let found = m .offer-wave .ensures .1 in
@@ -83,7 +84,7 @@ module _ (t : ℕ) where
 
   returns-4 : lts.Need-returns-4 (calls t) (at t) go.Post
   returns-4 c =
-      let more = c .before .before .before .before .before in
+      let more = changing (c .before) in
       let m = more .before in
       let made = m .offer-wave .ensures in
       let rest = c .propagate-integrated-wavefront .ensures in
