@@ -21,26 +21,11 @@ abbrev μ-loop : tie.MeasureT-loop
 loop-holds : tie.Need-loop-holds Inv-loop μ-loop
 loop-holds c = (search needs, refl)
 
-mul-cells : tie.Need-mul-cells Inv-loop μ-loop
-mul-cells c = search needs
-
-element-copy-out-cells : tie.Need-element-copy-out-cells Inv-loop μ-loop
-element-copy-out-cells c = search needs
-
 cast-cells : tie.Need-cast-cells Inv-loop μ-loop
 cast-cells c =
     let turn = c .before in
     let h = turn .before .before .pre .cells-in (turn .before .loop .i) (turn .loop-test .taken) in
     omega arith
-
-array-write-cells : tie.Need-array-write-cells Inv-loop μ-loop
-array-write-cells c = search needs
-
-add-i : tie.Need-add-i Inv-loop μ-loop
-add-i c = search needs
-
-loop-less : tie.Need-loop-less Inv-loop μ-loop
-loop-less c = search needs
 
 loop-again : tie.Need-loop-again Inv-loop μ-loop
 loop-again c =
@@ -59,4 +44,5 @@ returns c =
 
 pub corner-wave-spec : {M : Type 1} → statement M
 corner-wave-spec = tie.close (tie.spec
-    Inv-loop μ-loop loop-holds mul-cells element-copy-out-cells cast-cells array-write-cells add-i loop-less loop-again returns)
+    Inv-loop μ-loop loop-holds (λ c. search needs) (λ c. search needs) cast-cells (λ c. search needs) (λ c. search needs) (λ c. search needs)
+    loop-again returns)

@@ -21,12 +21,6 @@ abbrev μ-loop : tie.MeasureT-loop
 loop-holds : tie.Need-loop-holds Inv-loop μ-loop
 loop-holds c = (search needs, refl)
 
-mul-if1 : tie.Need-mul-if1 Inv-loop μ-loop
-mul-if1 c = search needs
-
-element-copy-out-if1 : tie.Need-element-copy-out-if1 Inv-loop μ-loop
-element-copy-out-if1 c = search needs
-
 room : (s : tie.Start Inv-loop μ-loop) → s .args .count ≤ length (s .args .corners .now)
 room s = search needs
 
@@ -36,12 +30,6 @@ returns c =
     let l = turn .before .loop in
     let s = turn .before .before in
     sym (l .inv .1 ∙ corners-out (s .args .corners .now) (s .args .count) (l .i) (turn .loop-test .taken) (room s) (omega (arith, c .if1 .taken)))
-
-add-i : tie.Need-add-i Inv-loop μ-loop
-add-i c = search needs
-
-loop-less : tie.Need-loop-less Inv-loop μ-loop
-loop-less c = search needs
 
 loop-again : tie.Need-loop-again Inv-loop μ-loop
 loop-again c =
@@ -58,4 +46,5 @@ returns-2 c =
     sym (l .inv .1 ∙ ap (λ (k : ℕ). allCells (slice k (a .count) (a .corners .now))) e ∙ corners-end (a .corners .now) (a .count))
 
 pub corners-inside-spec : {M : Type 1} → statement M
-corners-inside-spec = tie.close (tie.spec Inv-loop μ-loop loop-holds mul-if1 element-copy-out-if1 returns add-i loop-less loop-again returns-2)
+corners-inside-spec = tie.close (tie.spec
+    Inv-loop μ-loop loop-holds (λ c. search needs) (λ c. search needs) returns (λ c. search needs) (λ c. search needs) loop-again returns-2)
