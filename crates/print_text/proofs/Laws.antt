@@ -10,6 +10,11 @@ use lib.ListN.{length, length-append, getD, set}
 use lib.Seq.{sets}
 use Rattle.print_text.specs.Rows.{cellText, cellsText, rowText, rowsText}
 
+-- what a loop that stores text keeps: the buffer is as long as before, and this text stands in it at a place
+pub record Stored (before : List ℕ) (at : ℕ) (text out : List ℕ) : Type 0 where
+  pub same-size : length out ≡ length before
+  pub holds : out ≡ sets before at text
+
 -- a text stored behind another is stored with it
 pub sets-append : (l s t : List ℕ) (at : ℕ) → sets (sets l at s) (at + length s) t ≡ sets l at (s ++ t)
 sets-append l [] t at = rw (add-zero at)
