@@ -21,27 +21,6 @@ abbrev μ-loop : tie.MeasureT-loop
 loop-holds : tie.Need-loop-holds Inv-loop μ-loop
 loop-holds c = (omega arith, refl, refl)
 
-add-cost-of : tie.Need-add-cost-of Inv-loop μ-loop
-add-cost-of c = omega arith
-
-mul-cost-of : tie.Need-mul-cost-of Inv-loop μ-loop
-mul-cost-of c = omega arith
-
-element-copy-out-cost-of : tie.Need-element-copy-out-cost-of Inv-loop μ-loop
-element-copy-out-cost-of c = omega arith
-
-cost-of-requires : tie.Need-cost-of-requires Inv-loop μ-loop
-cost-of-requires c κs = search needs
-
-array-write-costs : tie.Need-array-write-costs Inv-loop μ-loop
-array-write-costs c = omega arith
-
-add-i : tie.Need-add-i Inv-loop μ-loop
-add-i c = omega arith
-
-loop-less : tie.Need-loop-less Inv-loop μ-loop
-loop-less c = omega arith
-
 loop-again : tie.Need-loop-again Inv-loop μ-loop
 loop-again c =
     let drawn = c .cost-of in
@@ -60,4 +39,5 @@ returns c =
 
 pub draw-costs-spec : {M : Type 1} → statement M
 draw-costs-spec = tie.close (tie.spec
-    Inv-loop μ-loop loop-holds add-cost-of mul-cost-of element-copy-out-cost-of cost-of-requires array-write-costs add-i loop-less loop-again returns)
+    Inv-loop μ-loop loop-holds (λ c. omega arith) (λ c. omega arith) (λ c. omega arith) (λ c κs. search needs) (λ c. omega arith) (λ c. omega arith)
+    (λ c. omega arith) loop-again returns)

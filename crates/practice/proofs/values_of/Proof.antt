@@ -17,27 +17,9 @@ Inv-loop seed values₀ n₀ values n = (1 ≤ n) × (n ≤ 156) × (length valu
 abbrev μ-loop : tie.MeasureT-loop
 μ-loop seed values₀ n₀ values n = 156 - n
 
-array-write-values : tie.Need-array-write-values Inv-loop μ-loop
-array-write-values c = search needs
-
 loop-holds : tie.Need-loop-holds Inv-loop μ-loop
 unfolding valuesTo
 loop-holds c = (omega arith, omega arith, refl, refl)
-
-next-value-requires : tie.Need-next-value-requires Inv-loop μ-loop
-next-value-requires c κs = omega arith
-
-mul-values : tie.Need-mul-values Inv-loop μ-loop
-mul-values c = omega arith
-
-array-write-values-2 : tie.Need-array-write-values-2 Inv-loop μ-loop
-array-write-values-2 c = omega arith
-
-add-n : tie.Need-add-n Inv-loop μ-loop
-add-n c = omega arith
-
-loop-less : tie.Need-loop-less Inv-loop μ-loop
-loop-less c = omega arith
 
 loop-again : tie.Need-loop-again Inv-loop μ-loop
 loop-again c =
@@ -58,4 +40,5 @@ returns c =
 
 pub values-of-spec : {M : Type 1} → statement M
 values-of-spec = tie.close (tie.spec
-    Inv-loop μ-loop array-write-values loop-holds next-value-requires mul-values array-write-values-2 add-n loop-less loop-again returns)
+    Inv-loop μ-loop (λ c. search needs) loop-holds (λ c κs. omega arith) (λ c. omega arith) (λ c. omega arith) (λ c. omega arith) (λ c. omega arith)
+    loop-again returns)
