@@ -10,11 +10,11 @@ use Rattle.practice_text.proofs.put_floor.Tie as tie
 returns : tie.Need-returns
 returns c =
     let goal = c .put-decimal .ensures in
-    let rows = c .before .before .put-rows .ensures in
-    let a = c .before .before .before .before .before .before .args in (
+    let rows = c .before .before in
+    let a = rows .before .before .before .before .args in (
       omega arith,
       omega (arith, floor-length (a .floor)),
-      rw (goal .1, goal .0 .1, rows) (floor-put (a .floor) (now (a .out))),
+      rw (goal .1, goal .0 .1, rows .put-rows .ensures) (floor-put (a .floor) (now (a .out))),
     )
 
 pub put-floor-spec : {M : Type 1} → statement M
