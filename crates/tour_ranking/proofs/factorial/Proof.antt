@@ -21,14 +21,8 @@ more m = rw (m .before .loop .inv .1) (factorial-more (m .before .loop .number))
 loop-holds : tie.Need-loop-holds Inv-loop μ-loop
 loop-holds c = (omega arith, refl)
 
-add-number : tie.Need-add-number Inv-loop μ-loop
-add-number c = omega arith
-
 mul-product : tie.Need-mul-product Inv-loop μ-loop
 mul-product c = omega (arith, more c, factorial-few (c .before .loop .number + 1) (omega arith))
-
-loop-less : tie.Need-loop-less Inv-loop μ-loop
-loop-less c = omega arith
 
 loop-again : tie.Need-loop-again Inv-loop μ-loop
 loop-again c = (omega arith, more c)
@@ -40,4 +34,4 @@ returns : tie.Need-returns Inv-loop μ-loop
 returns c = c .before .loop .inv .1 ∙ ap factorial (all c)
 
 pub factorial-spec : {M : Type 1} → statement M
-factorial-spec = tie.close (tie.spec Inv-loop μ-loop loop-holds add-number mul-product loop-less loop-again returns)
+factorial-spec = tie.close (tie.spec Inv-loop μ-loop loop-holds (λ c. omega arith) mul-product (λ c. omega arith) loop-again returns)
