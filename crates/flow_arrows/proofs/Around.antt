@@ -2,7 +2,7 @@
 --     Near                          a neighbour by rows and columns: beside the cell, or one row and one column away
 --     Sees                          a neighbour that a look does not pass over
 --     reached-there, reached-back   it is reached if and only if the cell is: a permitted diagonal has a side cell that is no wall
---     sees                          what a step arrives at, where the two tests of a look fail
+--     sees, open-sees, sees-open    what a step arrives at is seen exactly where the two tests of a look fail
 --     sees-beside                   a cell beside that is no wall is seen in some direction
 -- Assumes nothing.
 use mathlib.Core.Path.{_≡_, refl, sym}
@@ -24,6 +24,7 @@ use Rattle.fields.specs.Steps.{Arrives}
 use Rattle.fields.proofs.Steps.{stepped-cell, steps-to, told, cell-inside, cell-of-index}
 use Rattle.fields.proofs.Beside.{step-beside, beside-step, beside-flip, beside-below}
 use Rattle.integration_field.specs.Diagonal.{wallAt, diagonal, passesWall}
+use Rattle.flow_byte.specs.Look.{isPassedOver}
 use Rattle.flow_arrows.proofs.Fall.{EndSector, value, NoWall, spreads}
 
 -- n is a cell beside i, or one row and one column away
@@ -57,6 +58,9 @@ pub record Sees (cells : List ℕ) (i : ℕ) (d : CompassDir) (n : ℕ) : Type 0
   pub no-wall : wallAt cells n ≡ false
   pub open-way : passesWall cells i n ≡ false
 
+pub sees-open : {cells : List ℕ} {i n : ℕ} {d : CompassDir} → Sees cells i d n → isPassedOver cells i n ≡ false
+sees-open s = rw (s .no-wall, s .open-way)
+
 by-one : {a b : ℕ} → ByOne a b → a ≡ b → ⊥
 by-one (inl e) q = omega arith
 by-one (inr e) q = omega arith
@@ -81,9 +85,10 @@ beside-column i n h l r = record {
   one-apart = inl (omega arith, let e : aside i n / 10 ≡ i / 10 = omega arith in rw e r);
 }
 
-first-false : (a b : Bool) → (a || b) ≡ false → a ≡ false
-first-false true b e = e
-first-false false b e = refl
+-- neither of two tests holds
+neither : (a b : Bool) → (a || b) ≡ false → (a ≡ false) × (b ≡ false)
+neither true b e = absurd (true≢false e)
+neither false b e = (refl, e)
 
 pub differ : (a b : ℕ) → (a ≡ b → ⊥) → not (eqb a b) ≡ true
 differ a b h = rw (ne-eqb a b h)
@@ -97,8 +102,8 @@ module _ (cells : List ℕ) (i n : ℕ) where
   open-side : ByOne (i % 10) (n % 10) → ByOne (i / 10) (n / 10) → passesWall cells i n ≡ false → wallAt cells (aside i n) ≡ false
   unfolding passesWall
   open-side c r e =
-      first-false (wallAt cells (aside i n)) (wallAt cells (aside n i))
-      (rw (differ (i / 10) (n / 10) (by-one r), differ (i % 10) (n % 10) (by-one c)) at e)
+      neither (wallAt cells (aside i n)) (wallAt cells (aside n i))
+      (rw (differ (i / 10) (n / 10) (by-one r), differ (i % 10) (n % 10) (by-one c)) at e) .0
 
   way : Near i n → passesWall cells i n ≡ false → Way
   way (beside b) e = direct b
@@ -141,6 +146,9 @@ module _ (cells : List ℕ) (i : ℕ) (h : i < 100) where
   sees d c e w b =
       let a = stepped-cell (cellAt i) d c e in
       record { steps = rw (cell-of-index c (a .within)) e; to = near i h d c a; no-wall = w; open-way = b }
+
+  pub open-sees : (d : CompassDir) (c : FieldCell) → stepped (cellAt i) d ≡ Cell c → isPassedOver cells i (indexOf c) ≡ false → Sees cells i d (indexOf c)
+  open-sees d c e o = let n = neither _ _ o in sees d c e (n .0) (n .1)
 
   in-all : (d : CompassDir) → List·Memᴰ d orthogonal → List·Memᴰ d all
   in-all d m = Memᴰ·append-left (NorthEast ∷ SouthEast ∷ SouthWest ∷ NorthWest ∷ []) m

@@ -182,11 +182,12 @@ module _ (costs : List ℕ) (target : Target) (sightless : isSightless target �
           → (low (getD built n 0) ≡ 65535) × ((isGoal (getD built n 0) || isPortal (getD built n 0)) ≡ false)
       unreached d n e =
           let w : value s n < 65535 → ⊥ = λ r. u (reached-back s x d n e (small-flag (getD built x 0) 25 (omega arith)) r) in
-          let v : low (getD built n 0) ≡ 65535 = omega arith in (
-            v,
-            by-kind s n (near-in (e .to)) (λ a q. absurd (omega (arith, end-zero q))) (λ c a q. absurd (true≢false (sym (ap word.isImpassable q) ∙ e .no-wall)))
-                (λ q m. small-untaken (getD built n 0) m),
-          )
+          let v : low (getD built n 0) ≡ 65535 = omega arith in
+          let untaken =
+          by-kind s n (near-in (e .to)) (λ a q. absurd (omega (arith, end-zero q)))
+          (λ c a q. absurd (true≢false (sym (ap word.isImpassable q) ∙ e .no-wall)))
+          (λ q m. small-untaken (getD built n 0) m) in
+          (v, untaken)
 
       go : (look : Look) → Nothing built x (p .inside) unreached look → isImpassable (lookedByte 0 look) ≡ true
       go (Looking best v) q = rw (q .0)
@@ -286,7 +287,8 @@ end-flow costs target w portal has previous x h m =
 pub points-flow : (costs : List ℕ) (target : Target) → length costs ≡ 100 → TargetIn target → isSightless target ≡ true
     → ((x : ℕ) → x < 100 → getD costs x 0 ≤ 255) → (portal : PortalWindow) (has : Bool) (previous : List ℕ)
     → (x : ℕ) → x < 100 → Reached (builtCells costs target) x → (EndCell target x → ⊥)
-    → (d : CompassDir) × (getD (flowBuild (builtCells costs target) (newBytes portal (windowOf target) (builtCells costs target) has previous)) x 0 ≡ pointed 0 d)
+    → (d : CompassDir)
+    × (getD (flowBuild (builtCells costs target) (newBytes portal (windowOf target) (builtCells costs target) has previous)) x 0 ≡ pointed 0 d)
 points-flow costs target full inside e byte portal has previous x h r =
     cell-points costs target e (started costs target .field) (listOf (started costs target)) (builtCells costs target)
     (end-sector costs target full inside e byte) portal has previous x h r

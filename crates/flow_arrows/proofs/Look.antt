@@ -24,9 +24,8 @@ use Rattle.fields.specs.declared.Stepped.the-variants.{Cell, Outside}
 use Rattle.fields.specs.Cell.{indexOf, cellAt, stepped}
 use Rattle.fields.proofs.Steps.{index-of-cell}
 use Rattle.integration_field.specs.Word.{low, isGoal, isPortal}
-use Rattle.integration_field.specs.Diagonal.{wallAt, passesWall}
-use Rattle.flow_byte.specs.Look.{Look, Looking, Taken, Ended, seen, seenAt, lookAt, lookAlong, lookAround}
-use Rattle.flow_arrows.proofs.Around.{Sees, sees}
+use Rattle.flow_byte.specs.Look.{Look, Looking, Taken, Ended, isPassedOver, seen, seenAt, lookAt, lookAlong, lookAround}
+use Rattle.flow_arrows.proofs.Around.{Sees, open-sees, sees-open}
 
 module _ (cells : List ℕ) (i : ℕ) where
   abbrev pub value-at : ℕ → ℕ
@@ -57,37 +56,25 @@ module _ (cells : List ℕ) (i : ℕ) where
     came-cell : (P : Look → Type 0) (d best : CompassDir) (value : ℕ) → Kept P d best value → (c : FieldCell) → stepped (cellAt i) d ≡ Cell c
         → P (seen cells i d (indexOf c) best value)
     unfolding seen
-    came-cell P d best value kept c e = passing (wallAt cells n) (passesWall cells i n) refl refl
+    came-cell P d best value kept c e =
+        test (isPassedOver cells i n) (λ o. kept .left (λ m s. absurd (true≢false (sym o ∙ ap (isPassedOver cells i) (same m s) ∙ sees-open s))))
+        (λ o.
+        let s = open-sees cells i h d c e o in
+        test (isTaken n) (λ t. kept .taken n s t)
+        (λ t. test (eqb (value-at n) 65535) (λ q. kept .ended n s t (eqb-true (value-at n) 65535 q))
+        (λ q. test (ltb (value-at n) value) (λ v. kept .better n s t (ltb-true (value-at n) value v))
+        (λ v. kept .left (λ m r. rw (← same m r) (t, ltb-false (value-at n) value v))))))
       where
         n : ℕ
         n = indexOf c
 
-        -- what each test leaves, where it fails
-        compared : Look
-        compared = cond (ltb (value-at n) value) (Looking d (value-at n)) (Looking best value)
-
-        untaken : Look
-        untaken = cond (eqb (value-at n) 65535) (Ended best) compared
-
         same : (m : ℕ) → Sees cells i d m → n ≡ m
         same m s = let q : c ≡ cellAt m = cc (e, s .steps) in ap indexOf q ∙ index-of-cell m
 
-        comparing : Sees cells i d n → isTaken n ≡ false → (b : Bool) → ltb (value-at n) value ≡ b → P (cond b (Looking d (value-at n)) (Looking best value))
-        comparing s t true q = kept .better n s t (ltb-true (value-at n) value q)
-        comparing s t false q = kept .left (λ m p. rw (← same m p) (t, ltb-false (value-at n) value q))
-
-        ending : Sees cells i d n → isTaken n ≡ false → (b : Bool) → eqb (value-at n) 65535 ≡ b → P (cond b (Ended best) compared)
-        ending s t true q = kept .ended n s t (eqb-true (value-at n) 65535 q)
-        ending s t false q = comparing s t (ltb (value-at n) value) refl
-
-        taking : Sees cells i d n → (b : Bool) → isTaken n ≡ b → P (cond b (Taken d) untaken)
-        taking s true q = kept .taken n s q
-        taking s false q = ending s q (eqb (value-at n) 65535) refl
-
-        passing : (a b : Bool) → wallAt cells n ≡ a → passesWall cells i n ≡ b → P (cond (a || b) (Looking best value) (cond (isTaken n) (Taken d) untaken))
-        passing true b p q = kept .left (λ m s. absurd (true≢false (sym p ∙ ap (wallAt cells) (same m s) ∙ s .no-wall)))
-        passing false true p q = kept .left (λ m s. absurd (true≢false (sym q ∙ ap (passesWall cells i) (same m s) ∙ s .open-way)))
-        passing false false p q = taking (sees cells i h d c e p q) (isTaken n) refl
+        -- one test of the look
+        test : {l r : Look} (b : Bool) → (b ≡ true → P l) → (b ≡ false → P r) → P (cond b l r)
+        test true f g = f refl
+        test false f g = g refl
 
     pub came : (P : Look → Type 0) (d best : CompassDir) (value : ℕ) → Kept P d best value → P (lookAt cells i (Looking best value) d)
     came P d best value kept = at-step (stepped (cellAt i) d) refl
