@@ -16,10 +16,10 @@ ghost use mathlib.Core.Bool.{true, not, _&&_};
 ghost use Prim.Native.Nat.{_-_, _<_};
 ghost use lib.Dec.{eqb, leb};
 ghost use lib.ListN.{length};
-ghost use Rattle.route.specs.Inner.{heldCells, WindowHeld};
+ghost use Rattle.route.specs.Inner.{heldCells};
 ghost use Rattle.flow_byte.specs.New.{startOf, facingBits, facingValue, unlessEnd, seenValues, facingChoice, windowBits, newBytes};
 ghost use Rattle.flow_new.specs.Flow.{newNumber, newSheet};
-ghost use Rattle.flow_new.specs.Inner.{startBytes, withBits};
+ghost use Rattle.flow_new.specs.Inner.{NewReady, startBytes, withBits};
 
 // The cost of a cell that is not seen: above every other.
 const UNSEEN: u32 = 0x10000;
@@ -169,7 +169,7 @@ fn point_portals(
     previous: &[u32],
     sheet: &mut [u8],
 )
-    requires { ⌜ (WindowHeld window) × ((«has_previous» ≡ true → length (now previous) ≡ 100) × (length (now sheet) ≡ 100)) ⌝ }
+    requires { ⌜ NewReady window «has_previous» (now previous) (now sheet) ⌝ }
     ensures { λ _. ⌜ now (sheet .exit) ≡ withBits portal «has_previous» (now (previous .entry)) (heldCells window) (now (sheet .entry)) ⌝ }
 {
     let listed = window.cells;
@@ -192,7 +192,7 @@ pub fn new_cells(
     previous: &[u32],
     sheet: &mut [u8],
 )
-    requires { ⌜ (WindowHeld window) × ((«has_previous» ≡ true → length (now previous) ≡ 100) × (length (now sheet) ≡ 100)) ⌝ }
+    requires { ⌜ NewReady window «has_previous» (now previous) (now sheet) ⌝ }
     ensures { λ _. ⌜ now (sheet .exit) ≡ newBytes portal (heldCells window) (field .field) «has_previous» (now (previous .entry)) ⌝ }
 {
     let cells = field.field;

@@ -21,7 +21,7 @@ use Rattle.flow_new.proofs.new.Tie as tie
 -- the places: from where the step's number is known, the call; from where the previous field is judged, the step's number; from where the
 -- step's target is made, the previous field
 abbrev start : tie.After-step-number → tie.Start
-start c = c .before .before .before .before .before
+start c = let measured = c .before in measured .before .before .before .before
 
 abbrev judged : tie.After-is-misfit → tie.After-step-number
 judged c = c .before .before
@@ -70,10 +70,9 @@ returns-3 c =
 new-cells-requires : tie.Need-new-cells-requires
 new-cells-requires c κs =
     let t = c .before in
-    let a = start (judged (misfit t)) .args in (
-      made-held (now (a .step)) (t .before .new .result) (t .as-target .result) (t .before .new .ensures) (t .as-target .ensures) (good t) .window-held,
-      (fits (a .has-previous) (now (a .previous)) (no-misfit t), full (misfit t)),
-    )
+    let a = start (judged (misfit t)) .args in
+    let held = made-held (now (a .step)) (t .before .new .result) (t .as-target .result) (t .before .new .ensures) (t .as-target .ensures) (good t) in
+    record { window-held = held .window-held; previous-fits = fits (a .has-previous) (now (a .previous)) (no-misfit t); sheet-full = full (misfit t) }
 
 returns-4 : tie.Need-returns-4
 returns-4 c =

@@ -14,12 +14,12 @@ abbrev flagged : tie.After-point-portals → tie.After-start-cells
 flagged c = c .before .before .before .before
 
 abbrev start : tie.After-start-cells → tie.Start
-start c = c .before .before .before .before .before .before
+start c = let copied = c .before .before .before in copied .before .before .before
 
 point-portals-requires : tie.Need-point-portals-requires
 point-portals-requires c κs =
-    let s = start (c .before .before .before) in
-    (s .pre .0, (s .pre .1 .0, search needs))
+    let p = start (c .before .before .before) .pre in
+    record { window-held = p .window-held; previous-fits = p .previous-fits; sheet-full = search needs }
 
 returns : tie.Need-returns
 returns c =
@@ -29,7 +29,7 @@ returns c =
     let a = s .args in
     pointed .point-portals .ensures
     ∙ ap (withBits (a .portal) (a .has-previous) (now (a .previous)) (heldCells (a .window))) (f .start-cells .ensures)
-    ∙ new-made (a .portal) (a .has-previous) (now (a .previous)) (heldCells (a .window)) (a .field .field) (s .pre .0 .window-in)
+    ∙ new-made (a .portal) (a .has-previous) (now (a .previous)) (heldCells (a .window)) (a .field .field) (s .pre .window-held .window-in)
 
 pub new-cells-spec : {M : Type 1} → statement M
 new-cells-spec = tie.close (tie.spec (λ c κs. search needs) point-portals-requires (λ c. search needs) returns)
