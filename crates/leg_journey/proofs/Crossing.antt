@@ -2,7 +2,9 @@
 -- The cell's bits are those of the least of the values that it compares. One of them is below 65535, so the least is: what an end cell does not
 -- see (65536) is never chosen, and the cell that the bits stand for is reached. That cell lies one row or column on, over the boundary, and along
 -- it where the bits say so: the sector's column and row on the floor change with the boundary, and the cell's go round from 9 to 0 or back.
---     straight, lower, higher    where the bits of a side point on the floor, alone or with those along its edge
+--     beyond                     the cell that faces a cell of the edge lies one place on from it, over the boundary, whichever the side
+--     lands                      so bits that lead along the edge to a cell, and over it, lead to the cell that faces it
+--     straight, lower, higher    the bits of a side, alone or with those along its edge, are such bits
 --     chosen                     which of the compared values a cell's bits stand for
 --     crossing                   both together
 -- Assumes nothing.
@@ -15,8 +17,7 @@ use native.Mathlib.Omega.{arith}
 use lib.Dec.{leb, eqb}
 use borrow.Author.Tests.{eqb-true, eqb-false, eq-eqb, leb-true, leb-false, ltb-true}
 use Rattle.utilities.specs.declared.CompassDir.{CompassDir}
-use Rattle.utilities.specs.declared.CompassDir.the-variants.{North, East, South, West}
-use Rattle.utilities.specs.Compass.{opposite, lowerSide}
+use Rattle.utilities.specs.Compass.{differences, rises, falls, opposite, lowerSide}
 use Rattle.route.specs.Window.{onEdge, stride, facing}
 use Rattle.route.specs.Step.{firstOf, lastOf, boundaryByte, boundaryOf, isWindow, windowCells, portalOf, stepNumber}
 use Rattle.route.specs.Target.{to-window, WindowCell, StepWindow}
@@ -37,72 +38,46 @@ use Rattle.leg_journey.proofs.Places.{points}
 
 -- ---- where bits point over a boundary
 
--- from cell x of sector s to cell y of sector t, by bits that point over the boundary, and along it as the two cells lie
-module _ (s t x y : ℕ) (l : y < 100) (b : ℕ) (is : isArrow b ≡ true) where
-  over-north : Arrives s North t → x / 10 ≡ 0 → y / 10 ≡ 9 → northward b ≡ 1 → southward b ≡ 0 → y % 10 + westward b ≡ x % 10 + eastward b
-      → Points b (placeOf s x) (placeOf t y)
-  over-north a u v p q e = points b s t x y (a .arrives-on) l is (omega (arith, a .row-at)) (omega (arith, a .column-at))
+-- from cell z of a sector's edge to cell y of the next sector: one place on over the boundary, along the axis and in the sense of the side's differences
+record Beyond (s t : ℕ) (side : CompassDir) (z y : ℕ) : Type 0 where
+  rows : placeOf t y .row + falls (differences side .row) ≡ placeOf s z .row + rises (differences side .row)
+  columns : placeOf t y .column + falls (differences side .column) ≡ placeOf s z .column + rises (differences side .column)
 
-  over-east : Arrives s East t → x % 10 ≡ 9 → y % 10 ≡ 0 → eastward b ≡ 1 → westward b ≡ 0 → y / 10 + northward b ≡ x / 10 + southward b
-      → Points b (placeOf s x) (placeOf t y)
-  over-east a u v p q e = points b s t x y (a .arrives-on) l is (omega (arith, a .row-at)) (omega (arith, a .column-at))
-
-  over-south : Arrives s South t → x / 10 ≡ 9 → y / 10 ≡ 0 → southward b ≡ 1 → northward b ≡ 0 → y % 10 + westward b ≡ x % 10 + eastward b
-      → Points b (placeOf s x) (placeOf t y)
-  over-south a u v p q e = points b s t x y (a .arrives-on) l is (omega (arith, a .row-at)) (omega (arith, a .column-at))
-
-  over-west : Arrives s West t → x % 10 ≡ 0 → y % 10 ≡ 9 → westward b ≡ 1 → eastward b ≡ 0 → y / 10 + northward b ≡ x / 10 + southward b
-      → Points b (placeOf s x) (placeOf t y)
-  over-west a u v p q e = points b s t x y (a .arrives-on) l is (omega (arith, a .row-at)) (omega (arith, a .column-at))
+-- so lies the cell that faces z
+beyond : (s t : ℕ) (side : CompassDir) → Arrives s side t → (z : ℕ) → z < 100 → onEdge side z ≡ true → Beyond s t side z (facing side z)
+beyond s t side a z h on =
+    by-edge (λ d. Arrives s d t → onEdge d z ≡ true → Beyond s t d z (facing d z)) side z on
+    (λ u a e. let f = facing-north z h e in record { rows = rw f (omega (arith, a .row-at)); columns = rw f (omega (arith, a .column-at)) })
+    (λ u a e. let f = facing-east z h e in record { rows = rw f (omega (arith, a .row-at)); columns = rw f (omega (arith, a .column-at)) })
+    (λ u a e. let f = facing-south z h e in record { rows = rw f (omega (arith, a .row-at)); columns = rw f (omega (arith, a .column-at)) })
+    (λ u a e. let f = facing-west z h e in record { rows = rw f (omega (arith, a .row-at)); columns = rw f (omega (arith, a .column-at)) })
+    a on
 
 -- bits that are the low half of a byte, and point from a place to another
 abbrev Lands : ℕ → Place → Place → Type 0
 Lands b p q = (b < 16) × Points b p q
 
--- so into the cell that faces a cell z of the edge
-module _ (s t x z b : ℕ) (h : z < 100) (few : b < 16) (is : isArrow b ≡ true) where
-  north : Arrives s North t → x / 10 ≡ 0 → z / 10 ≡ 0 → northward b ≡ 1 → southward b ≡ 0 → z % 10 + westward b ≡ x % 10 + eastward b
-      → Lands b (placeOf s x) (placeOf t (facing North z))
-  unfolding onEdge
-  north a u v p q e =
-      let f = facing-north z h (eq-eqb (z / 10) 0 v) in
-      let c : facing North z % 10 ≡ z % 10 = rw f (omega arith) in
-      (few, over-north s t x (facing North z) (facing-in North z) b is a u (rw f (omega arith)) p q (rw c e))
-
-  east : Arrives s East t → x % 10 ≡ 9 → z % 10 ≡ 9 → eastward b ≡ 1 → westward b ≡ 0 → z / 10 + northward b ≡ x / 10 + southward b
-      → Lands b (placeOf s x) (placeOf t (facing East z))
-  unfolding onEdge
-  east a u v p q e =
-      let f = facing-east z h (eq-eqb (z % 10) 9 v) in
-      let c : facing East z / 10 ≡ z / 10 = rw f (omega arith) in
-      (few, over-east s t x (facing East z) (facing-in East z) b is a u (rw f (omega arith)) p q (rw c e))
-
-  south : Arrives s South t → x / 10 ≡ 9 → z / 10 ≡ 9 → southward b ≡ 1 → northward b ≡ 0 → z % 10 + westward b ≡ x % 10 + eastward b
-      → Lands b (placeOf s x) (placeOf t (facing South z))
-  unfolding onEdge
-  south a u v p q e =
-      let f = facing-south z h (eq-eqb (z / 10) 9 v) in
-      let c : facing South z % 10 ≡ z % 10 = rw f (omega arith) in
-      (few, over-south s t x (facing South z) (facing-in South z) b is a u (rw f (omega arith)) p q (rw c e))
-
-  west : Arrives s West t → x % 10 ≡ 0 → z % 10 ≡ 0 → westward b ≡ 1 → eastward b ≡ 0 → z / 10 + northward b ≡ x / 10 + southward b
-      → Lands b (placeOf s x) (placeOf t (facing West z))
-  unfolding onEdge
-  west a u v p q e =
-      let f = facing-west z h (eq-eqb (z % 10) 0 v) in
-      let c : facing West z / 10 ≡ z / 10 = rw f (omega arith) in
-      (few, over-west s t x (facing West z) (facing-in West z) b is a u (rw f (omega arith)) p q (rw c e))
+-- bits b lead from cell x of sector s to the cell that faces z, if without the side's own difference they lead along the edge from x to z
+module _ (s t x : ℕ) {side : CompassDir} (a : Arrives s side t) (b : ℕ) (few : b < 16) (is : isArrow b ≡ true) (z : ℕ) where
+  lands : z < 100 → onEdge side z ≡ true
+      → placeOf s z .row + rises (differences side .row) + northward b ≡ placeOf s x .row + falls (differences side .row) + southward b
+      → placeOf s z .column + rises (differences side .column) + westward b ≡ placeOf s x .column + falls (differences side .column) + eastward b
+      → Lands b (placeOf s x) (placeOf t (facing side z))
+  lands h on r c = over (facing-in side z) (beyond s t side a z h on)
+    where
+      over : {y : ℕ} → y < 100 → Beyond s t side z y → Lands b (placeOf s x) (placeOf t y)
+      over {y} l m = (few, points b s t x y (a .arrives-on) l is (omega (arith, m .rows, r)) (omega (arith, m .columns, c)))
 
 -- straight, and by the window's cell before x or behind it
 module _ (s t x : ℕ) (h : x < 100) (side : CompassDir) (on : onEdge side x ≡ true) (next : Arrives s side t) where
   straight : Lands (bitsOf side) (placeOf s x) (placeOf t (facing side x))
   straight =
-      by-edge (λ d. Arrives s d t → Lands (bitsOf d) (placeOf s x) (placeOf t (facing d x))) side x on
-      (λ u a. north s t x x 1 h (omega arith) refl a u u refl refl refl)
-      (λ u a. east s t x x 2 h (omega arith) refl a u u refl refl refl)
-      (λ u a. south s t x x 4 h (omega arith) refl a u u refl refl refl)
-      (λ u a. west s t x x 8 h (omega arith) refl a u u refl refl refl)
-      next
+      by-edge (λ d. Arrives s d t → onEdge d x ≡ true → Lands (bitsOf d) (placeOf s x) (placeOf t (facing d x))) side x on
+      (λ u a e. lands s t x a 1 (omega arith) refl x h e (omega arith) (omega arith))
+      (λ u a e. lands s t x a 2 (omega arith) refl x h e (omega arith) (omega arith))
+      (λ u a e. lands s t x a 4 (omega arith) refl x h e (omega arith) (omega arith))
+      (λ u a e. lands s t x a 8 (omega arith) refl x h e (omega arith) (omega arith))
+      next on
 
   -- one cell of the edge back, where there is one before x
   abbrev ByLower : CompassDir → Type 0
@@ -112,10 +87,14 @@ module _ (s t x : ℕ) (h : x < 100) (side : CompassDir) (on : onEdge side x ≡
   unfolding onEdge
   lower f p k =
       by-edge (λ d. onEdge d f ≡ true → Arrives s d t → ByLower d) side x on
-      (λ u e a. let v = eqb-true (f / 10) 0 e in north s t x (x - 1) 9 (omega arith) (omega arith) refl a u (omega arith) refl refl (omega arith))
-      (λ u e a. let v = eqb-true (f % 10) 9 e in east s t x (x - 10) 3 (omega arith) (omega arith) refl a u (omega arith) refl refl (omega arith))
-      (λ u e a. let v = eqb-true (f / 10) 9 e in south s t x (x - 1) 12 (omega arith) (omega arith) refl a u (omega arith) refl refl (omega arith))
-      (λ u e a. let v = eqb-true (f % 10) 0 e in west s t x (x - 10) 9 (omega arith) (omega arith) refl a u (omega arith) refl refl (omega arith))
+      (λ u e a. let v = eqb-true (f / 10) 0 e in
+      lands s t x a 9 (omega arith) refl (x - 1) (omega arith) (eq-eqb ((x - 1) / 10) 0 (omega arith)) (omega arith) (omega arith))
+      (λ u e a. let v = eqb-true (f % 10) 9 e in
+      lands s t x a 3 (omega arith) refl (x - 10) (omega arith) (eq-eqb ((x - 10) % 10) 9 (omega arith)) (omega arith) (omega arith))
+      (λ u e a. let v = eqb-true (f / 10) 9 e in
+      lands s t x a 12 (omega arith) refl (x - 1) (omega arith) (eq-eqb ((x - 1) / 10) 9 (omega arith)) (omega arith) (omega arith))
+      (λ u e a. let v = eqb-true (f % 10) 0 e in
+      lands s t x a 9 (omega arith) refl (x - 10) (omega arith) (eq-eqb ((x - 10) % 10) 0 (omega arith)) (omega arith) (omega arith))
       p next
 
   -- one on, where there is one behind x
@@ -126,10 +105,14 @@ module _ (s t x : ℕ) (h : x < 100) (side : CompassDir) (on : onEdge side x ≡
   unfolding onEdge
   higher f j p k =
       by-edge (λ d. onEdge d f ≡ true → Arrives s d t → ByHigher d) side x on
-      (λ u e a. let v = eqb-true (f / 10) 0 e in north s t x (x + 1) 3 (omega arith) (omega arith) refl a u (omega arith) refl refl (omega arith))
-      (λ u e a. let v = eqb-true (f % 10) 9 e in east s t x (x + 10) 6 (omega arith) (omega arith) refl a u (omega arith) refl refl (omega arith))
-      (λ u e a. let v = eqb-true (f / 10) 9 e in south s t x (x + 1) 6 (omega arith) (omega arith) refl a u (omega arith) refl refl (omega arith))
-      (λ u e a. let v = eqb-true (f % 10) 0 e in west s t x (x + 10) 12 (omega arith) (omega arith) refl a u (omega arith) refl refl (omega arith))
+      (λ u e a. let v = eqb-true (f / 10) 0 e in
+      lands s t x a 3 (omega arith) refl (x + 1) (omega arith) (eq-eqb ((x + 1) / 10) 0 (omega arith)) (omega arith) (omega arith))
+      (λ u e a. let v = eqb-true (f % 10) 9 e in
+      lands s t x a 6 (omega arith) refl (x + 10) (omega arith) (eq-eqb ((x + 10) % 10) 9 (omega arith)) (omega arith) (omega arith))
+      (λ u e a. let v = eqb-true (f / 10) 9 e in
+      lands s t x a 6 (omega arith) refl (x + 1) (omega arith) (eq-eqb ((x + 1) / 10) 9 (omega arith)) (omega arith) (omega arith))
+      (λ u e a. let v = eqb-true (f % 10) 0 e in
+      lands s t x a 12 (omega arith) refl (x + 10) (omega arith) (eq-eqb ((x + 10) % 10) 0 (omega arith)) (omega arith) (omega arith))
       p next
 
 -- ---- the least of the compared values
