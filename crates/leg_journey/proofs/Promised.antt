@@ -40,7 +40,7 @@ module _ (sight : Bool) (floor steps sheet : List ℕ) where
   pub refuses : (n : ℕ) → n ≡ legNumberBy sight floor steps sheet → (n ≡ 0 → ⊥) → Promised n sheet
   refuses n e h =
       let p = plan.refuses sight floor steps sheet n e h in
-      (p .0, (p .1 .0, (p .1 .1, (λ z. absurd (h z), told n e))))
+      (p .number-is, (p .sheet-is, (p .planned-so, (λ z. absurd (h z), told n e))))
 
   -- the costs of a floor are bytes
   pub plans : ((i : ℕ) → getD floor i 0 ≤ 255) → legNumberBy sight floor steps sheet ≡ 0
@@ -49,4 +49,4 @@ module _ (sight : Bool) (floor steps sheet : List ℕ) where
       let p = plan.plans sight floor steps sheet bytes z after e in
       let j = accepted sight floor steps sheet z .0 in
       let along = subst (Arrives sight floor (stepsOf steps)) (sym e) (arrives sight floor steps sheet j bytes) in
-      (p .0, (p .1 .0, (p .1 .1, (λ q. along, told 0 (sym z)))))
+      (p .number-is, (p .sheet-is, (p .planned-so, (λ q. along, told 0 (sym z)))))

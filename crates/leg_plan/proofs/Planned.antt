@@ -79,22 +79,25 @@ module _ (sight : Bool) (floor steps sheet : List ℕ) (ready : LegReady floor s
             subst (λ (b : List ℕ). sector.Planned costs target b (waveCount costs (started costs target)) bytes)
             (sym (built-is sight floor (stepsOf steps) k))
             (subst (sector.Planned costs target (sectorField costs target .field) (waveCount costs (started costs target))) (sym (wrote k h))
-            (sector-planned costs target (portalAt (stepsOf steps) k) (part-hundred floor (sectorAt (stepsOf steps) k) (ready .floor-full) (fits .in-floor k h))
-            (target-at k h) (hasBefore k) (builtBefore sight floor (stepsOf steps) k) (part-bytes floor (sectorAt (stepsOf steps) k) small)
+            (sector-planned costs target (portalAt (stepsOf steps) k)
+            (part-hundred floor (sectorAt (stepsOf steps) k) (ready .floor-full) (fits .in-floor k h)) (target-at k h)
+            (hasBefore k) (builtBefore sight floor (stepsOf steps) k) (part-bytes floor (sectorAt (stepsOf steps) k) small)
             (leg-target-on sight (hasBefore k) (builtBefore sight floor (stepsOf steps) k) (stepOf (stepsOf steps) k))));
       }
 
 module _ (sight : Bool) (floor steps sheet : List ℕ) where
   -- a number, and the sheet that is left with it
-  abbrev Promised : ℕ → List ℕ → Type 0
-  Promised n after =
-      (n ≡ legNumberBy sight floor steps sheet)
-      × ((after ≡ legSheetBy sight floor steps sheet) × (n ≡ 0 → LegPlannedBy sight floor (stepsOf steps) sheet after))
+  pub record Promised (n : ℕ) (after : List ℕ) : Type 0 where
+    pub number-is : n ≡ legNumberBy sight floor steps sheet
+    pub sheet-is : after ≡ legSheetBy sight floor steps sheet
+    pub planned-so : n ≡ 0 → LegPlannedBy sight floor (stepsOf steps) sheet after
 
   pub refuses : (n : ℕ) → n ≡ legNumberBy sight floor steps sheet → (n ≡ 0 → ⊥) → Promised n sheet
-  refuses n e h = (e, (rw (← e, ne-eqb n 0 h), λ z. absurd (h z)))
+  refuses n e h = record { number-is = e; sheet-is = rw (← e, ne-eqb n 0 h); planned-so = λ z. absurd (h z) }
 
-  pub plans : ((i : ℕ) → getD floor i 0 ≤ 255) → legNumberBy sight floor steps sheet ≡ 0 → (after : List ℕ) → after ≡ planned sight floor (stepsOf steps) sheet → Promised 0 after
+  pub plans : ((i : ℕ) → getD floor i 0 ≤ 255) → legNumberBy sight floor steps sheet ≡ 0
+      → (after : List ℕ) → after ≡ planned sight floor (stepsOf steps) sheet → Promised 0 after
   plans bytes z after e =
       let j = accepted sight floor steps sheet z .0 in
-      (sym z, (rw z e, λ q. subst (LegPlannedBy sight floor (stepsOf steps) sheet) (sym e) (leg-planned sight floor steps sheet (ready j) (j .sheet-full) (j .ordered) bytes)))
+      let whole = leg-planned sight floor steps sheet (ready j) (j .sheet-full) (j .ordered) bytes in
+      record { number-is = sym z; sheet-is = rw z e; planned-so = λ q. subst (LegPlannedBy sight floor (stepsOf steps) sheet) (sym e) whole }
