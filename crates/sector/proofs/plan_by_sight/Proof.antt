@@ -23,12 +23,16 @@ use Rattle.sector.proofs.plan_by_sight.Tie as tie
 sector-number-requires : tie.Need-sector-number-requires
 sector-number-requires c κs = c .as-target .ensures ∙ ap (λ (s : RouteStep). listedTarget (routeTarget s)) (c .before .new .ensures)
 
--- where the number is known: from there the step's target is made, and before it all that is lent is known, the costs first, which are bytes; and the call
+-- where the number is known: from there the step's target is made, and the step is read; before it all that is lent is known, the costs first, which
+-- are bytes; and the call
 abbrev made : tie.After-sector-number → tie.After-as-target
 made n = n .before
 
+abbrev read : tie.After-sector-number → tie.After-new
+read n = made n .before
+
 abbrev bytes-known : tie.After-sector-number → tie.After-shared-slice-known
-bytes-known n = made n .before .before .before .before .before
+bytes-known n = read n .before .before .before .before
 
 abbrev called : tie.After-sector-number → tie.Start
 called n = bytes-known n .before

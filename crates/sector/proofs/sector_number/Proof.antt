@@ -28,8 +28,12 @@ returns-2 c sheet e =
     let other : length sheet ≡ 100 → ⊥ = λ h. omega (arith, c .if2 .taken) in
     search (tests, other)
 
+-- from where the costs are a hundred, the call
+abbrev called : tie.Else1 → tie.Start
+called c = c .before .before .before .before
+
 number-with-target-requires : tie.Need-number-with-target-requires
-number-with-target-requires c κs = c .before .before .before .before .before .pre
+number-with-target-requires c κs = called (c .before) .pre
 
 returns-3 : tie.Need-returns-3
 unfolding sectorNumber
@@ -43,7 +47,7 @@ abbrev stepped : tie.After-lacks-previous → tie.After-number-with-target
 stepped c = c .before .before
 
 abbrev start : tie.After-lacks-previous → tie.Start
-start c = stepped c .before .before .before .before .before .before
+start c = called (stepped c .before .before)
 
 last : (c : tie.After-lacks-previous) (sheet : List ℕ) → length sheet ≡ start c .args .sheet-length → let a = start c .args in
     (l h f : Bool) → c .lacks-previous .result ≡ l → a .has-previous ≡ h → eqb (length (now (a .previous))) 100 ≡ f
