@@ -105,8 +105,8 @@ module _ (d best : CompassDir) (value m : ℕ) (small : value ≤ 65535) where
   ends false q = compared (eqb-false m 65535 q) (ltb m value) refl
 
   by-tests : (w p t : Bool)
-      → HeldBy (cond (w || p) (Looking best value) (cond t (Taken d) (cond (eqb m 65535) (Ended best) (cond (ltb m value) (Looking d m) (Looking best value)))))
-      (keyBy w p t)
+      → HeldBy (cond (w || p) (Looking best value)
+      (cond t (Taken d) (cond (eqb m 65535) (Ended best) (cond (ltb m value) (Looking d m) (Looking best value))))) (keyBy w p t)
   by-tests true true t = unmoved 65537 (omega arith)
   by-tests true false t = unmoved 65537 (omega arith)
   by-tests false true t = unmoved 65537 (omega arith)

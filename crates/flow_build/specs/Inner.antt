@@ -11,6 +11,8 @@ use lib.ListN.{length, getD}
 use Rattle.utilities.specs.declared.CompassDir.{CompassDir}
 use Rattle.utilities.specs.declared.CompassDir.the-variants.{Zero}
 use Rattle.utilities.specs.Lists.{below}
+use Rattle.fields.specs.declared.FieldCell.{FieldCell}
+use Rattle.fields.specs.Cell.{Inside}
 use Rattle.integration_field.specs.Word.{low, isGoal, isPortal, isImpassable}
 use Rattle.integration_field.specs.Diagonal.{passesWall}
 use Rattle.flow_bits.specs.Byte as flow
@@ -59,6 +61,12 @@ cellKeys cells = map (λ i. cellKey (getD cells i 0)) (below 100)
 -- the key of the neighbour at index n as a look from cell i sees it: a diagonal that passes a wall is passed over like a wall
 unfoldable pub seenKey : List ℕ → ℕ → ℕ → ℕ
 seenKey cells i n = cond (passesWall cells i n) 65537 (cellKey (getD cells n 0))
+
+-- what is known where one cell looks at another: both are cells of the sector, and the keys are those of its cells
+pub record KeysSeen (cells keys : List ℕ) (from to : FieldCell) : Type 0 where
+  pub from-in : Inside from
+  pub to-in : Inside to
+  pub keys-are : keys ≡ cellKeys cells
 
 -- ---- a look goes on
 

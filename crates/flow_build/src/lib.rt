@@ -19,7 +19,7 @@ ghost use Rattle.fields.specs.Cell.{Inside, indexOf};
 ghost use Rattle.flow_byte.specs.Look.{lookAround, flowBuild};
 ghost use Rattle.flow_arrows.specs.Promise.{BuildArrows};
 ghost use Rattle.flow_build.specs.Flow.{buildNumber, buildSheet};
-ghost use Rattle.flow_build.specs.Inner.{LooksHeld, LooksOn, cellKey, cellKeys, seenKey, isNoted, keyAfter, bitsAfter};
+ghost use Rattle.flow_build.specs.Inner.{LooksHeld, LooksOn, cellKey, cellKeys, KeysSeen, seenKey, isNoted, keyAfter, bitsAfter};
 ghost use Rattle.flow_build.specs.Inner.{isKept, NoneLooks, heldByte, byteAfter, heldBytes, nothingFound};
 
 // The key of a goal or a portal, and of a look that has taken one.
@@ -66,7 +66,7 @@ fn keys_of(cells: &[u32; 100]) -> [u32; 100]
 
 // The key of a neighbour as a cell sees it: nothing, where the move is diagonal and passes a wall.
 fn seen_key(cells: &[u32; 100], keys: &[u32; 100], from: FieldCell, to: FieldCell) -> u32
-    requires { ⌜ (Inside from × Inside to) × (now keys ≡ cellKeys (now cells)) ⌝ }
+    requires { ⌜ KeysSeen (now cells) (now keys) from to ⌝ }
     ensures { λ r. ⌜ r ≡ seenKey (now (cells .entry)) (indexOf from) (indexOf to) ⌝ }
 {
     let key = keys[to.row * 10 + to.column];

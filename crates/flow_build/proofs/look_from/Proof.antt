@@ -48,7 +48,7 @@ seen-key-requires : tie.Need-seen-key-requires
 seen-key-requires c κs =
     let p = start c .pre in
     let e = sym (step c .get-in-compass-direction .ensures .0) ∙ c .before .to .given .1 in
-    ((p .0, stepped-cell _ _ _ e .within), p .1)
+    record { from-in = p .0; to-in = stepped-cell _ _ _ e .within; keys-are = p .1 }
 
 returns-2 : tie.Need-returns-2
 returns-2 c =

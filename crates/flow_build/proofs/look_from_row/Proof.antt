@@ -28,8 +28,9 @@ loop-again c =
     let turn = c .before .before .before .before in
     let l = turn .loop in
     let a = turn .before .args in
-    let at = a .row * 10 + l .column in
-    (omega arith, then-on (now (a .cells)) (a .dir) (a .row * 10) at (at + 1) (a .row * 10 + (l .column + 1)) (omega arith) (l .inv .1) (c .look-from .ensures))
+    let first = a .row * 10 in
+    let at = first + l .column in
+    (omega arith, then-on (now (a .cells)) (a .dir) first at (at + 1) (first + (l .column + 1)) (omega arith) (l .inv .1) (c .look-from .ensures))
 
 returns : tie.Need-returns Inv-loop μ-loop
 returns c =

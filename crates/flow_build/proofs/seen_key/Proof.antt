@@ -24,7 +24,7 @@ module _ (m : tie.After-passes-wall) where
       key-read .before .before .before
 
   barred : passesWall (now (start .args .cells)) (indexOf (start .args .from)) (indexOf (start .args .to)) ≡ m .passes-wall .result
-  barred = passes-at (now (start .args .cells)) (start .args .from) (start .args .to) (start .pre .0 .0) (start .pre .0 .1) ∙ sym (m .passes-wall .ensures)
+  barred = passes-at (now (start .args .cells)) (start .args .from) (start .args .to) (start .pre .from-in) (start .pre .to-in) ∙ sym (m .passes-wall .ensures)
 
 returns : tie.Need-returns
 unfolding seenKey
@@ -38,7 +38,7 @@ returns-2 c =
     let n = indexOf (a .to) in
     let at : ℕ → ℕ = λ k. cellKey (getD (now (a .cells)) k 0) in
     rw (barred (c .before) ∙ c .if1 .left)
-    (ap (λ (l : List ℕ). getD l n 0) (s .pre .1) ∙ table-at at 0 100 n (index-below (a .to) (s .pre .0 .1)))
+    (ap (λ (l : List ℕ). getD l n 0) (s .pre .keys-are) ∙ table-at at 0 100 n (index-below (a .to) (s .pre .to-in)))
 
 pub seen-key-spec : {M : Type 1} → statement M
 seen-key-spec = tie.close (tie.spec
