@@ -4,7 +4,7 @@
 --     same-sees                         fields with the same walls see the same
 -- Assumes nothing.
 use mathlib.Core.Path.{_≡_, refl, sym, ap, _∙_}
-use mathlib.Core.Bool.{Bool, true, false, true≢false, not, _||_}
+use mathlib.Core.Bool.{Bool, true, false, true≢false, not}
 use mathlib.Core.Logic.{_⊎_, inl, inr, _↔_}
 use mathlib.Core.List.{List, [], _∷_, List·Memᴰ, List·Memᴰ·head, List·Memᴰ·tail, List·Memᴰ·cases-cons, List·Memᴰ·not-nil}
 use Prim.Native.Nat.{ℕ, _+_, _*_, _/_, _%_, _^_, _<_}
@@ -19,25 +19,13 @@ use Rattle.fields.specs.declared.Stepped.the-variants.{Cell, Outside}
 use Rattle.fields.specs.Cell.{cellAt, indexOf, stepped}
 use Rattle.fields.proofs.Steps.{index-of-cell}
 use Rattle.integration_field.specs.Diagonal.{wallAt, passesWall}
-use Rattle.flow_arrows.proofs.Around.{Sees, sees, near-in}
+use Rattle.flow_arrows.proofs.Around.{Sees, open-sees, sees-open, near-in}
 use Rattle.flow_arrows.proofs.Look.{passes, sees-on}
 use Rattle.flow_byte.specs.Look.{isPassedOver}
 use Rattle.bounds_told.specs.Bounds.{consPermitted, permittedAlong, permittedFrom}
 use Rattle.bounds_told.specs.Promise.{PermittedNeighbour}
 
--- neither of two tests holds
-neither : (a b : Bool) → (a || b) ≡ false → (a ≡ false) × (b ≡ false)
-neither true b e = absurd (true≢false e)
-neither false b e = (refl, e)
-
 module _ (cells : List ℕ) (i : ℕ) (h : i < 100) where
-  -- what is not passed over is seen, and what is seen is not passed over
-  open-sees : (d : CompassDir) (c : FieldCell) → stepped (cellAt i) d ≡ Cell c → isPassedOver cells i (indexOf c) ≡ false → Sees cells i d (indexOf c)
-  open-sees d c e o = let n = neither _ _ o in sees cells i h d c e (n .0) (n .1)
-
-  sees-open : {d : CompassDir} {n : ℕ} → Sees cells i d n → isPassedOver cells i n ≡ false
-  sees-open s = rw (s .no-wall, s .open-way)
-
   -- ---- as the promise tells it
 
   pub permitted-sees : {n : ℕ} → (p : PermittedNeighbour cells i n) → Sees cells i (p .way) n
@@ -51,7 +39,7 @@ module _ (cells : List ℕ) (i : ℕ) (h : i < 100) where
 
       go : (b : Bool) → isPassedOver cells i n ≡ b → Sees cells i (p .way) n
       go true q = absurd (p .not-passed (λ best value. passes cells i h (p .way) best value (none q)))
-      go false q = rw (index-of-cell n) at (open-sees (p .way) (cellAt n) (p .arrives) (rw (index-of-cell n) q))
+      go false q = rw (index-of-cell n) at (open-sees cells i h (p .way) (cellAt n) (p .arrives) (rw (index-of-cell n) q))
 
   pub sees-permitted : {d : CompassDir} {n : ℕ} → List·Memᴰ d all → Sees cells i d n → PermittedNeighbour cells i n
   sees-permitted {d} {n} m s = record { way = d; looked-at = m; arrives = s .steps; not-passed = λ p. sees-on cells i h d n s (p Zero (2 ^ 16)) }
@@ -80,7 +68,7 @@ module _ (cells : List ℕ) (i : ℕ) (h : i < 100) where
       tested c e false q k f = found (List·Memᴰ·cases-cons k)
         where
           found : (n ≡ indexOf c) ⊎ List·Memᴰ n (permittedAlong cells i ds) → SeenAlong (d ∷ ds) n
-          found (inl r) = (d, List·Memᴰ·head refl, rw r (open-sees d c e q))
+          found (inl r) = (d, List·Memᴰ·head refl, rw r (open-sees cells i h d c e q))
           found (inr k) = f k
 
       at-step : (t : Stepped) → stepped (cellAt i) d ≡ t → List·Memᴰ n (consPermitted cells i t (permittedAlong cells i ds))
