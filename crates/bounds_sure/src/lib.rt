@@ -5,7 +5,7 @@ use fields::Stepped;
 use utilities::CompassDir;
 ghost use mathlib.Core.Path.{_≡_};
 ghost use mathlib.Core.List.{List, [], _∷_, map};
-ghost use Prim.Native.Nat.{ℕ, _<_, _≤_};
+ghost use Prim.Native.Nat.{ℕ, _<_};
 ghost use lib.Dec.{ltb};
 ghost use lib.ListN.{getD};
 ghost use mathlib.Core.Bool.{_&&_};
@@ -17,7 +17,7 @@ ghost use Rattle.flow_byte.specs.New.{isIn};
 ghost use Rattle.flow_byte.specs.Look.{isPassedOver};
 ghost use Rattle.flow_arrows.specs.Arrows.{builtCost};
 ghost use Rattle.bounds_told.specs.Bounds.{someOf, permittedFrom, isBelowOthers, isSure};
-ghost use Rattle.bounds_told.specs.Inner.{heldPermitted, FoundAlong};
+ghost use Rattle.bounds_told.specs.Inner.{heldPermitted, RoomFor, FoundAlong};
 
 // Whether the look from a cell passes over a neighbour: it is a wall, or the move there is diagonal and passes one.
 fn is_passed_over(cells: &[u32; 100], from: FieldCell, to: FieldCell) -> bool
@@ -40,7 +40,7 @@ fn permitted_towards(
     found: PermittedCells,
     dir: CompassDir,
 ) -> PermittedCells
-    requires { ⌜ (index < 100) × ((Indexes 8 (found .cells) (found .count)) × (found .count < 8)) ⌝ }
+    requires { ⌜ RoomFor 1 index found ⌝ }
     ensures { λ r. ⌜ FoundAlong (now (cells .entry)) index (dir ∷ []) found r ⌝ }
 {
     let from = FieldCell::from_index(index);
@@ -69,7 +69,7 @@ fn permitted_along(
     third: CompassDir,
     fourth: CompassDir,
 ) -> PermittedCells
-    requires { ⌜ (index < 100) × ((Indexes 8 (found .cells) (found .count)) × (found .count ≤ 4)) ⌝ }
+    requires { ⌜ RoomFor 4 index found ⌝ }
     ensures { λ r. ⌜ FoundAlong (now (cells .entry)) index (first ∷ second ∷ third ∷ fourth ∷ []) found r ⌝ }
 {
     let one = permitted_towards(cells, index, found, first);

@@ -19,27 +19,6 @@ abbrev μ-loop : tie.MeasureT-loop
 loop-holds : tie.Need-loop-holds Inv-loop μ-loop
 loop-holds c = (omega arith, record { full = refl; first = refl })
 
-mul-low-bits : tie.Need-mul-low-bits Inv-loop μ-loop
-mul-low-bits c = omega arith
-
-element-copy-out-low-bits : tie.Need-element-copy-out-low-bits Inv-loop μ-loop
-element-copy-out-low-bits c = omega arith
-
-low-bits-requires : tie.Need-low-bits-requires Inv-loop μ-loop
-low-bits-requires c κs = search needs
-
-mul-costs : tie.Need-mul-costs Inv-loop μ-loop
-mul-costs c = omega arith
-
-array-write-costs : tie.Need-array-write-costs Inv-loop μ-loop
-array-write-costs c = omega arith
-
-add-i : tie.Need-add-i Inv-loop μ-loop
-add-i c = omega arith
-
-loop-less : tie.Need-loop-less Inv-loop μ-loop
-loop-less c = omega arith
-
 loop-again : tie.Need-loop-again Inv-loop μ-loop
 loop-again c =
     let turn = c .before .before in
@@ -56,4 +35,5 @@ returns c =
 
 pub costs-of-spec : {M : Type 1} → statement M
 costs-of-spec = tie.close (tie.spec
-    Inv-loop μ-loop loop-holds mul-low-bits element-copy-out-low-bits low-bits-requires mul-costs array-write-costs add-i loop-less loop-again returns)
+    Inv-loop μ-loop loop-holds (λ c. omega arith) (λ c. omega arith) (λ c κs. search needs) (λ c. omega arith) (λ c. omega arith) (λ c. omega arith)
+    (λ c. omega arith) loop-again returns)

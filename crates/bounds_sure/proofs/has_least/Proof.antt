@@ -68,18 +68,6 @@ module _ (m : tie.In-loop Inv-loop μ-loop) where
 loop-holds : tie.Need-loop-holds Inv-loop μ-loop
 loop-holds c = (search needs, refl)
 
-mul-one : tie.Need-mul-one Inv-loop μ-loop
-mul-one c = omega (arith, within c)
-
-array-read-one : tie.Need-array-read-one Inv-loop μ-loop
-array-read-one c = within c
-
-mul-if1 : tie.Need-mul-if1 Inv-loop μ-loop
-mul-if1 c = omega (arith, inside c)
-
-element-copy-out-if1 : tie.Need-element-copy-out-if1 Inv-loop μ-loop
-element-copy-out-if1 c = inside c
-
 is-below-others-requires : tie.Need-is-below-others-requires Inv-loop μ-loop
 is-below-others-requires c κs = let m = c .before .before in (start m .pre, inside m)
 
@@ -88,12 +76,6 @@ returns c =
     let asked = c .before in
     let m = asked .before .before .before in
     sym (left m ∙ rw (lt-ltb _ 65535 (asked .before .if1 .taken), sym (asked .is-below-others .ensures) ∙ c .if2 .taken))
-
-add-i : tie.Need-add-i Inv-loop μ-loop
-add-i c = omega (arith, within (c .before .before))
-
-loop-less : tie.Need-loop-less Inv-loop μ-loop
-loop-less c = omega (arith, c .before .before .loop-test .taken)
 
 loop-again : tie.Need-loop-again Inv-loop μ-loop
 loop-again c =
@@ -114,5 +96,6 @@ returns-2 c =
 
 pub has-least-spec : {M : Type 1} → statement M
 has-least-spec = tie.close (tie.spec
-    Inv-loop μ-loop loop-holds mul-one array-read-one mul-if1 element-copy-out-if1 is-below-others-requires returns add-i loop-less loop-again
-    returns-2)
+    Inv-loop μ-loop loop-holds (λ c. omega (arith, within c)) (λ c. within c) (λ c. omega (arith, inside c)) (λ c. inside c)
+    is-below-others-requires returns (λ c. omega (arith, within (c .before .before))) (λ c. omega (arith, c .before .before .loop-test .taken))
+    loop-again returns-2)

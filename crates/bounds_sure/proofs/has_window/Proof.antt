@@ -54,31 +54,10 @@ module _ (m : tie.In-loop Inv-loop μ-loop) where
 loop-holds : tie.Need-loop-holds Inv-loop μ-loop
 loop-holds c = (search needs, refl)
 
-mul-is-portal : tie.Need-mul-is-portal Inv-loop μ-loop
-mul-is-portal c = omega (arith, within c)
-
-array-read-is-portal : tie.Need-array-read-is-portal Inv-loop μ-loop
-array-read-is-portal c = within c
-
-mul-is-portal-2 : tie.Need-mul-is-portal-2 Inv-loop μ-loop
-mul-is-portal-2 c = omega (arith, inside c)
-
-element-copy-out-is-portal : tie.Need-element-copy-out-is-portal Inv-loop μ-loop
-element-copy-out-is-portal c = inside c
-
-is-portal-requires : tie.Need-is-portal-requires Inv-loop μ-loop
-is-portal-requires c κs = search needs
-
 returns : tie.Need-returns Inv-loop μ-loop
 returns c =
     let m = c .before .before .before in
     sym (left m ∙ rw (sym (c .before .is-portal .ensures) ∙ c .if1 .taken))
-
-add-i : tie.Need-add-i Inv-loop μ-loop
-add-i c = omega (arith, within (c .before .before .before))
-
-loop-less : tie.Need-loop-less Inv-loop μ-loop
-loop-less c = search needs
 
 loop-again : tie.Need-loop-again Inv-loop μ-loop
 loop-again c =
@@ -94,5 +73,5 @@ returns-2 c =
 
 pub has-window-spec : {M : Type 1} → statement M
 has-window-spec = tie.close (tie.spec
-    Inv-loop μ-loop loop-holds mul-is-portal array-read-is-portal mul-is-portal-2 element-copy-out-is-portal is-portal-requires returns add-i
-    loop-less loop-again returns-2)
+    Inv-loop μ-loop loop-holds (λ c. omega (arith, within c)) (λ c. within c) (λ c. omega (arith, inside c)) (λ c. inside c) (λ c κs. search needs)
+    returns (λ c. omega (arith, within (c .before .before .before))) (λ c. search needs) loop-again returns-2)

@@ -69,15 +69,6 @@ element-copy-out-most c = c .before .pre .1
 loop-holds : tie.Need-loop-holds Inv-loop μ-loop
 loop-holds c = (search needs, refl)
 
-mul-other : tie.Need-mul-other Inv-loop μ-loop
-mul-other c = omega (arith, within c)
-
-array-read-other : tie.Need-array-read-other Inv-loop μ-loop
-array-read-other c = within c
-
-mul-if2 : tie.Need-mul-if2 Inv-loop μ-loop
-mul-if2 c = omega (arith, inside (c .before))
-
 element-copy-out-if2 : tie.Need-element-copy-out-if2 Inv-loop μ-loop
 element-copy-out-if2 c = inside (c .before)
 
@@ -85,12 +76,6 @@ returns : tie.Need-returns Inv-loop μ-loop
 returns c =
     let m = c .before .before .before in
     sym (left m ∙ rw (ne-eqb (other m) (start m .args .one) (c .before .before .if1 .taken), le-ltb _ _ (c .if2 .taken)))
-
-add-i : tie.Need-add-i Inv-loop μ-loop
-add-i c = omega (arith, within (c .before))
-
-loop-less : tie.Need-loop-less Inv-loop μ-loop
-loop-less c = omega (arith, c .before .loop-test .taken)
 
 loop-again : tie.Need-loop-again Inv-loop μ-loop
 loop-again c =
@@ -111,5 +96,6 @@ returns-2 c =
 
 pub is-below-others-spec : {M : Type 1} → statement M
 is-below-others-spec = tie.close (tie.spec
-    Inv-loop μ-loop mul-most element-copy-out-most loop-holds mul-other array-read-other mul-if2 element-copy-out-if2 returns add-i loop-less
-    loop-again returns-2)
+    Inv-loop μ-loop mul-most element-copy-out-most loop-holds (λ c. omega (arith, within c)) (λ c. within c)
+    (λ c. omega (arith, inside (c .before))) element-copy-out-if2 returns (λ c. omega (arith, within (c .before)))
+    (λ c. omega (arith, c .before .loop-test .taken)) loop-again returns-2)

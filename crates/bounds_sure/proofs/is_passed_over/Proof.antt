@@ -12,8 +12,10 @@ returns c = rw (sym (c .before .is-impassable .ensures) ∙ c .if1 .taken)
 
 returns-2 : tie.Need-returns-2
 returns-2 c =
-    let open-cell = c .before .before .before .before .before .before .before in
-    let s = open-cell .before .before .before .before .before in
+    let row-read = c .before .before .before .before in
+    let open-cell = row-read .before .before .before in
+    let word-read = open-cell .before .before in
+    let s = word-read .before .before .before in
     let a = s .args in
     let free = sym (open-cell .before .is-impassable .ensures) ∙ open-cell .if1 .left in
     rw free (c .passes-wall .ensures ∙ sym (passes-at (now (a .cells)) (a .from) (a .to) (s .pre .0) (s .pre .1)))

@@ -23,7 +23,7 @@ module _ (m : tie.After-permitted-from) where
   unflagged = m .before
 
   abbrev start : tie.Start
-  start = unflagged .before .before .before .before .before
+  start = let no-wall = unflagged .before .before in no-wall .before .before .before
 
   abbrev cells : List ℕ
   cells = now (start .args .cells)

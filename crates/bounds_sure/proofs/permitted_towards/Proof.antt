@@ -2,7 +2,7 @@
 -- Assumes nothing.
 use mathlib.Core.Path.{_≡_, sym, ap, _∙_}
 use mathlib.Core.List.{List, [], _∷_, _++_, append-nil}
-use Prim.Native.Nat.{ℕ, suc, _+_}
+use Prim.Native.Nat.{ℕ, suc, _+_, _<_}
 use native.Mathlib.Numerals.{add-one}
 use native.Mathlib.Omega.{arith}
 use borrow.Author.Needs.{needs}
@@ -51,7 +51,7 @@ module _ (m : tie.After-known-told) where
   to-in = stepped-cell _ _ _ arrives .within
 
   from-in : Inside from
-  from-in = rw (made m .from-index .ensures) (cell-inside (start .args .index) (start .pre .0))
+  from-in = rw (made m .from-index .ensures) (cell-inside (start .args .index) (start .pre .cell-in))
 
 -- the answer of the test is of the index
 tested : (m : tie.After-is-passed-over) → let s = start (m .before) in
@@ -71,7 +71,7 @@ returns c =
     let outside : stepped (cellAt (s .args .index)) (s .args .dir) ≡ Outside
     = step-told _ _ (step .before .from-index .ensures) (step .get-in-compass-direction .ensures .0) (c .enum-told .given .1) in
     let a = s .args in
-    stays (now (a .cells)) (a .index) (a .dir) (a .found) (along-outside (now (a .cells)) (a .index) (a .dir) outside) (s .pre .1 .0)
+    stays (now (a .cells)) (a .index) (a .dir) (a .found) (along-outside (now (a .cells)) (a .index) (a .dir) outside) (s .pre .held)
 
 is-passed-over-requires : tie.Need-is-passed-over-requires
 is-passed-over-requires c κs = (from-in c, to-in c)
@@ -82,7 +82,7 @@ returns-2 c =
     let s = start m in
     let a = s .args in
     let none = along-passed (now (a .cells)) (a .index) (a .dir) (to m) (arrives m) (tested (c .before) ∙ c .if1 .taken) in
-    stays (now (a .cells)) (a .index) (a .dir) (a .found) none (s .pre .1 .0)
+    stays (now (a .cells)) (a .index) (a .dir) (a .found) none (s .pre .held)
 
 returns-3 : tie.Need-returns-3
 returns-3 c =
@@ -90,14 +90,15 @@ returns-3 c =
     let m = open-cell .before .before in
     let s = start m in
     let found = s .args .found in
-    let held = s .pre .1 .0 in
+    let held = s .pre .held in
+    let space : found .count < 8 = omega (arith, s .pre .room) in
     let index = index-told (to-in m) (c .as-1d-index .ensures) in
     let one = along-found (now (s .args .cells)) (s .args .index) (s .args .dir) (to m) (arrives m) (tested (open-cell .before) ∙ open-cell .if1 .left) in
     let more : take (suc (found .count)) (set (found .cells) (found .count) (c .as-1d-index .result)) ≡ heldPermitted found ++ (c .as-1d-index .result ∷ [])
-    = take-suc-set (found .cells) (found .count) (c .as-1d-index .result) (omega (arith, held .full, s .pre .1 .1)) in
+    = take-suc-set (found .cells) (found .count) (c .as-1d-index .result) (omega (arith, held .full)) in
     record {
       listed = rw (one, add-one (found .count), more, index .0);
-      held = indexes-more 8 (found .cells) (found .count) (c .as-1d-index .result) held (s .pre .1 .1) (index .1);
+      held = indexes-more 8 (found .cells) (found .count) (c .as-1d-index .result) held space (index .1);
       few = omega arith;
     }
 

@@ -15,25 +15,14 @@ use Rattle.bounds_sure.proofs.sure_cells.Tie as tie
 -- whichever window has the cells that are flagged as portals
 abbrev Inv-loop : tie.InvT-loop
 Inv-loop cells least greatest sure₀ i₀ sure i =
-    (i ≤ 100) × ((window : List ℕ) → ((n : ℕ) → n < 100 → isPortal (getD cells n 0) ≡ isIn n window) → FilledTo 100 (isSure cells window least greatest) i sure)
+    (i ≤ 100)
+    × ((window : List ℕ) → ((n : ℕ) → n < 100 → isPortal (getD cells n 0) ≡ isIn n window) → FilledTo 100 (isSure cells window least greatest) i sure)
 
 abbrev μ-loop : tie.MeasureT-loop
 μ-loop cells least greatest sure₀ i₀ sure i = 100 - i
 
 loop-holds : tie.Need-loop-holds Inv-loop μ-loop
 loop-holds c = (omega arith, λ window portals. record { full = refl; first = refl })
-
-is-sure-requires : tie.Need-is-sure-requires Inv-loop μ-loop
-is-sure-requires c κs = omega arith
-
-array-write-sure : tie.Need-array-write-sure Inv-loop μ-loop
-array-write-sure c = omega arith
-
-add-i : tie.Need-add-i Inv-loop μ-loop
-add-i c = omega arith
-
-loop-less : tie.Need-loop-less Inv-loop μ-loop
-loop-less c = omega arith
 
 loop-again : tie.Need-loop-again Inv-loop μ-loop
 loop-again c =
@@ -47,4 +36,5 @@ returns c window portals =
     filled-all 100 _ (l .sure) (rw e at (l .inv .1 window portals))
 
 pub sure-cells-spec : {M : Type 1} → statement M
-sure-cells-spec = tie.close (tie.spec Inv-loop μ-loop loop-holds is-sure-requires array-write-sure add-i loop-less loop-again returns)
+sure-cells-spec = tie.close (tie.spec
+    Inv-loop μ-loop loop-holds (λ c κs. omega arith) (λ c. omega arith) (λ c. omega arith) (λ c. omega arith) loop-again returns)
