@@ -2,6 +2,8 @@
 -- The difference grows by less than 20 at each of at most ten steps, so that no sum wraps.
 -- Assumes nothing.
 use mathlib.Core.Path.{_≡_, sym, ap, _∙_}
+use mathlib.Core.Bool.{Bool}
+use mathlib.Core.List.{List}
 use mathlib.Core.Logic.{inl, inr}
 use Prim.Native.Nat.{ℕ, _+_, _-_, _*_, _≤_}
 use native.Mathlib.Omega.{arith}
@@ -17,10 +19,16 @@ use Rattle.bresenham.proofs.Drawn.{walk-drawn}
 use Rattle.bresenham.proofs.walk.Statement.{statement}
 use Rattle.bresenham.proofs.walk.Tie as tie
 
+-- before step k: the cells of the steps before it are written, and offset and difference are its own
+record Walking (index : ℕ → ℕ) (back : Bool) (span rise : ℕ) (drawn : List ℕ) (difference offset k : ℕ) : Type 0 where
+  at : k ≤ span + 1
+  small : difference ≤ 30 + 20 * k
+  put : drawn ≡ written back span k index
+  state : State rise span k offset difference
+
 abbrev Inv-loop : tie.InvT-loop
 Inv-loop steep back major-0 minor-0 major-1 minor-1 drawn₀ span rise difference₀ offset₀ k₀ drawn difference offset k =
-    (k ≤ span + 1) × (difference ≤ 30 + 20 * k) × (drawn ≡ written back span k (λ j. indexOf (walkAt steep major-0 minor-0 major-1 minor-1 j)))
-    × State rise span k offset difference
+    Walking (λ j. indexOf (walkAt steep major-0 minor-0 major-1 minor-1 j)) back span rise drawn difference offset k
 
 abbrev μ-loop : tie.MeasureT-loop
 μ-loop steep back major-0 minor-0 major-1 minor-1 drawn₀ span rise difference₀ offset₀ k₀ drawn difference offset k =
@@ -47,10 +55,10 @@ step l = let a = begun l .args in walkAt (a .steep) (a .major-0) (a .minor-0) (a
 
 -- the offset is the definition's, and stays within the rise
 near : (r : Round) → r .before .loop .offset ≡ offsetAt (rise (r .before)) (span (r .before)) (r .before .loop .k)
-near r = at-step (rise (r .before)) (span (r .before)) (r .before .loop .inv .3) (omega arith)
+near r = at-step (rise (r .before)) (span (r .before)) (r .before .loop .inv .state) (omega arith)
 
 low : (r : Round) → r .before .loop .offset ≤ rise (r .before)
-low r = within (rise (r .before)) (span (r .before)) (r .before .loop .inv .3) (omega arith)
+low r = within (rise (r .before)) (span (r .before)) (r .before .loop .inv .state) (omega arith)
 
 loop-holds : tie.Need-loop-holds Inv-loop μ-loop
 loop-holds c =
@@ -58,7 +66,12 @@ loop-holds c =
     let a = s .args in
     let m = a .major-1 - a .major-0 in
     let f : ℕ → ℕ = λ j. indexOf (walkAt (a .steep) (a .major-0) (a .minor-0) (a .major-1) (a .minor-1) j) in
-    (omega arith, omega arith, s .pre .1 ∙ sym (none-written m f (omega arith) (a .back)), start (c .distance .result) m)
+    record {
+      at = omega arith;
+      small = omega arith;
+      put = s .pre .1 ∙ sym (none-written m f (omega arith) (a .back));
+      state = start (c .distance .result) m;
+    }
 
 moved-requires : tie.Need-moved-requires Inv-loop μ-loop
 moved-requires c κs = (omega arith, omega arith, rw (← c .before .before .distance .ensures) (low c))
@@ -80,19 +93,29 @@ module _ (c : tie.After-index-on-axes Inv-loop μ-loop) where
       let minor = c .before .before .moved .ensures .0 ∙ ap (toward (a .minor-0) (a .minor-1)) aside in
       c .index-on-axes .ensures ∙ ap (λ (b : ℕ). indexOf (cellOnAxes (a .steep) (a .major-0 + k) b)) minor
 
-  put : set (at .loop .drawn) (c .before .list-place .result) (c .index-on-axes .result)
+  put-one : set (at .loop .drawn) (c .before .list-place .result) (c .index-on-axes .result)
       ≡ written (begun at .args .back) (span at) (at .loop .k + 1) (λ j. indexOf (step at j))
-  put =
-      one-more (span at) (λ j. indexOf (step at j)) (omega arith) (begun at .args .back) (at .loop .k) (at .loop .drawn) (at .loop .inv .2)
+  put-one =
+      one-more (span at) (λ j. indexOf (step at j)) (omega arith) (begun at .args .back) (at .loop .k) (at .loop .drawn) (at .loop .inv .put)
       (c .before .list-place .result) (c .index-on-axes .result) (omega arith) (c .before .list-place .ensures .0) index
 
 loop-again : tie.Need-loop-again Inv-loop μ-loop
 loop-again c =
     let l = at (c .before) in
-    let s = l .loop .inv .3 in
+    let s = l .loop .inv .state in
     elim (c .if1 .came) [
-      | inl w ↦ (omega arith, omega (arith, w .1), put (c .before), rw (w .1, w .2) (up (rise l) (span l) s (w .0 .taken)))
-      | inr w ↦ (omega arith, omega (arith, w .1), put (c .before), rw (w .1, w .2) (level (rise l) (span l) s (w .0 .left)))
+      | inl w ↦ record {
+        at = omega arith;
+        small = omega (arith, w .1);
+        put = put-one (c .before);
+        state = rw (w .1, w .2) (up (rise l) (span l) s (w .0 .taken));
+      }
+      | inr w ↦ record {
+        at = omega arith;
+        small = omega (arith, w .1);
+        put = put-one (c .before);
+        state = rw (w .1, w .2) (level (rise l) (span l) s (w .0 .left));
+      }
     ]
 
 returns : tie.Need-returns Inv-loop μ-loop
@@ -100,7 +123,7 @@ returns c =
     let l = c .before in
     let a = begun l .args in
     rw (cells-many (a .major-0) (a .major-1) (omega arith))
-    (walk-drawn (span l) (step l) (omega arith) (a .back) (l .loop .k) (l .loop .drawn) (l .loop .inv .2) (omega arith))
+    (walk-drawn (span l) (step l) (omega arith) (a .back) (l .loop .k) (l .loop .drawn) (l .loop .inv .put) (omega arith))
 
 pub walk-spec : {M : Type 1} → statement M
 walk-spec = tie.close (tie.spec
