@@ -144,4 +144,5 @@ module _ {cornerLine : ℕ → List ℕ} {wave : ℕ} {walls : ℕ → Bool} {Fr
   pub kept-wave : (ns : List ℕ) (s : Sight) → Each From ns → P s → P (waveSpread cornerLine wave ns s)
   unfolding waveSpread
   kept-wave [] s f p = p
-  kept-wave (n ∷ ns) s f p = kept-wave ns (spreadAround cornerLine wave n orthogonal s) (λ i h. f (suc i) (omega arith)) (kept-around n (f 0 (omega arith)) s p)
+  kept-wave (n ∷ ns) s f p =
+      kept-wave ns (spreadAround cornerLine wave n orthogonal s) (λ i h. f (suc i) (omega arith)) (kept-around n (f 0 (omega arith)) s p)

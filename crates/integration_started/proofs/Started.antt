@@ -80,7 +80,8 @@ module _ (costs : List ℕ) (hundred : length costs ≡ 100) where
           withCorners (sightFrom costs goal .cells) (sightFrom costs goal .corners) ≡ withCorners (s .cells) (s .corners)
       over g n e m = rw (← e) (ap (λ (s : Sight). withCorners (s .cells) (s .corners)) (sym (any-number goal h n m)))
   started-field (to-window window) w =
-      made (to-window window) _ window (omega (arith, w .few)) (window-started costs hundred window (w .inside) (w .once)) (λ g n e m. absurd (no-sight refl e))
+      made (to-window window) _ window (omega (arith, w .few)) (window-started costs hundred window (w .inside) (w .once))
+      (λ g n e m. absurd (no-sight refl e))
   started-field (to-corner goal) h =
       made (to-corner goal) _ (goal ∷ []) (omega arith) (corner-started goal h costs hundred) (λ g n e m. absurd (no-sight refl e))
 

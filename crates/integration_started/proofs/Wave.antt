@@ -78,7 +78,8 @@ module _ (goal : ℕ) (walls : ℕ → Bool) where
   pub sound-listed : (s : Sight) → Sound s → (value n : ℕ) → n < 100 → (n ≡ goal → ⊥) → value ≤ 110 → wallAt (s .cells) n ≡ false
       → isBlocked (getD (s .cells) n 0) ≡ false → Sound (listed value n s)
   sound-listed s p value n h not-goal v w b =
-      sound-written s p n (cornerWord value) (s .corners ++ n ∷ []) (s .queue) h not-goal w (corner-flags value (omega arith) .impassable-is) (corner value v refl)
+      sound-written s p n (cornerWord value) (s .corners ++ n ∷ []) (s .queue) h not-goal w
+      (corner-flags value (omega arith) .impassable-is) (corner value v refl)
       (room-listed s (p .room) value n h (omega arith) b)
       (λ i k. at-set (λ x. isBlocked x ≡ true → Among i (s .corners ++ n ∷ [])) (s .cells) n (cornerWord value) i (omega (arith, p .room .full))
       (λ q e. subst (λ m. Among m (s .corners ++ n ∷ [])) (sym q) (among-last n (s .corners)))

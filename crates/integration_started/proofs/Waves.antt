@@ -174,8 +174,8 @@ module _ (goal : ℕ) (goal-in : goal < 100) (costs : List ℕ) (hundred : lengt
             let some : 0 < length (s .queue) = omega (arith, ap length e) in
             let least : k + 2 ≤ met goal wallsOf s = l .met-queued some in
             let few : suc k ≤ 100 = omega (arith, count-length isMet (s .cells), l .sound .room .full) in
-            let p = kept-wave (wave-keeps goal wallsOf cornerLine lines (suc k) (k + 2) (omega arith) few (omega arith) NotHiding NotHiding Blocked Never away next)
-            (n ∷ ns) (begun s) (subst (Each NotHiding) e (l .none-hiding))
+            let keeps = wave-keeps goal wallsOf cornerLine lines (suc k) (k + 2) (omega arith) few (omega arith) NotHiding NotHiding Blocked Never away next in
+            let p = kept-wave keeps (n ∷ ns) (begun s) (subst (Each NotHiding) e (l .none-hiding))
             (record {
               sound = sound-begins goal wallsOf s (l .sound);
               met-least = least;

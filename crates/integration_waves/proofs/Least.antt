@@ -61,7 +61,8 @@ module _ (g : Grid) (Open : ℕ → Type 0) (value : ℕ → ℕ → ℕ) (w : W
       was h (inl c) = inl c
       was h (inr l) = inr (omega (arith, w .falls k y))
 
-      after : value k y ≤ value (suc k) y → Changed g Open value k y ⊎ (value k x ≤ offer g Open value k y x) → value (suc k) x ≤ offer g Open value (suc k) y x
+      after : value k y ≤ value (suc k) y → Changed g Open value k y ⊎ (value k x ≤ offer g Open value k y x)
+          → value (suc k) x ≤ offer g Open value (suc k) y x
       after h (inl c) = omega (arith, w .relaxes k y x c b o)
       after h (inr l) = omega (arith, w .falls k x)
 

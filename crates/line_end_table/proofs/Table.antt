@@ -92,4 +92,5 @@ read-more goal found i x room here before =
     go corner h false e =
         let least : i ≤ corner = nltb→le corner i (subst (λ (b : Bool). T (not b)) (sym e) tt) in
         let same : i ≡ corner = omega arith in
-        subst (λ (c : ℕ). getD (set found i x) c 0 ≡ indexOf (lineEnd (cellAt c) (cellAt goal))) same (getD-set-same found i x 0 (rw (before .full) room) ∙ here)
+        subst (λ (c : ℕ). getD (set found i x) c 0 ≡ indexOf (lineEnd (cellAt c) (cellAt goal))) same
+        (getD-set-same found i x 0 (rw (before .full) room) ∙ here)

@@ -89,7 +89,8 @@ turned : (a b x : ℕ) → Between a b x → Between b a x
 turned a b x h = record { from = let p = h .from in omega arith; to = let p = h .to in omega arith }
 
 spanned : (s t : FieldCell) (l : List FieldCell) → NearestLine s t l → (k : ℕ) → k < length l → Spanned s t (getD l k (cell 0 0))
-spanned s t l w k i = go (ltb (distance (s .row) (t .row)) (distance (s .column) (t .column))) (leb (s .column) (t .column)) (leb (s .row) (t .row)) refl refl refl
+spanned s t l w k i =
+    go (ltb (distance (s .row) (t .row)) (distance (s .column) (t .column))) (leb (s .column) (t .column)) (leb (s .row) (t .row)) refl refl refl
   where
     go : (x y z : Bool) → ltb (distance (s .row) (t .row)) (distance (s .column) (t .column)) ≡ x → leb (s .column) (t .column) ≡ y → leb (s .row) (t .row) ≡ z
         → Spanned s t (getD l k (cell 0 0))

@@ -45,7 +45,8 @@ cast-result c =
 cast-result-2 : tie.Need-cast-result-2
 cast-result-2 c =
     let m = known c in
-    cast-back _ (column-made m .read ∙ sym (ten-more (m .before .args .index % 10) (δ m .column) (small-step m .columns))) (omega (arith, small-step m .columns .one))
+    cast-back _ (column-made m .read ∙ sym (ten-more (m .before .args .index % 10) (δ m .column) (small-step m .columns)))
+    (omega (arith, small-step m .columns .one))
 
 returns : tie.Need-returns
 returns c = let m = known c in rw (row-made m .read, column-made m .read, ← m .differences .ensures)
