@@ -30,9 +30,6 @@ Inv-loop drawn count line₀ i₀ line i = (i ≤ count) × (line ≡ uncounted 
 abbrev μ-loop : tie.MeasureT-loop
 μ-loop drawn count line₀ i₀ line i = count - i
 
-loop-holds : tie.Need-loop-holds Inv-loop μ-loop
-loop-holds c = (omega arith, c .empty .ensures)
-
 -- one cell more
 put : (drawn : List ℕ) (i : ℕ) (line : Line) → line ≡ uncounted (first drawn i) → i < length drawn → i < 10 → (x : FieldCell) → x ≡ cellAt (getD drawn i 0)
     → _≡_ {A = Line} (record { number = line .number; cells = set (line .cells) i x; count = line .count }) (uncounted (first drawn (i + 1)))
@@ -67,5 +64,5 @@ returns c =
 
 pub answered-line-spec : {M : Type 1} → statement M
 answered-line-spec = tie.close (tie.spec
-    Inv-loop μ-loop (λ c κs. search needs) loop-holds (λ c. search needs) (λ c. search needs) (λ c κs. search needs) (λ c. search needs)
-    (λ c. search needs) (λ c. search needs) (λ c. search needs) loop-again returns)
+    Inv-loop μ-loop (λ c κs. search needs) (λ c. (omega arith, c .empty .ensures)) (λ c. search needs) (λ c. search needs) (λ c κs. search needs)
+    (λ c. search needs) (λ c. search needs) (λ c. search needs) (λ c. search needs) loop-again returns)

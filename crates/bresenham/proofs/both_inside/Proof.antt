@@ -8,8 +8,6 @@ use Rattle.bresenham.proofs.both_inside.Tie as tie
 returns : tie.Need-returns
 returns c = rw (sym (c .before .before .is-inside .ensures) ∙ c .before .if1 .taken) (c .is-inside2 .ensures)
 
-returns-2 : tie.Need-returns-2
-returns-2 c = rw (sym (c .before .is-inside .ensures) ∙ c .if1 .left)
-
 pub both-inside-spec : {M : Type 1} → statement M
-both-inside-spec = tie.close (tie.spec (λ c κs. search needs) (λ c κs. search needs) returns returns-2)
+both-inside-spec = tie.close (tie.spec
+    (λ c κs. search needs) (λ c κs. search needs) returns (λ c. rw (sym (c .before .is-inside .ensures) ∙ c .if1 .left)))

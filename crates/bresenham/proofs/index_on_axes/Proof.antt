@@ -4,11 +4,6 @@ use borrow.Author.Needs.{needs}
 use Rattle.bresenham.proofs.index_on_axes.Statement.{statement}
 use Rattle.bresenham.proofs.index_on_axes.Tie as tie
 
-returns : tie.Need-returns
-returns c = rw (c .if1 .taken)
-
-returns-2 : tie.Need-returns-2
-returns-2 c = rw (c .if1 .left)
-
 pub index-on-axes-spec : {M : Type 1} → statement M
-index-on-axes-spec = tie.close (tie.spec (λ c. search needs) (λ c. search needs) returns (λ c. search needs) (λ c. search needs) returns-2)
+index-on-axes-spec = tie.close (tie.spec
+    (λ c. search needs) (λ c. search needs) (λ c. rw (c .if1 .taken)) (λ c. search needs) (λ c. search needs) (λ c. rw (c .if1 .left)))

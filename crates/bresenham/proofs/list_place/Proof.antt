@@ -5,8 +5,5 @@ use borrow.Author.Needs.{needs}
 use Rattle.bresenham.proofs.list_place.Statement.{statement}
 use Rattle.bresenham.proofs.list_place.Tie as tie
 
-returns : tie.Need-returns
-returns c = (rw (c .if1 .taken), omega arith)
-
 pub list-place-spec : {M : Type 1} → statement M
-list-place-spec = tie.close (tie.spec (λ c. search needs) returns (λ c. search needs))
+list-place-spec = tie.close (tie.spec (λ c. search needs) (λ c. (rw (c .if1 .taken), omega arith)) (λ c. search needs))

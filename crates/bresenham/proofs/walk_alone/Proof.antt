@@ -63,9 +63,6 @@ within-ten c =
     let q = on-axes-in (a .steep) (a .major-1) (a .minor-1) (i .1) in
     (c .if2 .left, q .0, p .1, q .1)
 
-walk-requires : tie.Need-walk-requires
-walk-requires c κs = (within-ten (c .before), refl)
-
 -- where the walk is drawn
 abbrev Drew : Type 0
 Drew = tie.After-walk
@@ -97,5 +94,5 @@ returns-3 c =
 
 pub walk-alone-spec : {M : Type 1} → statement M
 walk-alone-spec = tie.close (tie.spec
-    (λ c κs. search needs) (λ c κs. search needs) (λ c κs. search needs) (λ c κs. search needs) returns (λ c κs. search needs) returns-2 walk-requires
-    answered-line-requires returns-3)
+    (λ c κs. search needs) (λ c κs. search needs) (λ c κs. search needs) (λ c κs. search needs) returns (λ c κs. search needs) returns-2
+    (λ c κs. (within-ten (c .before), refl)) answered-line-requires returns-3)

@@ -5,11 +5,5 @@ use borrow.Author.Needs.{needs}
 use Rattle.line_end.proofs.after.Statement.{statement}
 use Rattle.line_end.proofs.after.Tie as tie
 
-returns : tie.Need-returns
-returns c = (rw (c .if1 .taken), omega arith)
-
-returns-2 : tie.Need-returns-2
-returns-2 c = (rw (c .if1 .left), omega arith)
-
 pub after-spec : {M : Type 1} → statement M
-after-spec = tie.close (tie.spec (λ c. search needs) returns returns-2)
+after-spec = tie.close (tie.spec (λ c. search needs) (λ c. (rw (c .if1 .taken), omega arith)) (λ c. (rw (c .if1 .left), omega arith)))

@@ -43,12 +43,6 @@ abbrev μ-loop : tie.MeasureT-loop
 loop-holds : tie.Need-loop-holds Inv-loop μ-loop
 loop-holds c = let e : c .args .columns - 0 ≡ c .args .columns = omega arith in (omega arith, rw e)
 
-add-k : tie.Need-add-k Inv-loop μ-loop
-add-k c = omega arith
-
-nearest-row-requires : tie.Need-nearest-row-requires Inv-loop μ-loop
-nearest-row-requires c κs = omega arith
-
 returns : tie.Need-returns Inv-loop μ-loop
 returns c =
     let head = c .before .before .before in
@@ -56,12 +50,6 @@ returns c =
     let j = head .loop .j in
     let t : leaves (a .rise) (a .span) (a .behind) (a .span + j) ≡ true = lt-ltb _ _ (rw (c .before .nearest-row .ensures) at (c .if1 .taken)) in
     (sym (head .loop .inv .1 ∙ rw t (stops (ends (a .rise) (a .span) (a .behind)) (a .columns - j) j)), omega arith)
-
-add-j : tie.Need-add-j Inv-loop μ-loop
-add-j c = omega arith
-
-loop-less : tie.Need-loop-less Inv-loop μ-loop
-loop-less c = omega arith
 
 loop-again : tie.Need-loop-again Inv-loop μ-loop
 loop-again c =
@@ -79,4 +67,5 @@ returns-2 c =
     (sym (head .loop .inv .1 ∙ none-left (ends (a .rise) (a .span) (a .behind)) (a .columns - j) j _ (omega arith)), omega arith)
 
 pub first-leaving-spec : {M : Type 1} → statement M
-first-leaving-spec = tie.close (tie.spec Inv-loop μ-loop loop-holds add-k nearest-row-requires returns add-j loop-less loop-again returns-2)
+first-leaving-spec = tie.close (tie.spec
+    Inv-loop μ-loop loop-holds (λ c. omega arith) (λ c κs. omega arith) returns (λ c. omega arith) (λ c. omega arith) loop-again returns-2)

@@ -18,18 +18,11 @@ small k rise p q =
 product : (c : tie.Start) → c .args .k * c .args .rise ≤ 180
 product c = small (c .args .k) (c .args .rise) (omega arith) (omega arith)
 
-mul-result : tie.Need-mul-result
-mul-result c = omega (arith, product c)
-
-mul-result-2 : tie.Need-mul-result-2
-mul-result-2 c = omega (arith, product c)
-
-add-result : tie.Need-add-result
-add-result c = omega (arith, product c)
-
 returns : tie.Need-returns
 unfolding nearest
 returns c = refl
 
 pub nearest-row-spec : {M : Type 1} → statement M
-nearest-row-spec = tie.close (tie.spec mul-result mul-result-2 add-result (λ c. search needs) (λ c. search needs) (λ c. search needs) returns)
+nearest-row-spec = tie.close (tie.spec
+    (λ c. omega (arith, product c)) (λ c. omega (arith, product c)) (λ c. omega (arith, product c)) (λ c. search needs) (λ c. search needs)
+    (λ c. search needs) returns)

@@ -5,17 +5,6 @@ use Rattle.route.proofs.Rows.{tests}
 use Rattle.step_list.proofs.is_no_step_list.Statement.{statement}
 use Rattle.step_list.proofs.is_no_step_list.Tie as tie
 
-returns : tie.Need-returns
-unfolding noStepList
-returns c = search tests
-
-returns-2 : tie.Need-returns-2
-unfolding noStepList
-returns-2 c = search tests
-
-returns-3 : tie.Need-returns-3
-unfolding noStepList
-returns-3 c = search tests
-
 pub is-no-step-list-spec : {M : Type 1} → statement M
-is-no-step-list-spec = tie.close (tie.spec returns returns-2 returns-3)
+unfolding noStepList
+is-no-step-list-spec = tie.close (tie.spec (λ c. search tests) (λ c. search tests) (λ c. search tests))

@@ -13,22 +13,6 @@ use Rattle.step_numbers.proofs.each_step.Tie as tie
 abbrev start : tie.Else4 → tie.Start
 start c = c .before .before .before .before
 
-returns : tie.Need-returns
-unfolding eachStep
-returns c = search tests
-
-returns-2 : tie.Need-returns-2
-unfolding eachStep
-returns-2 c = search tests
-
-returns-3 : tie.Need-returns-3
-unfolding eachStep
-returns-3 c = search tests
-
-returns-4 : tie.Need-returns-4
-unfolding eachStep
-returns-4 c = search tests
-
 returns-5 : tie.Need-returns-5
 unfolding eachStep
 returns-5 c =
@@ -49,4 +33,6 @@ returns-7 c =
     search tests
 
 pub each-step-spec : {M : Type 1} → statement M
-each-step-spec = tie.close (tie.spec returns returns-2 returns-3 returns-4 (λ c κs. search needs) returns-5 returns-6 returns-7)
+unfolding eachStep
+each-step-spec = tie.close (tie.spec
+    (λ c. search tests) (λ c. search tests) (λ c. search tests) (λ c. search tests) (λ c κs. search needs) returns-5 returns-6 returns-7)

@@ -23,9 +23,6 @@ Inv-loop costs cells count i₀ i = (i ≤ count) × (someWallCost costs (take c
 abbrev μ-loop : tie.MeasureT-loop
 μ-loop costs cells count i₀ i = count - i
 
-loop-holds : tie.Need-loop-holds Inv-loop μ-loop
-loop-holds c = (search needs, refl)
-
 -- from inside the loop: the call, and the place; and the cell there, before what is left behind it
 abbrev start : tie.In-loop Inv-loop μ-loop → tie.Start Inv-loop μ-loop
 start c = c .before .before .before .before
@@ -39,15 +36,6 @@ here costs w held i h =
     ap (someWallCost costs) (slice-cons i (w .count) (w .cells) 0 h (omega (arith, held .full, held .count-in)))
     ∙ ap (λ (k : ℕ). isWallCost costs (getD (w .cells) i 0) || someWallCost costs (slice k (w .count) (w .cells))) (sym (add-one i))
 
-mul-byte-at : tie.Need-mul-byte-at Inv-loop μ-loop
-mul-byte-at c = omega (arith, place c)
-
-array-read-byte-at : tie.Need-array-read-byte-at Inv-loop μ-loop
-array-read-byte-at c = place c
-
-byte-at-requires : tie.Need-byte-at-requires Inv-loop μ-loop
-byte-at-requires c κs = search needs
-
 returns : tie.Need-returns Inv-loop μ-loop
 returns c =
     let read = c .before in
@@ -56,12 +44,6 @@ returns c =
     let l = at .before .loop in
     let wall = eq-eqb _ 255 (sym (read .byte-at .ensures) ∙ c .if1 .taken) in
     sym (l .inv .1 ∙ here (now (s .args .costs)) (s .args .window) (s .pre) (l .i) (at .loop-test .taken) ∙ rw wall)
-
-add-i : tie.Need-add-i Inv-loop μ-loop
-add-i c = omega (arith, place (c .before .before))
-
-loop-less : tie.Need-loop-less Inv-loop μ-loop
-loop-less c = search needs
 
 loop-again : tie.Need-loop-again Inv-loop μ-loop
 loop-again c =
@@ -82,4 +64,5 @@ returns-2 c =
 
 pub has-wall-cell-spec : {M : Type 1} → statement M
 has-wall-cell-spec = tie.close (tie.spec
-    Inv-loop μ-loop loop-holds mul-byte-at array-read-byte-at byte-at-requires returns add-i loop-less loop-again returns-2)
+    Inv-loop μ-loop (λ c. (search needs, refl)) (λ c. omega (arith, place c)) (λ c. place c) (λ c κs. search needs) returns
+    (λ c. omega (arith, place (c .before .before))) (λ c. search needs) loop-again returns-2)

@@ -12,12 +12,6 @@ use Rattle.route.specs.Inner.{isWallTarget}
 use Rattle.step_numbers.proofs.is_wall_target.Statement.{statement}
 use Rattle.step_numbers.proofs.is_wall_target.Tie as tie
 
-has-wall-cell-requires : tie.Need-has-wall-cell-requires
-has-wall-cell-requires c κs = c .before .before .pre .window-held
-
-returns : tie.Need-returns
-returns c = rw (c .before .if1 .taken) (c .has-wall-cell .ensures)
-
 -- a goal, with the sight of it or without
 goal-wall : (costs : List ℕ) (n : ℕ) (sight : Bool) → isWallTarget costs (cond sight (to-goal n) (to-corner n)) ≡ isWallCost costs n
 goal-wall costs n true = refl
@@ -27,4 +21,5 @@ returns-2 : tie.Need-returns-2
 returns-2 c = rw (c .before .if1 .left, goal-wall) (ap (λ (n : ℕ). eqb n 255) (c .byte-at .ensures))
 
 pub is-wall-target-spec : {M : Type 1} → statement M
-is-wall-target-spec = tie.close (tie.spec has-wall-cell-requires returns (λ c κs. search needs) returns-2)
+is-wall-target-spec = tie.close (tie.spec
+    (λ c κs. c .before .before .pre .window-held) (λ c. rw (c .before .if1 .taken) (c .has-wall-cell .ensures)) (λ c κs. search needs) returns-2)

@@ -39,34 +39,11 @@ first-on c = first-edge (c .before) ∙ not-false _ (c .if4 .left)
 last-on : (c : tie.Else5) → let a = start (first (c .before)) .args in onEdge (sideOf (a .boundary)) (a .last) ≡ true
 last-on c = last-edge (c .before) ∙ not-false _ (c .if5 .left)
 
-returns : tie.Need-returns
-unfolding eachStep
-returns c = search tests
-
-returns-2 : tie.Need-returns-2
-unfolding eachStep
-returns-2 c = search tests
-
-returns-3 : tie.Need-returns-3
-unfolding eachStep
-returns-3 c = search tests
-
-returns-4 : tie.Need-returns-4
-unfolding eachStep
-returns-4 c = search (tests, first-edge (c .before) ∙ not-true _ (c .if4 .taken))
-
-returns-5 : tie.Need-returns-5
-unfolding eachStep
-returns-5 c = search (tests, first-on (c .before .before), last-edge (c .before) ∙ not-true _ (c .if5 .taken))
-
-returns-6 : tie.Need-returns-6
-unfolding eachStep
-returns-6 c = search (tests, first-on (c .before .before .before), last-on (c .before))
-
-returns-7 : tie.Need-returns-7
-unfolding eachStep
-returns-7 c = search (tests, first-on (c .before .before .before), last-on (c .before))
-
 pub window-number-spec : {M : Type 1} → statement M
+unfolding eachStep
 window-number-spec = tie.close (tie.spec
-    returns returns-2 returns-3 (λ c κs. search needs) (λ c κs. search needs) returns-4 (λ c κs. search needs) returns-5 returns-6 returns-7)
+    (λ c. search tests) (λ c. search tests) (λ c. search tests) (λ c κs. search needs) (λ c κs. search needs)
+    (λ c. search (tests, first-edge (c .before) ∙ not-true _ (c .if4 .taken))) (λ c κs. search needs)
+    (λ c. search (tests, first-on (c .before .before), last-edge (c .before) ∙ not-true _ (c .if5 .taken)))
+    (λ c. search (tests, first-on (c .before .before .before), last-on (c .before)))
+    (λ c. search (tests, first-on (c .before .before .before), last-on (c .before))))

@@ -34,11 +34,8 @@ module _ (c : tie.Then1) where
 cast-result : tie.Need-cast-result
 cast-result c = cast-back (rises (c .before .args .difference)) (read c) (omega (arith, few (c .before .args .difference) (c .before .fits .difference)))
 
-returns : tie.Need-returns
-returns c = ap natAbs (read c)
-
 returns-2 : tie.Need-returns-2
 returns-2 c = not-above (c .before .args .difference) (ap (λ (z : ℤ). ltZ (pos 0) z) (sym (toZ-ofZ (c .before .fits .difference))) ∙ c .if1 .left)
 
 pub rises-spec : {M : Type 1} → statement M
-rises-spec = tie.close (tie.spec cast-result returns returns-2)
+rises-spec = tie.close (tie.spec cast-result (λ c. ap natAbs (read c)) returns-2)

@@ -65,12 +65,6 @@ returns c =
     let a = c .before .before .args in
     promised (a .self) (a .dir) (sym (pointless (a .self) (a .dir) (sym (c .before .points .ensures) ∙ not-true _ (c .if1 .taken))))
 
-add-column : tie.Need-add-column
-add-column c = column-made (c .before .before .before) .fits
-
-add-row : tie.Need-add-row
-add-row c = row-made (known c) .fits
-
 cast-t13 : tie.Need-cast-t13
 cast-t13 c = let w = within-true 9 _ (column-in c) in cast-back _ (column-made (inner c) .read ∙ w .0) (omega (arith, w .1))
 
@@ -96,5 +90,5 @@ returns-3 c =
 
 pub get-in-compass-direction-spec : {M : Type 1} → statement M
 get-in-compass-direction-spec = tie.close (tie.spec
-    (λ c κs. search needs) returns (λ c κs. search needs) (λ c. search needs) add-column (λ c. search needs) add-row cast-t13 cast-t14 returns-2
-    returns-3)
+    (λ c κs. search needs) returns (λ c κs. search needs) (λ c. search needs) (λ c. column-made (c .before .before .before) .fits) (λ c. search needs)
+    (λ c. row-made (known c) .fits) cast-t13 cast-t14 returns-2 returns-3)

@@ -4,8 +4,5 @@ use borrow.Author.Needs.{needs}
 use Rattle.utilities.proofs.CompassDir.points.Statement.{statement}
 use Rattle.utilities.proofs.CompassDir.points.Tie as tie
 
-returns : tie.Need-returns
-returns c = rw (← c .number .ensures)
-
 pub points-spec : {M : Type 1} → statement M
-points-spec = tie.close (tie.spec (λ c κs. search needs) returns)
+points-spec = tie.close (tie.spec (λ c κs. search needs) (λ c. rw (← c .number .ensures)))
