@@ -5,11 +5,6 @@ use borrow.Author.Needs.{needs}
 use Rattle.integration_init.proofs.ends_to_lend.Statement.{statement}
 use Rattle.integration_init.proofs.ends_to_lend.Tie as tie
 
-returns : tie.Need-returns
-returns c = inr (c .read-ends .ensures)
-
-returns-2 : tie.Need-returns-2
-returns-2 c = inl (c .before .has-wall .ensures (c .if1 .left))
-
 pub ends-to-lend-spec : {M : Type 1} → statement M
-ends-to-lend-spec = tie.close (tie.spec (λ c κs. search needs) (λ c κs. search needs) returns returns-2)
+ends-to-lend-spec = tie.close (tie.spec
+    (λ c κs. search needs) (λ c κs. search needs) (λ c. inr (c .read-ends .ensures)) (λ c. inl (c .before .has-wall .ensures (c .if1 .left))))

@@ -2,7 +2,8 @@
 -- so the line is the definition's.
 -- Assumes nothing.
 use mathlib.Core.Path.{_≡_, refl, sym, ap, ap₂, subst, _∙_}
-use mathlib.Core.List.{map}
+use mathlib.Core.List.{List, map}
+use Prim.Native.Nat.{ℕ}
 use borrow.Author.Needs.{needs}
 use lib.ListN.{take}
 use Rattle.fields.specs.declared.FieldCell.{FieldCell}
@@ -63,11 +64,15 @@ Drew = tie.After-draw-cells-between-points
 abbrev ended : Drew → Ended
 ended d = d .before .before
 
-drawn : (d : Drew) → let l = d .draw-cells-between-points in Indexes 10 (l .last .1 .1 .0) (l .result)
+-- the lent places after the call, which are its third argument
+abbrev places : Drew → List ℕ
+places d = d .draw-cells-between-points .last .1 .1 .0
+
+drawn : (d : Drew) → Indexes 10 (places d) (d .draw-cells-between-points .result)
 drawn d =
     let e = ended d in
     let l = d .draw-cells-between-points in
-    line-drawn (from e) (end e) (from-inside e) (end-within e) (l .last .1 .1 .0) (l .result) (l .ensures)
+    line-drawn (from e) (end e) (from-inside e) (end-within e) (places d) (l .result) (l .ensures)
 
 mark-line-requires : tie.Need-mark-line-requires
 mark-line-requires c κs =
@@ -81,7 +86,7 @@ returns c =
     let d = c .before .before .before .before in
     let e = ended d in
     let l = d .draw-cells-between-points in
-    let cells : take (l .result) (l .last .1 .1 .0) ≡ map indexOf (line (cellAt (start e .args .corner)) (defined e)) =
+    let cells : take (l .result) (places d) ≡ map indexOf (line (cellAt (start e .args .corner)) (defined e)) =
     drawn-list (l .ensures) ∙ ap (map indexOf) (ap₂ line (begun e .from-index .ensures) (end-is e)) in
     rw (← cells) (c .mark-line .ensures)
 

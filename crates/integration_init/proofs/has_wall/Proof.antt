@@ -27,9 +27,6 @@ neither : (a b : Bool) → (a || b) ≡ false → (a ≡ false) × (b ≡ false)
 neither true b e = absurd (true≢false e)
 neither false b e = (refl, e)
 
-loop-holds : tie.Need-loop-holds Inv-loop μ-loop
-loop-holds c = (search needs, λ e n l. absurd (omega arith))
-
 -- one cell more is no wall
 one-more : (cells : List ℕ) (i : ℕ) → ((n : ℕ) → n < i → wallAt cells n ≡ false) → wallAt cells i ≡ false → (n : ℕ) → n < i + 1 → wallAt cells n ≡ false
 one-more cells i before here n h = go (eqb n i) refl
@@ -62,4 +59,6 @@ returns c e =
     all-cells (now (c .before .before .args .cells)) (l .i) (c .before .before .pre) (omega arith) (l .inv .1 e)
 
 pub has-wall-spec : {M : Type 1} → statement M
-has-wall-spec = tie.close (tie.spec Inv-loop μ-loop loop-holds (λ c κs. search needs) (λ c. search needs) (λ c. search needs) loop-again returns)
+has-wall-spec = tie.close (tie.spec
+    Inv-loop μ-loop (λ c. (search needs, λ e n l. absurd (omega arith))) (λ c κs. search needs) (λ c. search needs) (λ c. search needs) loop-again
+    returns)

@@ -28,9 +28,6 @@ from-row c = c .before .before .before
 abbrev from-column : tie.After-struct-known4 → tie.After-from-index2
 from-column c = from-row (c .before .before)
 
-returns : tie.Need-returns
-returns c = rw (sym (c .before .is-wall-at .ensures) ∙ c .if1 .taken)
-
 returns-2 : tie.Need-returns-2
 returns-2 c =
     let read = c .before .before .before .before in
@@ -43,7 +40,7 @@ returns-2 c =
 
 pub is-stopped-spec : {M : Type 1} → statement M
 is-stopped-spec = tie.close (tie.spec
-    (λ c κs. search needs) returns (λ c κs. search needs) (λ c κs. search needs)
+    (λ c κs. search needs) (λ c. rw (sym (c .before .is-wall-at .ensures) ∙ c .if1 .taken)) (λ c κs. search needs) (λ c κs. search needs)
     (λ c. let t = c .before in omega (arith, from-inside t .row-in))
     (λ c. let t = c .before .before in omega (arith, from-inside t .row-in, to-inside t .column-in))
     (λ c. let t = c .before .before in omega (arith, from-inside t .row-in, to-inside t .column-in))
@@ -51,5 +48,4 @@ is-stopped-spec = tie.close (tie.spec
     (λ c. let t = from-row (c .before) in omega (arith, to-inside t .row-in))
     (λ c. let t = from-column c in omega (arith, to-inside t .row-in, from-inside t .column-in))
     (λ c. let t = from-column c in omega (arith, to-inside t .row-in, from-inside t .column-in))
-    (λ c. let t = from-column c in omega (arith, to-inside t .row-in, from-inside t .column-in))
-    (λ c κs. search needs) returns-2)
+    (λ c. let t = from-column c in omega (arith, to-inside t .row-in, from-inside t .column-in)) (λ c κs. search needs) returns-2)

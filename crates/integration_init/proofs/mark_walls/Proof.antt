@@ -28,9 +28,6 @@ abbrev μ-loop : tie.MeasureT-loop
 abbrev start : tie.At-loop Inv-loop μ-loop → tie.Start Inv-loop μ-loop
 start c = c .before .before
 
-loop-holds : tie.Need-loop-holds Inv-loop μ-loop
-loop-holds c = record { at = omega arith; full = c .before .pre .1; same = refl }
-
 loop-again : tie.Need-loop-again Inv-loop μ-loop
 loop-again c =
     let turn = c .before .before in
@@ -52,5 +49,6 @@ returns c =
 
 pub mark-walls-spec : {M : Type 1} → statement M
 mark-walls-spec = tie.close (tie.spec
-    Inv-loop μ-loop loop-holds (λ c. omega (arith, start (c .before .before) .pre .0, c .before .loop-test .taken)) (λ c κs. search needs) (λ c. search needs) (λ c. search needs) (λ c. search needs)
-    (λ c. search needs) loop-again returns)
+    Inv-loop μ-loop (λ c. record { at = omega arith; full = c .before .pre .1; same = refl })
+    (λ c. omega (arith, start (c .before .before) .pre .0, c .before .loop-test .taken)) (λ c κs. search needs) (λ c. search needs)
+    (λ c. search needs) (λ c. search needs) (λ c. search needs) loop-again returns)

@@ -33,9 +33,6 @@ arrives c =
 index : (c : tie.After-as-1d-index) → let i = c .as-1d-index .result in (i ≡ indexOf (c .before .before .n .given .0 .0)) × (i < 100)
 index c = index-told (stepped-cell _ _ _ (arrives (c .before)) .within) (c .as-1d-index .ensures)
 
-is-wall-at-requires : tie.Need-is-wall-at-requires
-is-wall-at-requires c κs = index c .1
-
 returns-2 : tie.Need-returns-2
 returns-2 c = rw (arrives (c .before .before .before), ← index (c .before .before) .0, sym (c .before .is-wall-at .ensures) ∙ c .if1 .taken)
 
@@ -45,4 +42,4 @@ returns-3 c = rw (arrives (c .before .before .before), ← index (c .before .bef
 pub open-side-spec : {M : Type 1} → statement M
 open-side-spec = tie.close (tie.spec
     (λ c κs. search needs) (λ c κs. near-made (c .from-index .ensures) (c .before .fits .from)) (λ c. search needs) (λ c. search needs) returns
-    (λ c κs. search needs) is-wall-at-requires returns-2 returns-3)
+    (λ c κs. search needs) (λ c κs. index c .1) returns-2 returns-3)

@@ -60,7 +60,8 @@ loop-again c =
     let towards : CompassDir → Sight = λ d. spreadTowards line (a .wavefront-cost) (a .from) d (stepped (cellAt (a .from)) d) (held turn) in
     spread-on (l .inv) _ (tested .loop-test .taken)
     (around-step line (a .wavefront-cost) (a .from) (l .side) (held turn) (tested .loop-test .taken)
-    ∙ ap (λ (d : CompassDir). spreadAround line (a .wavefront-cost) (a .from) (drop (l .side + 1) orthogonal) (towards d)) (sym (told .from-boundary .ensures)))
+    ∙ ap (λ (d : CompassDir). spreadAround line (a .wavefront-cost) (a .from) (drop (l .side + 1) orthogonal) (towards d))
+    (sym (told .from-boundary .ensures)))
     (c .spread-towards .ensures)
     (lent-towards line (a .wavefront-cost) (start turn .pre .1 .wave-in) _ _ (held turn) (a .from) dir (stepped (cellAt (a .from)) dir) (l .inv .lent))
 

@@ -25,8 +25,7 @@ propagate-los-requires c κs =
       ends-lent = known m .ends-to-lend .ensures;
     }
 
-returns : tie.Need-returns
-returns c before e = c .propagate-los .ensures before 0 refl e
-
 pub spread-sight-spec : {M : Type 1} → statement M
-spread-sight-spec = tie.close (tie.spec (λ c κs. (c .before .pre .ready .room .full, c .before .pre .goal-in)) propagate-los-requires returns)
+spread-sight-spec = tie.close (tie.spec
+    (λ c κs. (c .before .pre .ready .room .full, c .before .pre .goal-in)) propagate-los-requires
+    (λ c before e. c .propagate-los .ensures before 0 refl e))

@@ -8,23 +8,15 @@ use Rattle.integration_init.proofs.start.Tie as tie
 start-at-requires : tie.Need-start-at-requires
 start-at-requires c κs = let s = c .before .before in (s .pre .0, s .pre .1 .window-held)
 
-returns : tie.Need-returns
-unfolding started
-returns c = c .start-at .ensures ∙ sym (rw (c .before .if1 .taken))
-
 start-from-requires : tie.Need-start-from-requires
 start-from-requires c κs = let s = c .before .before .before in (s .pre .0, s .pre .1 .goal-in (c .before .if1 .left))
-
-returns-2 : tie.Need-returns-2
-unfolding started
-returns-2 c = c .start-from .ensures ∙ sym (rw (c .before .before .if1 .left, c .before .if2 .taken))
 
 start-without-requires : tie.Need-start-without-requires
 start-without-requires c κs = let s = c .before .before .before in (s .pre .0, s .pre .1 .goal-in (c .before .if1 .left))
 
-returns-3 : tie.Need-returns-3
-unfolding started
-returns-3 c = c .start-without .ensures ∙ sym (rw (c .before .before .if1 .left, c .before .if2 .left))
-
 pub start-spec : {M : Type 1} → statement M
-start-spec = tie.close (tie.spec start-at-requires returns start-from-requires returns-2 start-without-requires returns-3)
+unfolding started
+start-spec = tie.close (tie.spec
+    start-at-requires (λ c. c .start-at .ensures ∙ sym (rw (c .before .if1 .taken))) start-from-requires
+    (λ c. c .start-from .ensures ∙ sym (rw (c .before .before .if1 .left, c .before .if2 .taken))) start-without-requires
+    (λ c. c .start-without .ensures ∙ sym (rw (c .before .before .if1 .left, c .before .if2 .left))))
