@@ -1,3 +1,5 @@
+-- How the readers of a cell's word are proved: a mask of one bit is a flag, whatever the bit (`integration_field/proofs/Flags.antt`), and a mask of
+-- the low sixteen bits is a remainder. The tests made of them follow the definitions' own order.
 -- `integration_bits::passes_wall` meets its contract: each test in the order of the rule.
 -- Assumes nothing.
 use borrow.Author.Needs.{needs}
