@@ -24,21 +24,6 @@ abbrev μ-loop : tie.MeasureT-loop
 loop-holds : tie.Need-loop-holds Inv-loop μ-loop
 loop-holds c = (omega arith, search from-start)
 
-mul-at : tie.Need-mul-at Inv-loop μ-loop
-mul-at c = omega arith
-
-add-window-step-number : tie.Need-add-window-step-number Inv-loop μ-loop
-add-window-step-number c = omega arith
-
-sub-window-step-number : tie.Need-sub-window-step-number Inv-loop μ-loop
-sub-window-step-number c = omega arith
-
-part-window-step-number-start : tie.Need-part-window-step-number-start Inv-loop μ-loop
-part-window-step-number-start c = omega arith
-
-part-window-step-number-end : tie.Need-part-window-step-number-end Inv-loop μ-loop
-part-window-step-number-end c = omega arith
-
 window-step-number-requires : tie.Need-window-step-number-requires Inv-loop μ-loop
 window-step-number-requires c κs =
     let at = c .before .before in
@@ -46,12 +31,12 @@ window-step-number-requires c κs =
     let steps = now (start .args .steps) in
     ap length (lent-step steps (at .loop .k)) ∙ step-long steps (at .loop .k) (omega arith)
 
--- from where a step is judged: the loop's head, the start, and the step's number
+-- from where a step is judged: the call, by way of the loop's head; and the step's number
 abbrev Done : Type 0
 Done = tie.After-window-step-number Inv-loop μ-loop
 
 abbrev start : Done → tie.Start Inv-loop μ-loop
-start j = j .before .before .before .before .before .before
+start j = let at = j .before .before .before in at .before .before .before
 
 number : (j : Done) → let a = start j .args in
     j .window-step-number .result ≡ windowStepNumber (now (a .costs)) (a .sector) (stepAt (now (a .steps)) (j .before .before .before .loop .k))
@@ -61,12 +46,6 @@ number j =
 
 returns : tie.Need-returns Inv-loop μ-loop
 returns c = let j = c .before in search (tests, j .before .before .before .loop .inv .1, from-here, sym (number j))
-
-add-k : tie.Need-add-k Inv-loop μ-loop
-add-k c = omega arith
-
-loop-less : tie.Need-loop-less Inv-loop μ-loop
-loop-less c = omega arith
 
 loop-again : tie.Need-loop-again Inv-loop μ-loop
 loop-again c =
@@ -78,5 +57,5 @@ returns-2 c = search (c .before .loop .inv .1, from-done)
 
 pub each-window-step-spec : {M : Type 1} → statement M
 each-window-step-spec = tie.close (tie.spec
-    Inv-loop μ-loop loop-holds mul-at add-window-step-number sub-window-step-number part-window-step-number-start part-window-step-number-end
-    window-step-number-requires returns add-k loop-less loop-again returns-2)
+    Inv-loop μ-loop loop-holds (λ c. omega arith) (λ c. omega arith) (λ c. omega arith) (λ c. omega arith) (λ c. omega arith)
+    window-step-number-requires returns (λ c. omega arith) (λ c. omega arith) loop-again returns-2)

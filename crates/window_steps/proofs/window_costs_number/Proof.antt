@@ -1,3 +1,6 @@
+-- How the number of a list of windows is shown to be the table's: at each return one line of the table decides, and none before it is due. The lines
+-- of the steps come from the loop of `each_window_step`, whose invariant is that the steps from place k on decide.
+--
 -- `window_steps::window_costs_number` meets its contract: a line of the table at each return.
 -- Assumes nothing.
 use mathlib.Core.Path.{_≡_, ap, _∙_}
