@@ -1,3 +1,7 @@
+-- How this crate's functions are shown to fill a square: each of them but `least_built` is a loop that fills an array place by place, and its
+-- invariant says that the first places hold what the definition says (`FilledTo` of `utilities`). `least_built` goes through a window's cells and
+-- keeps the least so far.
+--
 -- `window_columns::column_of` meets its contract. The loop's invariant: the first i places are filled.
 -- Assumes nothing.
 use mathlib.Core.Path.{_≡_, refl}
@@ -22,18 +26,6 @@ loop-holds c = (omega arith, record { full = refl; first = refl })
 least-from-requires : tie.Need-least-from-requires Inv-loop μ-loop
 least-from-requires c κs = c .before .before .before .pre
 
-mul-column : tie.Need-mul-column Inv-loop μ-loop
-mul-column c = omega arith
-
-array-write-column : tie.Need-array-write-column Inv-loop μ-loop
-array-write-column c = omega arith
-
-add-i : tie.Need-add-i Inv-loop μ-loop
-add-i c = omega arith
-
-loop-less : tie.Need-loop-less Inv-loop μ-loop
-loop-less c = omega arith
-
 loop-again : tie.Need-loop-again Inv-loop μ-loop
 loop-again c =
     let m = c .before .before in
@@ -50,4 +42,5 @@ returns c =
     filled-all 8 (leastFrom (now (a .cells)) (stepsOf (now (a .steps)))) (m .loop .column) (rw e at (m .loop .inv .1))
 
 pub column-of-spec : {M : Type 1} → statement M
-column-of-spec = tie.close (tie.spec Inv-loop μ-loop loop-holds least-from-requires mul-column array-write-column add-i loop-less loop-again returns)
+column-of-spec = tie.close (tie.spec
+    Inv-loop μ-loop loop-holds least-from-requires (λ c. omega arith) (λ c. omega arith) (λ c. omega arith) (λ c. omega arith) loop-again returns)

@@ -18,9 +18,14 @@ use Rattle.window_square.proofs.Least.{least-small}
 use Rattle.window_columns.proofs.least_built.Statement.{statement}
 use Rattle.window_columns.proofs.least_built.Tie as tie
 
+-- the cells from place i on are left to see
+record Left (cells places : List ℕ) (count least i : ℕ) : Type 0 where
+  passed : i ≤ count
+  small : least ≤ 65535
+  rest : min least (leastBuilt cells (slice i count places)) ≡ leastBuilt cells (take count places)
+
 abbrev Inv-loop : tie.InvT-loop
-Inv-loop cells places count least₀ i₀ least i =
-    (i ≤ count) × (least ≤ 65535) × (min least (leastBuilt cells (slice i count places)) ≡ leastBuilt cells (take count places))
+Inv-loop cells places count least₀ i₀ least i = Left cells places count least i
 
 abbrev μ-loop : tie.MeasureT-loop
 μ-loop cells places count least₀ i₀ least i = count - i
@@ -50,31 +55,9 @@ module _ (m : tie.In-loop Inv-loop μ-loop) where
   inside = held-inside window (start .pre) i (m .loop-test .taken)
 
 loop-holds : tie.Need-loop-holds Inv-loop μ-loop
-loop-holds c = (search needs, omega arith, omega (arith, least-small (now (c .before .args .cells)) (heldCells (c .before .args .window))))
-
-mul-place : tie.Need-mul-place Inv-loop μ-loop
-mul-place c = omega (arith, within c)
-
-array-read-place : tie.Need-array-read-place Inv-loop μ-loop
-array-read-place c = within c
-
-mul-low-bits : tie.Need-mul-low-bits Inv-loop μ-loop
-mul-low-bits c = omega (arith, inside c)
-
-element-copy-out-low-bits : tie.Need-element-copy-out-low-bits Inv-loop μ-loop
-element-copy-out-low-bits c = inside c
-
-low-bits-requires : tie.Need-low-bits-requires Inv-loop μ-loop
-low-bits-requires c κs = search needs
-
-smaller-requires : tie.Need-smaller-requires Inv-loop μ-loop
-smaller-requires c κs = search needs
-
-add-i : tie.Need-add-i Inv-loop μ-loop
-add-i c = omega arith
-
-loop-less : tie.Need-loop-less Inv-loop μ-loop
-loop-less c = omega arith
+loop-holds c =
+    let a = c .before .args in
+    record { passed = search needs; small = omega arith; rest = omega (arith, least-small (now (a .cells)) (heldCells (a .window))) }
 
 loop-again : tie.Need-loop-again Inv-loop μ-loop
 loop-again c =
@@ -82,7 +65,7 @@ loop-again c =
     let l = m .before .loop in
     let s = c .smaller .ensures in
     let more = here (now (start m .args .cells)) (window m) (start m .pre) (l .i) (m .loop-test .taken) in
-    (omega arith, omega arith, omega (arith, s, c .before .low-bits .ensures, more, l .inv .2))
+    record { passed = omega arith; small = omega arith; rest = omega (arith, s, c .before .low-bits .ensures, more, l .inv .rest) }
 
 returns : tie.Need-returns Inv-loop μ-loop
 returns c =
@@ -91,9 +74,9 @@ returns c =
     let all : l .i ≡ a .window .count = omega arith in
     let none : leastBuilt (now (a .cells)) (slice (l .i) (a .window .count) (a .window .cells)) ≡ 65535
     = rw all (ap (leastBuilt (now (a .cells))) (slice-empty (a .window .count) (a .window .cells))) in
-    omega (arith, none, l .inv .1, l .inv .2)
+    omega (arith, none, l .inv .small, l .inv .rest)
 
 pub least-built-spec : {M : Type 1} → statement M
 least-built-spec = tie.close (tie.spec
-    Inv-loop μ-loop loop-holds mul-place array-read-place mul-low-bits element-copy-out-low-bits low-bits-requires smaller-requires add-i loop-less
-    loop-again returns)
+    Inv-loop μ-loop loop-holds (λ c. omega (arith, within c)) (λ c. within c) (λ c. omega (arith, inside c)) (λ c. inside c) (λ c κs. search needs)
+    (λ c κs. search needs) (λ c. omega arith) (λ c. omega arith) loop-again returns)

@@ -23,21 +23,6 @@ abbrev μ-loop : tie.MeasureT-loop
 loop-holds : tie.Need-loop-holds Inv-loop μ-loop
 loop-holds c = (omega arith, record { full = refl; first = refl })
 
-row-of-requires : tie.Need-row-of-requires Inv-loop μ-loop
-row-of-requires c κs = omega arith
-
-mul-square : tie.Need-mul-square Inv-loop μ-loop
-mul-square c = omega arith
-
-array-set-from-square : tie.Need-array-set-from-square Inv-loop μ-loop
-array-set-from-square c = omega arith
-
-add-i : tie.Need-add-i Inv-loop μ-loop
-add-i c = omega arith
-
-loop-less : tie.Need-loop-less Inv-loop μ-loop
-loop-less c = omega arith
-
 loop-again : tie.Need-loop-again Inv-loop μ-loop
 loop-again c =
     let m = c .before .before in
@@ -51,4 +36,5 @@ returns c =
     filled-all 8 (turned (c .before .before .args .columns)) (l .square) (rw e at (l .inv .1))
 
 pub square-of-spec : {M : Type 1} → statement M
-square-of-spec = tie.close (tie.spec Inv-loop μ-loop loop-holds row-of-requires mul-square array-set-from-square add-i loop-less loop-again returns)
+square-of-spec = tie.close (tie.spec
+    Inv-loop μ-loop loop-holds (λ c κs. omega arith) (λ c. omega arith) (λ c. omega arith) (λ c. omega arith) (λ c. omega arith) loop-again returns)
