@@ -118,7 +118,8 @@ module _ (square : List (List ℕ)) (n : ℕ) (s : TourSquare square n) (place :
 module _ (square : List (List ℕ)) (n limit : ℕ) where
   pub answered : {tried least : ℕ} {best : Tour} → tried ≡ triedCount n limit
       → best ≡ bestTour square noTour (take tried (orders n)) → least ≡ leastFigure square n
-      → _≡_ {A = SearchedTour} (record { found = best .found; order = best .order; sum = best .sum; tried = tried; least = least }) (searchedTour square n limit)
+      → _≡_ {A = SearchedTour} (record { found = best .found; order = best .order; sum = best .sum; tried = tried; least = least })
+      (searchedTour square n limit)
   unfolding searchedTour
   answered t b l = rw (b, l, t)
 

@@ -17,15 +17,6 @@ abbrev μ-loop : tie.MeasureT-loop
 loop-holds : tie.Need-loop-holds Inv-loop μ-loop
 loop-holds c = (omega arith, refl)
 
-enter-from-requires : tie.Need-enter-from-requires Inv-loop μ-loop
-enter-from-requires c κs = omega arith
-
-add-from : tie.Need-add-from Inv-loop μ-loop
-add-from c = omega arith
-
-loop-less : tie.Need-loop-less Inv-loop μ-loop
-loop-less c = omega arith
-
 loop-again : tie.Need-loop-again Inv-loop μ-loop
 loop-again c = (omega arith, rw (add-one, ← c .before .before .loop .inv .1) (c .enter-from .ensures))
 
@@ -36,4 +27,4 @@ returns c =
     c .before .loop .inv .1 ∙ ap (cheapestEntry (a .square .now) (a .window)) all
 
 pub cheapest-entry-spec : {M : Type 1} → statement M
-cheapest-entry-spec = tie.close (tie.spec Inv-loop μ-loop loop-holds enter-from-requires add-from loop-less loop-again returns)
+cheapest-entry-spec = tie.close (tie.spec Inv-loop μ-loop loop-holds (λ c κs. omega arith) (λ c. omega arith) (λ c. omega arith) loop-again returns)
