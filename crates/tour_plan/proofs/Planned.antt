@@ -88,11 +88,9 @@ module _ (costs steps : List ℕ) (limit : ℕ) where
       × (((r .number ≡ 0 → ⊥) → TourRefused r) × NumbersTold costs steps (r .number)))
   accepts byte z t lent r made =
       let told = subst (Told t) (sym (steps-count steps)) lent in
-      let planned : TourPlanned costs (stepsOf steps) limit t = record {
-        square = square-told costs steps byte (ready costs steps z);
-        every-order = told .1 .0;
-        best = told .1 .1 .0;
-        under = told .1 .1 .1;
-      } in
       let n : r .number ≡ 0 = ap (λ (w : WindowTour). w .number) made in
-      (made ∙ ap acceptedTour (told .0) ∙ rw z, (λ f. rw made planned, (λ f. absurd (f n), numbers costs steps (r .number) (n ∙ sym z))))
+      (made ∙ ap acceptedTour (told .0) ∙ rw z, (λ f. rw made (planned told), (λ f. absurd (f n), numbers costs steps (r .number) (n ∙ sym z))))
+    where
+      planned : Told t (length (stepsOf steps)) → TourPlanned costs (stepsOf steps) limit t
+      planned (answer, (every, (best, under))) =
+          record { square = square-told costs steps byte (ready costs steps z); every-order = every; best = best; under = under }
