@@ -18,7 +18,7 @@ use Rattle.bounds.proofs.bounds_number.Tie as tie
 -- both floors have 100 bytes
 module _ (m : tie.Else2) where
   abbrev start : tie.Start
-  start = m .before .before .before .before .before
+  start = let low-measured = m .before in low-measured .before .before .before .before
 
   abbrev low : List ℕ
   low = now (start .args .low)
@@ -56,9 +56,6 @@ returns-2 : tie.Need-returns-2
 unfolding boundsNumber
 returns-2 c = rw (eq-eqb _ 100 (c .before .if1 .left), ne-eqb _ 100 (c .if2 .taken))
 
-number-with-target-requires : tie.Need-number-with-target-requires
-number-with-target-requires c κs = start c .pre
-
 returns-3 : tie.Need-returns-3
 unfolding boundsNumber
 returns-3 c =
@@ -66,9 +63,6 @@ returns-3 c =
     let e = asked .before in
     let refused : eqb (stepNumberOn (low e) (step e)) 0 ≡ false = ne-eqb _ 0 (λ z. c .if3 .taken (asked .number-with-target .ensures ∙ z)) in
     rw (low-full e, high-full e, refused) (asked .number-with-target .ensures)
-
-number-with-target-requires-2 : tie.Need-number-with-target-requires-2
-number-with-target-requires-2 c κs = start (c .before .before) .pre
 
 returns-4 : tie.Need-returns-4
 unfolding boundsNumber
@@ -85,11 +79,6 @@ returns-5 c =
     let e = lent good in
     let goal : isWindow (step e) ≡ false = sym (marked e) ∙ not-true _ (c .if5 .taken) in
     rw (low-full e, high-full e, low-good (good .before .before), high-good good, goal)
-
-has-no-range-requires : tie.Need-has-no-range-requires
-has-no-range-requires c κs =
-    let e = lent (c .before .before) in
-    (e .before .if1 .left, e .if2 .left)
 
 -- the step has a window
 window : (m : tie.Else5) → isWindow (step (lent (m .before .before))) ≡ true
@@ -115,5 +104,4 @@ returns-7 c =
 
 pub bounds-number-spec : {M : Type 1} → statement M
 bounds-number-spec = tie.close (tie.spec
-    returns returns-2 number-with-target-requires returns-3 number-with-target-requires-2 returns-4 returns-5 has-no-range-requires returns-6
-    returns-7)
+    returns returns-2 (λ c κs. search needs) returns-3 (λ c κs. search needs) returns-4 returns-5 (λ c κs. search needs) returns-6 returns-7)

@@ -29,26 +29,11 @@ start m = turn m .before .before .before .before
 loop-holds : tie.Need-loop-holds Inv-loop μ-loop
 loop-holds c = (omega arith, refl)
 
-shared-slice-read-is-no-range : tie.Need-shared-slice-read-is-no-range Inv-loop μ-loop
-shared-slice-read-is-no-range c = omega (arith, c .before .before .before .before .before .pre .0)
-
-shared-slice-read-is-no-range-2 : tie.Need-shared-slice-read-is-no-range-2 Inv-loop μ-loop
-shared-slice-read-is-no-range-2 c = omega (arith, c .before .before .before .before .before .before .pre .1)
-
-is-no-range-requires : tie.Need-is-no-range-requires Inv-loop μ-loop
-is-no-range-requires c κs = search needs
-
 returns : tie.Need-returns Inv-loop μ-loop
 returns c =
     let m = c .before in
     let a = start m .args in
     sym (some-found (noRange (now (a .low)) (now (a .high))) (turn m .before .loop .i) (omega arith) (sym (m .is-no-range .ensures) ∙ c .if1 .taken))
-
-add-i : tie.Need-add-i Inv-loop μ-loop
-add-i c = omega arith
-
-loop-less : tie.Need-loop-less Inv-loop μ-loop
-loop-less c = omega arith
 
 loop-again : tie.Need-loop-again Inv-loop μ-loop
 loop-again c =
@@ -65,5 +50,5 @@ returns-2 c =
 
 pub has-no-range-spec : {M : Type 1} → statement M
 has-no-range-spec = tie.close (tie.spec
-    Inv-loop μ-loop loop-holds shared-slice-read-is-no-range shared-slice-read-is-no-range-2 is-no-range-requires returns add-i loop-less loop-again
-    returns-2)
+    Inv-loop μ-loop loop-holds (λ c. search needs) (λ c. search needs) (λ c κs. search needs) returns (λ c. omega arith)
+    (λ c. omega arith) loop-again returns-2)
