@@ -1,3 +1,7 @@
+-- How the call for window costs is shown to keep its promises: its number is that of `window_steps`, each column of the square is read from a field
+-- built for one window (`column_at`), and the loop of `window_square` fills the columns, which are then turned into rows. The theorems of the crate
+-- `window_square` say what such a square holds.
+--
 -- `window_costs::window_costs` meets its contract: refused by its number, or the rows of its square.
 -- Assumes nothing.
 use mathlib.Core.Path.{_≡_, refl, sym, _∙_}

@@ -23,27 +23,12 @@ loop-holds c = (omega arith, record { full = refl; first = refl })
 column-at-requires : tie.Need-column-at-requires Inv-loop μ-loop
 column-at-requires c κs = c .before .before .before .before .pre
 
-mul-columns : tie.Need-mul-columns Inv-loop μ-loop
-mul-columns c = omega arith
-
-array-set-from-columns : tie.Need-array-set-from-columns Inv-loop μ-loop
-array-set-from-columns c = omega arith
-
-add-j : tie.Need-add-j Inv-loop μ-loop
-add-j c = omega arith
-
-loop-less : tie.Need-loop-less Inv-loop μ-loop
-loop-less c = omega arith
-
 loop-again : tie.Need-loop-again Inv-loop μ-loop
 loop-again c =
     let m = c .before .before in
     let l = m .loop in
     let a = m .before .before .before .args in
     (omega arith, filled-more 8 (columnOf (now (a .costs)) (stepsOf (now (a .steps)))) (l .j) (l .columns) _ (omega arith) (c .column-at .ensures) (l .inv .1))
-
-square-of-requires : tie.Need-square-of-requires Inv-loop μ-loop
-square-of-requires c κs = search needs
 
 returns : tie.Need-returns Inv-loop μ-loop
 returns c =
@@ -56,4 +41,5 @@ returns c =
 
 pub window-square-spec : {M : Type 1} → statement M
 window-square-spec = tie.close (tie.spec
-    Inv-loop μ-loop loop-holds column-at-requires mul-columns array-set-from-columns add-j loop-less loop-again square-of-requires returns)
+    Inv-loop μ-loop loop-holds column-at-requires (λ c. omega arith) (λ c. omega arith) (λ c. omega arith) (λ c. omega arith) loop-again
+    (λ c κs. search needs) returns)
