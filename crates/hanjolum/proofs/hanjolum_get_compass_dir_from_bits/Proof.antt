@@ -1,3 +1,6 @@
+-- Each export hands on to the call of its name and promises the same, so that it needs no proof of its own. This one alone answers something else
+-- than that call does: not the direction, but its number.
+--
 -- `hanjolum::hanjolum_get_compass_dir_from_bits` meets its contract: the number of the byte's direction.
 -- Assumes nothing.
 use mathlib.Core.Path.{ap, _∙_}

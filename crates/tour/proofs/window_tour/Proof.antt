@@ -1,3 +1,6 @@
+-- How the call for a tour is shown to keep its promises: number and square are those of the call for window costs, the tour over that square is found
+-- by `tour_search`, and `tour_plan` has what is promised of the two together.
+--
 -- `tour::window_tour` meets its contract: refused by its number, or the tour over its square.
 -- Assumes nothing.
 use mathlib.Core.Path.{_≡_, sym, subst, _∙_}
