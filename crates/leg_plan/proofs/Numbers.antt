@@ -1,6 +1,6 @@
 -- The number of a leg, down the table.
 --     each-first, each-none    numbers 4 to 8 and 16: a step that is refused decides, else what comes below
---     number-9 .. number-0     where no step is refused: 9 decides before 10, and 10 before none
+--     nine-then-ten            where no step is refused: 9 decides before 10, and 10 before none
 --     Judged, judged           what is known where nothing is refused before a step is planned
 --     judged-first             a number that is judged before then is the leg's
 --     closed-15, open-0        else 15 where a window is closed, and 0 where none is
@@ -77,19 +77,10 @@ module _ (floor : List ℕ) where
 
 module _ (floor steps sheet : List ℕ) (floor-full : length floor ≡ 6400) (sheet-full : length sheet ≡ 6400)
     (list : noStepList steps ≡ false) (each : firstNumber (eachRows floor (stepsOf steps)) ≡ 0) where
-  nine-then-ten : firstNumber (judgedRows floor steps sheet) ≡ firstNumber (row 9 (outOfOrder (stepsOf steps)) ∷ row 10 (disconnected (stepsOf steps)) ∷ [])
+  pub nine-then-ten : firstNumber (judgedRows floor steps sheet)
+      ≡ firstNumber (row 9 (outOfOrder (stepsOf steps)) ∷ row 10 (disconnected (stepsOf steps)) ∷ [])
   unfolding judgedRows
   nine-then-ten = rw (eq-eqb (length floor) 6400 floor-full, eq-eqb (length sheet) 6400 sheet-full, list) (each-none floor (stepsOf steps) _ each)
-
-  pub number-9 : outOfOrder (stepsOf steps) ≡ true → firstNumber (judgedRows floor steps sheet) ≡ 9
-  number-9 h = nine-then-ten ∙ rw h
-
-  module _ (ordered : outOfOrder (stepsOf steps) ≡ false) where
-    pub number-10 : disconnected (stepsOf steps) ≡ true → firstNumber (judgedRows floor steps sheet) ≡ 10
-    number-10 h = nine-then-ten ∙ rw (ordered, h)
-
-    pub number-0 : disconnected (stepsOf steps) ≡ false → firstNumber (judgedRows floor steps sheet) ≡ 0
-    number-0 h = nine-then-ten ∙ rw (ordered, h)
 
 -- ---- nothing refused before a step is planned
 

@@ -1,13 +1,21 @@
 -- `leg::leg_number` meets its contract: a line of the table at each return.
 -- Assumes nothing.
-use mathlib.Core.Path.{sym, _∙_}
+use mathlib.Core.Path.{_≡_, sym, _∙_}
+use mathlib.Core.Bool.{false}
+use mathlib.Core.List.{List, [], _∷_}
+use Prim.Native.Nat.{ℕ, _≤_}
 use native.Mathlib.Omega.{arith}
 use borrow.Author.Tests.{ne-eqb}
 use borrow.Author.Needs.{needs}
+use denote.Ref.{now}
+use lib.ListN.{length}
+use Rattle.route.specs.Table.{row, firstNumber}
+use Rattle.route.specs.Step.{noStepList}
+use Rattle.step_list.specs.Steps.{stepsOf}
 use Rattle.route.proofs.Rows.{tests}
 use Rattle.route.proofs.Accepted.{accepted-list}
-use Rattle.leg_plan.specs.Leg.{judgedRows}
-use Rattle.leg_plan.proofs.Numbers.{each-first, number-9, number-10, number-0}
+use Rattle.leg_plan.specs.Leg.{outOfOrder, disconnected, judgedRows}
+use Rattle.leg_plan.proofs.Numbers.{each-first, nine-then-ten}
 use Rattle.leg.proofs.leg_number.Statement.{statement}
 use Rattle.leg.proofs.leg_number.Tie as tie
 
@@ -23,63 +31,57 @@ returns-3 : tie.Need-returns-3
 unfolding judgedRows
 returns-3 c sheet e = search (tests, e ∙ c .before .before .if2 .left, sym (c .before .is-no-step-list .ensures) ∙ c .if3 .taken)
 
+-- where the steps are judged: where the list was, and where the sheet's length was; the list is one of steps
+abbrev listed : tie.After-each-step → tie.After-is-no-step-list
+listed j = j .before .before
+
+abbrev lent : tie.After-each-step → tie.Else2
+lent j = listed j .before
+
+abbrev call : tie.After-each-step → tie.Start
+call j = lent j .before .before .before .before
+
+abbrev steps : tie.After-each-step → List ℕ
+steps j = now (call j .args .steps)
+
+list : (j : tie.After-each-step) → noStepList (steps j) ≡ false
+list j = sym (listed j .is-no-step-list .ensures) ∙ j .before .if3 .left
+
+some : (j : tie.After-each-step) → 8 ≤ length (steps j)
+some j = let l = accepted-list (steps j) (list j) in omega arith
+
 returns-4 : tie.Need-returns-4
 unfolding judgedRows
 returns-4 c sheet e =
-    let judged = c .before in
-    let listed = judged .before .before in
-    let lent = e ∙ listed .before .if2 .left in
-    let list = sym (listed .is-no-step-list .ensures) ∙ judged .before .if3 .left in
-    let number = judged .each-step .ensures in
-    rw number (search (tests, lent, list, each-first, ne-eqb _ 0 (λ z. c .if4 .taken (number ∙ z))))
+    let j = c .before in
+    let number = j .each-step .ensures in
+    rw number (search (tests, e ∙ lent j .if2 .left, list j, each-first, ne-eqb _ 0 (λ z. c .if4 .taken (number ∙ z))))
 
-is-out-of-order-requires : tie.Need-is-out-of-order-requires
-is-out-of-order-requires c κs =
-    let listed = c .before .before .before in
-    let some = accepted-list _ (sym (listed .is-no-step-list .ensures) ∙ c .before .before .if3 .left) in
-    omega arith
+-- where no step is refused: 9 and 10 are left
+left : (o : tie.Else4) (sheet : List ℕ) → let a = call (o .before) .args in length sheet ≡ a .sheet-length
+    → firstNumber (judgedRows (now (a .floor)) (now (a .steps)) sheet)
+    ≡ firstNumber (row 9 (outOfOrder (stepsOf (now (a .steps)))) ∷ row 10 (disconnected (stepsOf (now (a .steps)))) ∷ [])
+left o sheet e =
+    let j = o .before in
+    nine-then-ten _ _ sheet (lent j .before .if1 .left) (e ∙ lent j .if2 .left) (list j) (sym (j .each-step .ensures) ∙ o .if4 .left)
 
 returns-5 : tie.Need-returns-5
-returns-5 c sheet e =
-    let ordered = c .before in
-    let judged = ordered .before .before in
-    let listed = judged .before .before in
-    let lent = listed .before in
-    let list = sym (listed .is-no-step-list .ensures) ∙ judged .before .if3 .left in
-    let each = sym (judged .each-step .ensures) ∙ ordered .before .if4 .left in
-    sym (number-9 _ _ sheet (lent .before .if1 .left) (e ∙ lent .if2 .left) list each (sym (ordered .is-out-of-order .ensures) ∙ c .if5 .taken))
+returns-5 c sheet e = sym (left (c .before .before) sheet e ∙ rw (sym (c .before .is-out-of-order .ensures) ∙ c .if5 .taken))
 
-is-disconnected-requires : tie.Need-is-disconnected-requires
-is-disconnected-requires c κs =
-    let judged = c .before .before .before in
-    let some = accepted-list _ (sym (judged .before .before .is-no-step-list .ensures) ∙ judged .before .if3 .left) in
-    omega arith
+order : (e : tie.Else5) → outOfOrder (stepsOf (steps (e .before .before .before))) ≡ false
+order e = sym (e .before .is-out-of-order .ensures) ∙ e .if5 .left
 
 returns-6 : tie.Need-returns-6
 returns-6 c sheet e =
-    let faced = c .before in
-    let ordered = faced .before .before in
-    let judged = ordered .before .before in
-    let listed = judged .before .before in
-    let lent = listed .before in
-    let list = sym (listed .is-no-step-list .ensures) ∙ judged .before .if3 .left in
-    let each = sym (judged .each-step .ensures) ∙ ordered .before .if4 .left in
-    let order = sym (ordered .is-out-of-order .ensures) ∙ faced .before .if5 .left in
-    sym (number-10 _ _ sheet (lent .before .if1 .left) (e ∙ lent .if2 .left) list each order (sym (faced .is-disconnected .ensures) ∙ c .if6 .taken))
+    let ordered = c .before .before in
+    sym (left (ordered .before .before) sheet e ∙ rw (order ordered, sym (c .before .is-disconnected .ensures) ∙ c .if6 .taken))
 
 returns-7 : tie.Need-returns-7
 returns-7 c sheet e =
-    let faced = c .before in
-    let ordered = faced .before .before in
-    let judged = ordered .before .before in
-    let listed = judged .before .before in
-    let lent = listed .before in
-    let list = sym (listed .is-no-step-list .ensures) ∙ judged .before .if3 .left in
-    let each = sym (judged .each-step .ensures) ∙ ordered .before .if4 .left in
-    let order = sym (ordered .is-out-of-order .ensures) ∙ faced .before .if5 .left in
-    sym (number-0 _ _ sheet (lent .before .if1 .left) (e ∙ lent .if2 .left) list each order (sym (faced .is-disconnected .ensures) ∙ c .if6 .left))
+    let ordered = c .before .before in
+    sym (left (ordered .before .before) sheet e ∙ rw (order ordered, sym (c .before .is-disconnected .ensures) ∙ c .if6 .left))
 
 pub leg-number-spec : {M : Type 1} → statement M
 leg-number-spec = tie.close (tie.spec
-    returns returns-2 (λ c κs. search needs) returns-3 (λ c κs. search needs) returns-4 is-out-of-order-requires returns-5 is-disconnected-requires
-    returns-6 returns-7)
+    returns returns-2 (λ c κs. search needs) returns-3 (λ c κs. search needs) returns-4 (λ c κs. some (c .before)) returns-5
+    (λ c κs. some (c .before .before .before)) returns-6 returns-7)
