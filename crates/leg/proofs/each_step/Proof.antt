@@ -23,21 +23,6 @@ abbrev μ-loop : tie.MeasureT-loop
 loop-holds : tie.Need-loop-holds Inv-loop μ-loop
 loop-holds c = (omega arith, search from-start)
 
-mul-at : tie.Need-mul-at Inv-loop μ-loop
-mul-at c = omega arith
-
-add-floor-number : tie.Need-add-floor-number Inv-loop μ-loop
-add-floor-number c = omega arith
-
-sub-floor-number : tie.Need-sub-floor-number Inv-loop μ-loop
-sub-floor-number c = omega arith
-
-part-floor-number-start : tie.Need-part-floor-number-start Inv-loop μ-loop
-part-floor-number-start c = omega arith
-
-part-floor-number-end : tie.Need-part-floor-number-end Inv-loop μ-loop
-part-floor-number-end c = omega arith
-
 floor-number-requires : tie.Need-floor-number-requires Inv-loop μ-loop
 floor-number-requires c κs =
     let at = c .before .before in
@@ -45,37 +30,34 @@ floor-number-requires c κs =
     let steps = now (start .args .steps) in
     (start .pre, ap length (lent-step steps (at .loop .k)) ∙ step-long steps (at .loop .k) (omega arith))
 
--- from where a step is judged: the loop's head, the start, and the step's number
+-- where a step is judged: the loop's head, the call, and the step's number
 abbrev Done : Type 0
 Done = tie.After-floor-number Inv-loop μ-loop
 
+abbrev here : Done → tie.At-loop Inv-loop μ-loop
+here j = j .before .before .before
+
 abbrev start : Done → tie.Start Inv-loop μ-loop
-start j = j .before .before .before .before .before .before
+start j = here j .before .before .before
 
 number : (j : Done) → let a = start j .args in
-    j .floor-number .result ≡ floorNumber (now (a .floor)) (stepAt (now (a .steps)) (j .before .before .before .loop .k))
+    j .floor-number .result ≡ floorNumber (now (a .floor)) (stepAt (now (a .steps)) (here j .loop .k))
 number j =
     let a = start j .args in
-    j .floor-number .ensures ∙ ap (floorNumber (now (a .floor))) (lent-step (now (a .steps)) (j .before .before .before .loop .k))
+    j .floor-number .ensures ∙ ap (floorNumber (now (a .floor))) (lent-step (now (a .steps)) (here j .loop .k))
 
 returns : tie.Need-returns Inv-loop μ-loop
-returns c = let j = c .before in search (tests, j .before .before .before .loop .inv .1, from-here, sym (number j))
-
-add-k : tie.Need-add-k Inv-loop μ-loop
-add-k c = omega arith
-
-loop-less : tie.Need-loop-less Inv-loop μ-loop
-loop-less c = omega arith
+returns c = let j = c .before in search (tests, here j .loop .inv .1, from-here, sym (number j))
 
 loop-again : tie.Need-loop-again Inv-loop μ-loop
 loop-again c =
     let j = c .before in
-    (omega arith, search (tests, j .before .before .before .loop .inv .1, from-here, sym (number j) ∙ c .if1 .left))
+    (omega arith, search (tests, here j .loop .inv .1, from-here, sym (number j) ∙ c .if1 .left))
 
 returns-2 : tie.Need-returns-2 Inv-loop μ-loop
 returns-2 c = search (c .before .loop .inv .1, from-done)
 
 pub each-step-spec : {M : Type 1} → statement M
 each-step-spec = tie.close (tie.spec
-    Inv-loop μ-loop loop-holds mul-at add-floor-number sub-floor-number part-floor-number-start part-floor-number-end floor-number-requires returns
-    add-k loop-less loop-again returns-2)
+    Inv-loop μ-loop loop-holds (λ c. omega arith) (λ c. omega arith) (λ c. omega arith) (λ c. omega arith) (λ c. omega arith) floor-number-requires
+    returns (λ c. omega arith) (λ c. omega arith) loop-again returns-2)

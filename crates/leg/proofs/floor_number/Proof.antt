@@ -19,19 +19,16 @@ cut : (floor step : List ℕ) (at : ℕ) → at ≡ sectorOf step * 100 → leng
     → stepNumberOn (take (at + 100 - at) (drop at floor)) step ≡ floorNumber floor step
 cut floor step at e h = let n : at + 100 - at ≡ 100 = omega arith in rw (n, e) (each-step-on _ step h)
 
--- from where the sector is read: the call
-abbrev start : tie.After-index-of → tie.Start
-start w = w .before .before .before .before .before
+-- where the sector is on the floor, and where its number is read: the call
+abbrev given : tie.Else1 → tie.Start
+given e = e .before .before .before .before
 
-shared-slice-read-sector : tie.Need-shared-slice-read-sector
-shared-slice-read-sector c = omega (arith, c .before .before .before .pre .1)
+abbrev start : tie.After-index-of → tie.Start
+start w = given (w .before)
 
 returns : tie.Need-returns
 unfolding eachStepOn
 returns c = search tests
-
-part-step-number-on-end : tie.Need-part-step-number-on-end
-part-step-number-on-end c = omega (arith, start c .pre .0, c .before .if1 .left, c .index-of .ensures)
 
 returns-2 : tie.Need-returns-2
 returns-2 c =
@@ -41,5 +38,5 @@ returns-2 c =
 
 pub floor-number-spec : {M : Type 1} → statement M
 floor-number-spec = tie.close (tie.spec
-    shared-slice-read-sector returns (λ c κs. search needs) (λ c. search needs) (λ c. search needs) (λ c. search needs) (λ c. search needs)
-    part-step-number-on-end (λ c κs. search needs) returns-2)
+    (λ c. omega (arith, c .before .before .before .pre .1)) returns (λ c κs. search needs) (λ c. search needs) (λ c. search needs) (λ c. search needs)
+    (λ c. search needs) (λ c. omega (arith, start c .pre .0, c .before .if1 .left, c .index-of .ensures)) (λ c κs. search needs) returns-2)

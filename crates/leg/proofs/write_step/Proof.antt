@@ -13,14 +13,17 @@ use Rattle.leg.proofs.write_step.Tie as tie
 abbrev Targeted : Type 0
 Targeted = tie.After-leg-target
 
+abbrev parsed : Targeted → tie.After-new
+parsed t = t .before
+
 abbrev start : Targeted → tie.Start
-start t = t .before .before .before .before .before
+start t = parsed t .before .before .before .before
 
 made : (t : Targeted) → let a = start t .args in
-    StepTarget (a .sight) (now (a .step)) (a .has-previous) (now (a .previous)) (t .before .new .result) (t .leg-target .result)
+    StepTarget (a .sight) (now (a .step)) (a .has-previous) (now (a .previous)) (parsed t .new .result) (t .leg-target .result)
 made t =
     let a = start t .args in
-    made-target (a .sight) (now (a .step)) (start t .pre .accepted) (a .has-previous) (now (a .previous)) (t .before .new .ensures) (t .leg-target .ensures)
+    made-target (a .sight) (now (a .step)) (start t .pre .accepted) (a .has-previous) (now (a .previous)) (parsed t .new .ensures) (t .leg-target .ensures)
 
 build-step-requires : tie.Need-build-step-requires
 build-step-requires c κs = record { floor-full = start c .pre .floor-full; sector-in = made c .sector-in; target-held = made c .held }
@@ -40,7 +43,7 @@ returns c =
     let a = start t .args in
     let floor = now (a .floor) in
     let step = now (a .step) in
-    let at = t .before .new .result .sector * 100 in (
+    let at = parsed t .new .result .sector * 100 in (
       built-step (a .sight) floor step (a .has-previous) (now (a .previous)) (made t) (built .build-step .ensures),
       wrote-step (a .sight) floor step (a .has-previous) (now (a .previous)) (made t) (built .build-step .ensures) (now (a .sheet)) (wrote .write .ensures)
           (at + 100 - at) (omega arith),

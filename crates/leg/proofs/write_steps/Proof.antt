@@ -2,6 +2,7 @@
 -- the sheet of the planned leg.
 -- Assumes nothing.
 use mathlib.Core.Path.{_≡_, sym, ap, _∙_}
+use mathlib.Core.Bool.{Bool}
 use mathlib.Core.List.{List}
 use Prim.Native.Nat.{ℕ, _-_, _/_, _≤_}
 use native.Mathlib.Omega.{arith}
@@ -16,11 +17,13 @@ use Rattle.leg.proofs.Step.{from-first, from-more, from-last}
 use Rattle.leg.proofs.write_steps.Statement.{statement}
 use Rattle.leg.proofs.write_steps.Tie as tie
 
+record Left (sight : Bool) (floor steps sheet₀ : List ℕ) (k : ℕ) (previous sheet : List ℕ) : Type 0 where
+  in-list : k ≤ length steps / 8
+  sheet-full : length sheet ≡ 6400
+  comes-to : planned sight floor (stepsOf steps) sheet₀ ≡ plannedFrom sight floor (stepsFrom steps k) (ltb 0 k) previous sheet
+
 abbrev Inv-loop : tie.InvT-loop
-Inv-loop floor steps sight sheet₀ count previous₀ k₀ sheet previous k =
-    (k ≤ length steps / 8)
-    × ((length sheet ≡ 6400)
-    × (planned sight floor (stepsOf steps) sheet₀ ≡ plannedFrom sight floor (stepsFrom steps k) (ltb 0 k) previous sheet))
+Inv-loop floor steps sight sheet₀ count previous₀ k₀ sheet previous k = Left sight floor steps sheet₀ k previous sheet
 
 abbrev μ-loop : tie.MeasureT-loop
 μ-loop floor steps sight sheet₀ count previous₀ k₀ sheet previous k = length steps / 8 - k
@@ -39,7 +42,7 @@ loop-holds : tie.Need-loop-holds Inv-loop μ-loop
 loop-holds c =
     let s = c .before .before .before in
     let a = s .args in
-    (omega arith, (s .pre .1, from-first (a .sight) (now (a .floor)) (now (a .steps)) _ (now (a .sheet))))
+    record { in-list = omega arith; sheet-full = s .pre .1; comes-to = from-first (a .sight) (now (a .floor)) (now (a .steps)) _ (now (a .sheet)) }
 
 write-step-requires : tie.Need-write-step-requires Inv-loop μ-loop
 write-step-requires c κs =
@@ -47,21 +50,21 @@ write-step-requires c κs =
     let l = here t .loop in
     let ready = start t .pre .0 in
     let good = ap stepNumber (lent-step (steps t) (l .k)) ∙ ready .accepted (l .k) (t .loop-test .taken) in
-    record { floor-full = ready .floor-full; accepted = good; sheet-full = l .inv .1 .0 }
+    record { floor-full = ready .floor-full; accepted = good; sheet-full = l .inv .sheet-full }
 
 loop-again : tie.Need-loop-again Inv-loop μ-loop
 loop-again c =
     let wrote = c .before .before in
     let t = wrote .before .before .before .before in
     let l = here t .loop in
-    let a = start t .args in (
-      omega (arith, t .loop-test .taken),
-      (
-        omega arith,
-        l .inv .1 .1 ∙ from-more (a .sight) (now (a .floor)) (steps t) (t .loop-test .taken) (lent-step (steps t) (l .k)) (l .previous) (l .sheet)
-            (wrote .write-step .ensures .0) (wrote .write-step .ensures .1),
-      ),
-    )
+    let a = start t .args in
+    record {
+      in-list = omega (arith, t .loop-test .taken);
+      sheet-full = omega (arith, l .inv .sheet-full);
+      comes-to =
+          l .inv .comes-to ∙ from-more (a .sight) (now (a .floor)) (steps t) (t .loop-test .taken) (lent-step (steps t) (l .k)) (l .previous) (l .sheet)
+          (wrote .write-step .ensures .0) (wrote .write-step .ensures .1);
+    }
 
 returns : tie.Need-returns Inv-loop μ-loop
 returns c =
@@ -70,7 +73,7 @@ returns c =
     let s = left .before .before .before in
     let steps = now (s .args .steps) in
     let done : length steps / 8 ≤ l .k = omega arith in
-    sym (l .inv .1 .1 ∙ from-last (s .args .sight) (now (s .args .floor)) steps (l .k) done (ltb 0 (l .k)) (l .previous) (l .sheet))
+    sym (l .inv .comes-to ∙ from-last (s .args .sight) (now (s .args .floor)) steps (l .k) done (ltb 0 (l .k)) (l .previous) (l .sheet))
 
 pub write-steps-spec : {M : Type 1} → statement M
 write-steps-spec = tie.close (tie.spec
