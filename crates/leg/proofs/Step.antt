@@ -1,5 +1,6 @@
 -- One step of a leg, and step after step.
 --     made-target              the target that the program makes of a parsed step is the step's, is inside the sector, and is closed where it is
+--     made-at                  so of a step of a leg, as it is lent out of the leg's bytes
 --     built-step               the field that the program builds of it is the step's
 --     wrote-step               what writing the step leaves, where its sector's part is lent
 --     from-first, from-more, from-last    planning step after step: before the first, a step more, and behind the last
@@ -9,7 +10,7 @@
 use mathlib.Core.Path.{_≡_, sym, ap, ap₂, subst, _∙_}
 use mathlib.Core.Bool.{Bool, true, false, _&&_, _||_}
 use mathlib.Core.List.{List, [], _++_}
-use Prim.Native.Nat.{ℕ, _+_, _*_, _/_, _<_, _≤_}
+use Prim.Native.Nat.{ℕ, _+_, _-_, _*_, _/_, _<_, _≤_}
 use native.Mathlib.Omega.{arith}
 use lib.Dec.{eqb, ltb}
 use lib.ListN.{length, take, drop}
@@ -30,9 +31,14 @@ use Rattle.leg_counting.specs.Inner.{routeLegTarget}
 use Rattle.leg_counting.proofs.Counting.{leg-target-in, made-is, closed-listed}
 use Rattle.step_list.specs.Steps.{stepsOf}
 use Rattle.step_list.specs.Inner.{stepAt}
-use Rattle.step_list.proofs.Steps.{stepsFrom, from-start, from-here, from-done}
+use Rattle.step_list.proofs.Steps.{stepsFrom, lent-step, from-start, from-here, from-done}
 use Rattle.leg_plan.specs.Leg.{part, stepField, stepBytes, closedFrom, someClosed, withPart, plannedFrom, planned}
+use Rattle.leg_plan.specs.Inner.{LegReady}
 use Rattle.leg_plan.proofs.Sheet.{from-none, closed-from-none}
+
+-- the program's test of a target: a window without cells
+abbrev foundClosed : program.Target → Bool
+foundClosed t = t .«has_window» && eqb (t .window .count) 0
 
 -- a step as the program holds it, parsed and with its target; and the program finds a window closed exactly where it is
 pub record StepTarget (sight : Bool) (step : List ℕ) (has : Bool) (previous : List ℕ) (s : RouteStep) (t : program.Target) : Type 0 where
@@ -40,7 +46,7 @@ pub record StepTarget (sight : Bool) (step : List ℕ) (has : Bool) (previous : 
   pub sector-in : s .sector < 64
   pub is : heldTarget t ≡ legTarget sight has previous step
   pub held : TargetHeld t
-  pub closed-is : (t .«has_window» && eqb (t .window .count) 0) ≡ isClosed (legTarget sight has previous step)
+  pub closed-is : foundClosed t ≡ isClosed (legTarget sight has previous step)
 
 pub made-target : (sight : Bool) (step : List ℕ) → stepNumber step ≡ 0 → (has : Bool) (previous : List ℕ) {s : RouteStep} {t : program.Target}
     → s ≡ routeStep step → t ≡ listedTarget (routeLegTarget s sight has previous) → StepTarget sight step has previous s t
@@ -52,8 +58,18 @@ made-target sight step accepted has previous {s} {t} parsed made =
       sector-in = rw parsed (accepted-step step accepted .sector-in);
       is = ap heldTarget is ∙ held-listed target;
       held = subst TargetHeld (sym is) (listed-held target (leg-target-in sight has previous step accepted));
-      closed-is = ap (λ (u : program.Target). u .«has_window» && eqb (u .window .count) 0) is ∙ closed-listed target;
+      closed-is = ap foundClosed is ∙ closed-listed target;
     }
+
+-- a step as it is lent out of the bytes of a leg, and that step as it is held
+abbrev pub lent : List ℕ → ℕ → List ℕ
+lent steps k = take (k * 8 + 8 - k * 8) (drop (k * 8) steps)
+
+pub made-at : (sight : Bool) {floor : List ℕ} (steps : List ℕ) → LegReady floor steps → (k : ℕ) → k < length steps / 8 → (previous : List ℕ)
+    {s : RouteStep} {t : program.Target} → s ≡ routeStep (lent steps k) → t ≡ listedTarget (routeLegTarget s sight (ltb 0 k) previous)
+    → StepTarget sight (lent steps k) (ltb 0 k) previous s t
+made-at sight steps ready k h previous parsed made =
+    made-target sight (lent steps k) (ap stepNumber (lent-step steps k) ∙ ready .accepted k h) (ltb 0 k) previous parsed made
 
 -- the field that is built of it
 module _ (sight : Bool) (floor step : List ℕ) (has : Bool) (previous : List ℕ) {s : RouteStep} {t : program.Target}
@@ -91,20 +107,19 @@ module _ (sight : Bool) (floor steps : List ℕ) where
     unfolding plannedFrom
     from-more sheet p q = rw (from-here steps k h, p, q, e, lt-ltb 0 (k + 1) (omega arith))
 
-    shut-at : {s : RouteStep} {t : program.Target} → StepTarget sight step (ltb 0 k) previous s t → {b : Bool} → b ≡ (t .«has_window» && eqb (t .window .count) 0)
-        → closedFrom sight floor (stepsFrom steps k) (ltb 0 k) previous
-        ≡ (b || closedFrom sight floor (stepsFrom steps (k + 1)) true (stepField sight floor (ltb 0 k) previous step))
-    unfolding closedFrom
-    shut-at p c = rw (from-here steps k h, c, p .closed-is, e)
+    -- and the program's test of its target
+    module _ {s : RouteStep} {t : program.Target} (p : StepTarget sight step (ltb 0 k) previous s t) {b : Bool} (c : b ≡ foundClosed t) where
+      shut-at : closedFrom sight floor (stepsFrom steps k) (ltb 0 k) previous
+          ≡ (b || closedFrom sight floor (stepsFrom steps (k + 1)) true (stepField sight floor (ltb 0 k) previous step))
+      unfolding closedFrom
+      shut-at = rw (from-here steps k h, c, p .closed-is, e)
 
-    pub shut-here : {s : RouteStep} {t : program.Target} → StepTarget sight step (ltb 0 k) previous s t → {b : Bool} → b ≡ (t .«has_window» && eqb (t .window .count) 0)
-        → b ≡ true → closedFrom sight floor (stepsFrom steps k) (ltb 0 k) previous ≡ true
-    shut-here p c z = shut-at p c ∙ rw z
+      pub shut-here : b ≡ true → closedFrom sight floor (stepsFrom steps k) (ltb 0 k) previous ≡ true
+      shut-here z = shut-at ∙ rw z
 
-    pub shut-more : {s : RouteStep} {t : program.Target} → StepTarget sight step (ltb 0 k) previous s t → {b : Bool} → b ≡ (t .«has_window» && eqb (t .window .count) 0)
-        → b ≡ false → {cells : List ℕ} → cells ≡ stepField sight floor (ltb 0 k) previous step
-        → closedFrom sight floor (stepsFrom steps k) (ltb 0 k) previous ≡ closedFrom sight floor (stepsFrom steps (k + 1)) (ltb 0 (k + 1)) cells
-    shut-more p c z q = shut-at p c ∙ rw (z, q, lt-ltb 0 (k + 1) (omega arith))
+      pub shut-more : b ≡ false → {cells : List ℕ} → cells ≡ stepField sight floor (ltb 0 k) previous step
+          → closedFrom sight floor (stepsFrom steps k) (ltb 0 k) previous ≡ closedFrom sight floor (stepsFrom steps (k + 1)) (ltb 0 (k + 1)) cells
+      shut-more z q = shut-at ∙ rw (z, q, lt-ltb 0 (k + 1) (omega arith))
 
   -- behind the last step
   pub from-last : (k : ℕ) → length steps / 8 ≤ k → (has : Bool) (previous sheet : List ℕ)

@@ -1,19 +1,18 @@
 -- `leg::is_some_closed` meets its contract. The loop's invariant: a window of the leg is closed exactly if one from place k on is, with the built
 -- cells of the step before.
 -- Assumes nothing.
-use mathlib.Core.Path.{_≡_, refl, sym, ap, _∙_}
+use mathlib.Core.Path.{_≡_, refl, sym, _∙_}
 use mathlib.Core.List.{List}
-use Prim.Native.Nat.{ℕ, _+_, _-_, _*_, _/_, _≤_}
+use Prim.Native.Nat.{ℕ, _+_, _-_, _/_, _≤_}
 use native.Mathlib.Omega.{arith}
 use denote.Ref.{now}
 use borrow.Author.Needs.{needs}
-use lib.ListN.{length, take, drop}
+use lib.ListN.{length}
 use lib.Dec.{ltb}
-use Rattle.route.specs.Step.{stepNumber}
 use Rattle.step_list.specs.Steps.{stepsOf}
 use Rattle.step_list.proofs.Steps.{stepsFrom, lent-step}
 use Rattle.leg_plan.specs.Leg.{closedFrom, someClosed}
-use Rattle.leg.proofs.Step.{StepTarget, made-target, built-step, shut-first, shut-here, shut-more, shut-last}
+use Rattle.leg.proofs.Step.{StepTarget, lent, made-at, built-step, shut-first, shut-here, shut-more, shut-last}
 use Rattle.leg.proofs.is_some_closed.Statement.{statement}
 use Rattle.leg.proofs.is_some_closed.Tie as tie
 
@@ -40,16 +39,13 @@ start t = here t .before .before .before
 abbrev steps : Targeted → List ℕ
 steps t = now (start t .args .steps)
 
--- the step as it is lent, which is the leg's and is not refused, and as it is held
-abbrev step : Targeted → List ℕ
-step t = let at = here t .loop .k * 8 in take (at + 8 - at) (drop at (steps t))
-
+-- the step as it is held
 made : (t : Targeted) → let l = here t .loop in
-    StepTarget (start t .args .sight) (step t) (ltb 0 (l .k)) (l .previous) (t .before .before .new .result) (t .leg-target .result)
+    StepTarget (start t .args .sight) (lent (steps t) (l .k)) (ltb 0 (l .k)) (l .previous) (t .before .before .new .result) (t .leg-target .result)
 made t =
     let l = here t .loop in
-    let accepted = ap stepNumber (lent-step (steps t) (l .k)) ∙ start t .pre .accepted (l .k) (tested t .loop-test .taken) in
-    made-target (start t .args .sight) (step t) accepted (ltb 0 (l .k)) (l .previous) (t .before .before .new .ensures) (t .leg-target .ensures)
+    made-at (start t .args .sight) (steps t) (start t .pre) (l .k) (tested t .loop-test .taken) (l .previous)
+    (t .before .before .new .ensures) (t .leg-target .ensures)
 
 loop-holds : tie.Need-loop-holds Inv-loop μ-loop
 loop-holds c =
@@ -96,7 +92,7 @@ loop-again c =
       omega (arith, tested t .loop-test .taken),
       l .inv .1 ∙ shut-more (a .sight) floor (steps t) (tested t .loop-test .taken) (lent-step (steps t) (l .k)) (l .previous)
           (made t) (closed .is-closed .ensures) (still .if1 .left)
-          (built-step (a .sight) floor (step t) (ltb 0 (l .k)) (l .previous) (made t) (built .build-step .ensures)),
+          (built-step (a .sight) floor (lent (steps t) (l .k)) (ltb 0 (l .k)) (l .previous) (made t) (built .build-step .ensures)),
     )
 
 returns-3 : tie.Need-returns-3 Inv-loop μ-loop

@@ -1,16 +1,15 @@
 -- `leg_field::cells_before` meets its contract. The loop's invariant: the built cells of the step before place k are held.
 -- Assumes nothing.
-use mathlib.Core.Path.{_≡_, ap, _∙_}
+use mathlib.Core.Path.{_≡_, _∙_}
 use mathlib.Core.List.{List}
-use Prim.Native.Nat.{ℕ, _+_, _-_, _*_, _/_, _≤_, _<_}
+use Prim.Native.Nat.{ℕ, _-_, _/_, _≤_, _<_}
 use native.Mathlib.Omega.{arith}
 use denote.Ref.{now}
 use lib.Dec.{ltb}
-use lib.ListN.{length, take, drop}
+use lib.ListN.{length}
 use borrow.Author.Needs.{needs}
-use Rattle.route.specs.Step.{stepNumber}
 use Rattle.step_list.proofs.Steps.{lent-step}
-use Rattle.leg.proofs.Step.{StepTarget, made-target}
+use Rattle.leg.proofs.Step.{StepTarget, lent, made-at}
 use Rattle.leg_field.specs.Inner.{Handed}
 use Rattle.leg_field.proofs.Built.{handed-on}
 use Rattle.leg_field.proofs.cells_before.Statement.{statement}
@@ -41,16 +40,12 @@ steps t = now (start t .args .steps)
 inside : (t : Targeted) → here t .loop .k < length (steps t) / 8
 inside t = omega (arith, tested t .loop-test .taken, start t .pre .1)
 
--- the step as it is lent, which is the leg's and is not refused, and as it is held
-abbrev step : Targeted → List ℕ
-step t = let at = here t .loop .k * 8 in take (at + 8 - at) (drop at (steps t))
-
+-- the step as it is held
 made : (t : Targeted) → let l = here t .loop in
-    StepTarget (start t .args .sight) (step t) (ltb 0 (l .k)) (l .previous) (t .before .before .new .result) (t .leg-target .result)
+    StepTarget (start t .args .sight) (lent (steps t) (l .k)) (ltb 0 (l .k)) (l .previous) (t .before .before .new .result) (t .leg-target .result)
 made t =
     let l = here t .loop in
-    let accepted = ap stepNumber (lent-step (steps t) (l .k)) ∙ start t .pre .0 .accepted (l .k) (inside t) in
-    made-target (start t .args .sight) (step t) accepted (ltb 0 (l .k)) (l .previous) (t .before .before .new .ensures) (t .leg-target .ensures)
+    made-at (start t .args .sight) (steps t) (start t .pre .0) (l .k) (inside t) (l .previous) (t .before .before .new .ensures) (t .leg-target .ensures)
 
 build-step-requires : tie.Need-build-step-requires Inv-loop μ-loop
 build-step-requires c κs = record { floor-full = start c .pre .0 .floor-full; sector-in = made c .sector-in; target-held = made c .held }

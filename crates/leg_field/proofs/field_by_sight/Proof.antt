@@ -1,22 +1,21 @@
 -- `leg_field::field_by_sight` meets its contract: refused by its number, or the field of the step at the place.
 -- Assumes nothing.
-use mathlib.Core.Path.{_≡_, sym, ap, _∙_}
+use mathlib.Core.Path.{_≡_, sym, _∙_}
 use mathlib.Core.Bool.{Bool}
 use mathlib.Core.List.{List}
-use Prim.Native.Nat.{ℕ, _+_, _-_, _*_, _/_, _<_}
+use Prim.Native.Nat.{ℕ, _/_, _<_}
 use native.Mathlib.Omega.{arith}
 use denote.Ref.{now}
 use lib.Dec.{ltb}
-use lib.ListN.{length, take, drop}
+use lib.ListN.{length}
 use Rattle.route.specs.Table.{firstNumber}
-use Rattle.route.specs.Step.{stepNumber}
 use Rattle.step_list.proofs.Steps.{steps-count, lent-step}
 use Rattle.leg_plan.specs.Inner.{LegReady}
 use Rattle.leg_plan.proofs.Numbers.{ready}
 use Rattle.leg_field.specs.Field.{fieldRows, fieldNumberBy}
 use Rattle.leg_field.proofs.Numbers.{place-in, judged-so, judged-0, none-closed, refuses, accepts}
 use Rattle.leg_field.proofs.Built.{answer-at}
-use Rattle.leg.proofs.Step.{StepTarget, made-target}
+use Rattle.leg.proofs.Step.{StepTarget, lent, made-at}
 use borrow.Author.Needs.{needs}
 use Rattle.leg_field.proofs.field_by_sight.Statement.{statement}
 use Rattle.leg_field.proofs.field_by_sight.Tie as tie
@@ -50,13 +49,6 @@ module _ (e : tie.Else1) where
   leg-ready : LegReady floor steps
   leg-ready = ready (judged-so floor steps place judged)
 
-  -- the step as it is lent
-  abbrev step : List ℕ
-  step = take (place * 8 + 8 - place * 8) (drop (place * 8) steps)
-
-  accepted : stepNumber step ≡ 0
-  accepted = ap stepNumber (lent-step steps place) ∙ leg-ready .accepted place below
-
 -- where its target is made: the cells that are handed to it, where the number is 0, and the step as it is held
 abbrev before : tie.After-leg-target → tie.After-cells-before
 before t = t .before .before .before .before
@@ -65,10 +57,10 @@ abbrev open-leg : tie.After-leg-target → tie.Else1
 open-leg t = before t .before
 
 made : (t : tie.After-leg-target) → let e = open-leg t in
-    StepTarget (sight e) (step e) (ltb 0 (place e)) (before t .cells-before .result) (t .before .before .new .result) (t .leg-target .result)
+    StepTarget (sight e) (lent (steps e) (place e)) (ltb 0 (place e)) (before t .cells-before .result) (t .before .before .new .result) (t .leg-target .result)
 made t =
     let e = open-leg t in
-    made-target (sight e) (step e) (accepted e) (ltb 0 (place e)) (before t .cells-before .result) (t .before .before .new .ensures) (t .leg-target .ensures)
+    made-at (sight e) (steps e) (leg-ready e) (place e) (below e) (before t .cells-before .result) (t .before .before .new .ensures) (t .leg-target .ensures)
 
 returns : tie.Need-returns
 returns c =
