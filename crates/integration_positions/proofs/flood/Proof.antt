@@ -83,7 +83,7 @@ abbrev μ-loop : tie.MeasureT-loop
 loop-holds : tie.Need-loop-holds Inv-loop μ-loop
 loop-holds c = record {
   room = c .pre .room;
-  within = c .pre .behind;
+  within = omega (arith, c .pre .behind);
   turned = λ costs before corners values s f m w d. record { state = s; stands = m; written = w; grown = grown-none s; flood = d };
 }
 
