@@ -60,6 +60,21 @@ pub fn word_at(bytes: &[u8], at: usize) -> u32
     first + 256 * second + 65536 * third + 16777216 * fourth
 }
 
+// Whether numbers, a hundred at most, are those that stand one after the other in 32 bits each.
+pub fn same_words(words: &[u32], bytes: &[u8]) -> bool {
+    if 100 < words.len() {
+        return false;
+    }
+    let mut i = 0;
+    while i < words.len() {
+        if words[i] != word_at(bytes, 4 * i) {
+            return false;
+        }
+        i += 1;
+    }
+    true
+}
+
 // A sum of bytes that the change of any one of them changes: 257 and the modulus, a prime, share no factor.
 pub fn summed(before: u64, bytes: &[u8]) -> u64 {
     let mut sum = before % 4294967291;
