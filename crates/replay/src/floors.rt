@@ -1,20 +1,8 @@
 // The records of bounds: two floors and a step.
 use replay_records::byte_at;
 use replay_records::part;
+use replay_records::same_words;
 use replay_records::usize_at;
-use replay_records::word_at;
-
-// Whether a hundred costs are those that stand in 32 bits each.
-fn same_costs(costs: [u32; 100], bytes: &[u8]) -> bool {
-    let mut i = 0;
-    while i < 100 {
-        if costs[i] != word_at(bytes, 4 * i) {
-            return false;
-        }
-        i += 1;
-    }
-    true
-}
 
 // Whether a hundred marks are those that stand in a byte each.
 fn same_marks(marks: [bool; 100], bytes: &[u8]) -> bool {
@@ -45,7 +33,7 @@ pub fn bounds_agree(record: &[u8]) -> bool {
     let greatest = found.greatest;
     let sure = found.sure;
     found.number == byte_at(record, 214)
-        && same_costs(least, part(record, 215, 615))
-        && same_costs(greatest, part(record, 615, 1015))
+        && same_words(&least, part(record, 215, 615))
+        && same_words(&greatest, part(record, 615, 1015))
         && same_marks(sure, part(record, 1015, 1115))
 }

@@ -1,6 +1,7 @@
 // The records of window costs and of tours: the costs of a sector and the steps of its windows.
 use replay_records::byte_at;
 use replay_records::part;
+use replay_records::same_words;
 use replay_records::short_at;
 use replay_records::usize_at;
 use replay_records::word_at;
@@ -8,14 +9,7 @@ use window_square::WindowRow;
 
 // Whether the eight costs of a row are those that stand in 32 bits each.
 fn same_row(costs: [u32; 8], bytes: &[u8]) -> bool {
-    let mut j = 0;
-    while j < 8 {
-        if costs[j] != word_at(bytes, 4 * j) {
-            return false;
-        }
-        j += 1;
-    }
-    true
+    same_words(&costs, bytes)
 }
 
 // Whether eight rows are those that stand one after the other.
@@ -47,18 +41,6 @@ pub fn costs_agree(record: &[u8]) -> bool {
     found.number == byte_at(record, 239) && same_rows(rows, part(record, 240, 496))
 }
 
-// Whether the eight places of an order are those that stand in a byte each.
-fn same_order(order: [u8; 8], bytes: &[u8]) -> bool {
-    let mut i = 0;
-    while i < 8 {
-        if order[i] != byte_at(bytes, i) {
-            return false;
-        }
-        i += 1;
-    }
-    true
-}
-
 // A record: lengths of costs and steps, limit, 101 bytes for the costs, 136 for the steps; number, whether an order is
 // found, the order, its sum, the number tried and the least figure.
 pub fn tour_agrees(record: &[u8]) -> bool {
@@ -75,7 +57,7 @@ pub fn tour_agrees(record: &[u8]) -> bool {
     let order = found.order;
     found.number == byte_at(record, 241)
         && found.found as u8 == byte_at(record, 242)
-        && same_order(order, part(record, 243, 251))
+        && check::same(&order, part(record, 243, 251))
         && found.sum == word_at(record, 251)
         && found.tried == word_at(record, 255)
         && found.least == word_at(record, 259)
