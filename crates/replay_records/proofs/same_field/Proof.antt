@@ -1,3 +1,5 @@
+-- How `replay_records` is proved. Its one promise is that a field which is called the same agrees with the recorded bytes: each comparison that
+-- passes is one place more that agrees, and one that fails answers false. The other loops only count up to the end of their array.
 -- `replay_records::same_field` meets its contract. The loop's invariant: the cells before place i are the same.
 -- Assumes nothing.
 use native.Mathlib.Omega.{arith}
