@@ -173,7 +173,8 @@ module _ (step previous : List ℕ) (good : stepNumber step ≡ 0) (on : isWindo
       higher : (eqb x (lastOf step) ≡ false) × (facingValue previous side (x + stride side) < 65535) → CountingCell step previous x
       higher s =
           let p = pairs side x (lastOf step) (w .last-in) (on-side c) (w .last-on) (omega (arith, c .to, eqb-false x (lastOf step) (s .0))) in
-          let d = in-window (c .mark) (x + stride side) (omega (arith, p .stride-ahead, w .last-in)) (p .on-after) (omega (arith, c .from)) (p .stride-ahead) in
+          let inside : x + stride side < 100 = omega (arith, p .stride-ahead, w .last-in) in
+          let d = in-window (c .mark) (x + stride side) inside (p .on-after) (omega (arith, c .from)) (p .stride-ahead) in
           let q = pairs side x (x + stride side) (d .inside) (on-side c) (p .on-after) (omega (arith, stride-within side .0)) in
           by-cell c (x + stride side) d (q .stride-next refl) (s .1)
 

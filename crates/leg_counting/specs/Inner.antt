@@ -11,4 +11,5 @@ use Rattle.leg_counting.specs.Counting.{counts}
 
 abbrev pub routeLegTarget : RouteStep → Bool → Bool → List ℕ → Target
 routeLegTarget s sight false previous = bySight sight (routeTarget s)
-routeLegTarget s sight true previous = to-window (select (counts (s .portal) previous) (cellsBetween (s .portal .boundary) (s .portal .start) (s .portal .end)))
+routeLegTarget s sight true previous =
+    to-window (select (counts (s .portal) previous) (cellsBetween (s .portal .boundary) (s .portal .start) (s .portal .end)))

@@ -25,7 +25,8 @@ use Rattle.leg_file.specs.Promise.{ReadBack, WrittenSame, PartOf}
 
 pub is-list : (k : ℕ) (steps : List ℕ) → 1 ≤ k → k ≤ 16 → length steps ≡ 8 * k → noStepList steps ≡ false
 unfolding noStepList
-is-list k steps some few e = rw (ne-eqb (length steps) 0 (λ z. omega arith), le-ltb 128 (length steps) (omega arith), eq-eqb (length steps % 8) 0 (omega arith))
+is-list k steps some few e =
+    rw (ne-eqb (length steps) 0 (λ z. omega arith), le-ltb 128 (length steps) (omega arith), eq-eqb (length steps % 8) 0 (omega arith))
 
 -- ---- a file that is taken
 

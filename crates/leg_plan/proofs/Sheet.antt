@@ -158,7 +158,8 @@ module _ (sight : Bool) (floor : List ℕ) where
 
   -- the sector of the step at place k holds what that step wrote, since no later one names it
   written-from : (ss : List (List ℕ)) (has : Bool) (previous : List ℕ) {sheet : List ℕ} → Fits ss sheet → namesTwice ss ≡ false → (k : ℕ) → k < length ss
-      → part (plannedFrom sight floor ss has previous sheet) (sectorAt ss k) ≡ stepBytes sight floor (hasFrom has k) (fieldFrom ss has previous k) (stepOf ss k)
+      → part (plannedFrom sight floor ss has previous sheet) (sectorAt ss k)
+      ≡ stepBytes sight floor (hasFrom has k) (fieldFrom ss has previous k) (stepOf ss k)
   unfolding plannedFrom fieldFrom
   written-from [] has previous fits once k h = absurd (omega arith)
   written-from (s ∷ ss) has previous fits once zero h =
@@ -175,7 +176,8 @@ module _ (sight : Bool) (floor : List ℕ) where
   field-at : (ss : List (List ℕ)) (k : ℕ) → k < length ss → fieldFrom ss false [] (suc k) ≡ builtAt sight floor ss k
   unfolding builtAt
   field-at ss zero h = field-next ss false [] zero h ∙ ap (λ (f : List ℕ). stepField sight floor false f (stepOf ss zero)) (field-here ss false [])
-  field-at ss (suc k) h = field-next ss false [] (suc k) h ∙ ap (λ (f : List ℕ). stepField sight floor true f (stepOf ss (suc k))) (field-at ss k (omega arith))
+  field-at ss (suc k) h =
+      field-next ss false [] (suc k) h ∙ ap (λ (f : List ℕ). stepField sight floor true f (stepOf ss (suc k))) (field-at ss k (omega arith))
 
   pub written : (ss : List (List ℕ)) {sheet : List ℕ} → Fits ss sheet → namesTwice ss ≡ false → (k : ℕ) → k < length ss
       → part (plannedFrom sight floor ss false [] sheet) (sectorAt ss k)

@@ -111,7 +111,8 @@ module _ (sight : Bool) (floor steps sheet : List ℕ) where
     where
       to : (a b c : Bool) → eqb (length floor) 6400 ≡ a → eqb (length sheet) 6400 ≡ b → noStepList steps ≡ c
           → cond (not a) 1 (cond (not b) 2 (cond c 3 (firstNumber ((eachRows floor (stepsOf steps)
-          ++ (row 9 (outOfOrder (stepsOf steps)) ∷ row 10 (disconnected (stepsOf steps)) ∷ [])) ++ (row 15 (someClosed sight floor (stepsOf steps)) ∷ []))))) ≡ 16
+          ++ (row 9 (outOfOrder (stepsOf steps)) ∷ row 10 (disconnected (stepsOf steps)) ∷ []))
+          ++ (row 15 (someClosed sight floor (stepsOf steps)) ∷ []))))) ≡ 16
           → LegOnWall floor steps sheet
       to false b c p q r e = absurd (omega arith)
       to true false c p q r e = absurd (omega arith)

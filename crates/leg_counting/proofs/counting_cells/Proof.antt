@@ -60,9 +60,6 @@ module _ (m : Looks) where
   within : place < 10
   within = omega (arith, more, window-in found .few)
 
-get-all-window-cells-requires : tie.Need-get-all-window-cells-requires Inv-loop μ-loop
-get-all-window-cells-requires c κs = search needs
-
 loop-holds : tie.Need-loop-holds Inv-loop μ-loop
 loop-holds c = (omega arith, record { cells-are = refl; count-is = refl; at-most = omega arith })
 
@@ -84,12 +81,6 @@ array-write-cells c = omega (arith, within (c .before .before))
 add-count : tie.Need-add-count Inv-loop μ-loop
 add-count c = omega (arith, within (c .before .before))
 
-add-place : tie.Need-add-place Inv-loop μ-loop
-add-place c = omega arith
-
-loop-less : tie.Need-loop-less Inv-loop μ-loop
-loop-less c = omega arith
-
 loop-again : tie.Need-loop-again Inv-loop μ-loop
 loop-again c =
     let m = c .before .before in
@@ -108,5 +99,5 @@ returns c = collected-all (c .before .loop .inv .1) (omega (arith, count-is (c .
 
 pub counting-cells-spec : {M : Type 1} → statement M
 counting-cells-spec = tie.close (tie.spec
-    Inv-loop μ-loop get-all-window-cells-requires loop-holds mul-cell array-read-cell counts-requires mul-cells array-write-cells add-count add-place
-    loop-less loop-again returns)
+    Inv-loop μ-loop (λ c κs. search needs) loop-holds mul-cell array-read-cell counts-requires mul-cells array-write-cells add-count
+    (λ c. omega arith) (λ c. omega arith) loop-again returns)
