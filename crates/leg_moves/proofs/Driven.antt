@@ -75,7 +75,9 @@ module _ (sight : Bool) (floor steps before sheet : List ℕ) (l : LegSheet sigh
 
   sheet-full : length sheet ≡ 6400
   sheet-full =
-      ap length sheet-is ∙ plan.leg-planned sight floor steps before (ready judged) (judged .sheet-full) (judged .ordered) (l .byte) .same-length ∙ judged .sheet-full
+      ap length sheet-is
+      ∙ plan.leg-planned sight floor steps before (ready judged) (judged .sheet-full) (judged .ordered) (l .byte) .same-length
+      ∙ judged .sheet-full
 
   -- a cell of the sector of step k
   module _ (k : ℕ) (h : k < length (stepsOf steps)) (x : ℕ) (g : x < 100) where

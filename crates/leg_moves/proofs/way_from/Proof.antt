@@ -64,17 +64,8 @@ loop-holds c = record { on = c .before .pre .1; few = omega arith; walk = stays 
 move-from-requires : tie.Need-move-from-requires Inv-loop μ-loop
 move-from-requires c κs = (c .before .before .before .pre .0, here-on (c .before))
 
-enum-known-there : tie.Need-enum-known-there Inv-loop μ-loop
-enum-known-there c = search needs
-
-enum-told : tie.Need-enum-told Inv-loop μ-loop
-enum-told c = search needs
-
 byte-at-requires : tie.Need-byte-at-requires Inv-loop μ-loop
 byte-at-requires c κs = let at = head (asked-still c) in (at .before .before .pre .0, here-on at)
-
-still-outcome-requires : tie.Need-still-outcome-requires Inv-loop μ-loop
-still-outcome-requires c κs = search needs
 
 stood-at-requires : tie.Need-stood-at-requires Inv-loop μ-loop
 stood-at-requires c κs = here-on (head (asked-still (c .before .before)))
@@ -116,5 +107,5 @@ returns-2 c =
 
 pub way-from-spec : {M : Type 1} → statement M
 way-from-spec = tie.close (tie.spec
-    Inv-loop μ-loop loop-holds move-from-requires enum-known-there enum-told byte-at-requires still-outcome-requires stood-at-requires returns
-    add-moves loop-less loop-again stood-at-requires-2 returns-2)
+    Inv-loop μ-loop loop-holds move-from-requires (λ c. search needs) (λ c. search needs) byte-at-requires (λ c κs. search needs) stood-at-requires
+    returns add-moves loop-less loop-again stood-at-requires-2 returns-2)
