@@ -1,3 +1,6 @@
+-- How the writer is shown to leave the file of its steps. Its number is judged before the first byte is written (`write_number`). Then the head's six
+-- bytes are put one behind the other (`put_head`) and the steps are copied behind them (`put_steps`): that is the file (leg_file, `stored`).
+--
 -- `leg_writer::write` meets its contract: a number before the first write, or the head and the steps behind it.
 -- Assumes nothing.
 use denote.Ref.{now}
