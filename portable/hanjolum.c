@@ -31,6 +31,22 @@ void *memcpy(void *to, const void *from, size_t bytes);
 #define MAY_WRAP
 #endif
 
+/* A function that is called with a direction which is known at the call. */
+#if defined(__OPTIMIZE__) && !defined(__OPTIMIZE_SIZE__) && defined(__GNUC__)
+#define IN_LINE static inline __attribute__((always_inline))
+#else
+#define IN_LINE static inline
+#endif
+
+/* Before a loop of few turns: compilers that know the hint unroll it where they compile for speed. */
+#if defined(__OPTIMIZE__) && !defined(__OPTIMIZE_SIZE__) && defined(__clang__)
+#define UNROLL _Pragma("clang loop unroll(full)")
+#elif defined(__OPTIMIZE__) && !defined(__OPTIMIZE_SIZE__) && defined(__GNUC__)
+#define UNROLL _Pragma("GCC unroll 10")
+#else
+#define UNROLL
+#endif
+
 /* The sizes of the proved layout, by which offsets are counted. */
 _Static_assert(sizeof(HanjolumFieldCell) == 16, "HanjolumFieldCell is not 16 bytes");
 _Static_assert(sizeof(HanjolumWindowRow) == 32, "HanjolumWindowRow is not 32 bytes");
@@ -1272,7 +1288,7 @@ static inline bool integration_init__has_wall(const uint32_t *x1)
             break;
         }
         x4 = integration_init__is_wall_at(x1, x3);
-        x2 = x2 || x4;
+        x2 = x2 | x4;
         x3 = x3 + UINT64_C(1);
     }
     return x2;
@@ -1525,7 +1541,7 @@ static inline bool integration_bits__passes_wall(HanjolumFieldCell x1, HanjolumF
     }
     x9 = integration_bits__is_impassable(x3);
     x10 = integration_bits__is_impassable(x4);
-    return x9 || x10;
+    return x9 | x10;
 }
 
 /* integration_init::is_stopped */
@@ -1761,6 +1777,7 @@ static inline integration_init__Counts integration_init__look_around(
     uint64_t *x14;
     x9 = x4;
     x10 = UINT8_C(0);
+    UNROLL
     while (x10 < UINT8_C(4)) {
         x11 = utilities__CompassDir__from_boundary(x10);
         x13 = x1;
@@ -2008,7 +2025,7 @@ static inline bool integration_build__is_written(uint32_t x1, uint32_t x2)
 /* integration_build::is_first */
 static inline bool integration_build__is_first(bool x1, uint32_t x2, uint32_t x3)
 {
-    return x1 && (x2 == x3);
+    return x1 & (x2 == x3);
 }
 
 /* integration_build::relax */
@@ -2039,7 +2056,7 @@ static inline uint64_t integration_build__relax(
 }
 
 /* integration_build::offer_towards */
-static inline uint64_t integration_build__offer_towards(
+IN_LINE uint64_t integration_build__offer_towards(
     uint32_t *x1, const uint8_t *x2, const uint32_t *x3, uint8_t *x4, uint64_t x5, uint32_t x6, uint64_t x7,
     utilities__CompassDir x8)
 {
@@ -2226,7 +2243,7 @@ static inline uint64_t integration_positions__place_at(uint32_t *x1, uint8_t *x2
 }
 
 /* integration_positions::place_towards */
-static inline uint64_t integration_positions__place_towards(
+IN_LINE uint64_t integration_positions__place_towards(
     uint32_t *x1, uint8_t *x2, uint64_t x3, uint32_t x4, uint64_t x5, utilities__CompassDir x6)
 {
     HanjolumFieldCell x7;
@@ -2659,7 +2676,7 @@ static inline bool flow_build__is_kept(uint8_t x1)
     bool x2, x3;
     x2 = flow_bits__is_pathable(x1);
     x3 = flow_bits__is_impassable(x1);
-    return x2 || x3;
+    return x2 | x3;
 }
 
 /* flow_build::none_looks */
@@ -2675,7 +2692,7 @@ static inline bool flow_build__none_looks(slice_const_uint8_t x1)
             break;
         }
         x4 = flow_build__is_kept(*(x1.at + x3));
-        x2 = x2 && x4;
+        x2 = x2 & x4;
         x3 = x3 + UINT64_C(1);
     }
     return x2;
@@ -2740,7 +2757,7 @@ static inline bool flow_build__is_noted(uint32_t x1, uint32_t x2)
 {
     bool x3;
     x3 = x2 != UINT32_C(1);
-    return x3 && (x1 < x2);
+    return x3 & (x1 < x2);
 }
 
 /* flow_build::key_after */
@@ -2761,7 +2778,7 @@ static inline uint8_t flow_build__bits_after(uint32_t x1, uint32_t x2, uint8_t x
     bool x5;
     uint8_t x8;
     x5 = flow_build__is_noted(x1, x2);
-    if (x5 && (x1 != UINT32_C(1))) {
+    if (x5 & (x1 != UINT32_C(1))) {
         x8 = x3;
     } else {
         x8 = x4;
@@ -2811,6 +2828,7 @@ static inline void flow_build__look_from_row(
     HanjolumFieldCell x10;
     uint32_t *x11;
     x7 = UINT64_C(0);
+    UNROLL
     while (x7 < UINT64_C(10)) {
         x10 = (HanjolumFieldCell){ .column = x7, .row = x3 };
         x11 = x5;
@@ -2820,7 +2838,7 @@ static inline void flow_build__look_from_row(
 }
 
 /* flow_build::look_in_direction */
-static inline void flow_build__look_in_direction(
+IN_LINE void flow_build__look_in_direction(
     const uint32_t *x1, const uint32_t *x2, utilities__CompassDir x3, uint32_t *x4, uint8_t *x5)
 {
     uint64_t x6;
@@ -3179,7 +3197,7 @@ static inline bool flow_following__all_arrived(const uint16_t *x1, uint16_t x2)
     x5 = UINT64_C(0);
     while (x5 < UINT64_C(100)) {
         x8 = x5 * UINT64_C(2);
-        x4 = x4 && (*(const uint16_t *)((const uint8_t *)x1 + x8) < x3);
+        x4 = x4 & (*(const uint16_t *)((const uint8_t *)x1 + x8) < x3);
         x5 = x5 + UINT64_C(1);
     }
     return x4;
@@ -3453,7 +3471,7 @@ static inline bounds_told__PermittedCells bounds_sure__permitted_towards(
 }
 
 /* bounds_sure::permitted_along */
-static inline bounds_told__PermittedCells bounds_sure__permitted_along(
+IN_LINE bounds_told__PermittedCells bounds_sure__permitted_along(
     const uint32_t *x1, uint64_t x2, bounds_told__PermittedCells x3, utilities__CompassDir x4,
     utilities__CompassDir x5, utilities__CompassDir x6, utilities__CompassDir x7)
 {
@@ -3837,6 +3855,7 @@ static inline array_8_uint32_t window_columns__row_of(array_64_uint32_t x1, uint
     x3 = x1;
     x4 = (array_8_uint32_t){ { 0 } };
     x5 = UINT64_C(0);
+    UNROLL
     while (x5 < UINT64_C(8)) {
         x7 = x5 * UINT64_C(32);
         x9 = (const uint8_t *)x3.at + x7;
@@ -3905,6 +3924,7 @@ static inline array_8_HanjolumWindowRow window_columns__rows_of(array_64_uint32_
         x4.at[k1] = x3;
     }
     x5 = UINT64_C(0);
+    UNROLL
     while (x5 < UINT64_C(8)) {
         x9 = x5 * UINT64_C(32);
         memcpy(x12.at, (const uint32_t *)((const uint8_t *)x2.at + x9), sizeof x12.at);

@@ -21,8 +21,11 @@ The rules, by the names under which tools/portable/test tries them:
                 else, nothing was read of the array before, and nothing writes to it afterwards.
     tail        A function that calls itself as the last thing it does goes back to its beginning instead, where no local of its own is
                 lent to the call.
-    inline      Every function but an export is `static inline`.
+    inline      Every function but an export is `static inline`. One that is called with a direction, or another variant, that is written at
+                the call is IN_LINE: for gcc and clang, where they compile for speed, always in line; for others the same as the rest.
     exits       An exit of a block around a loop is a `break` where nothing else stands between, and a `goto` behind the block otherwise.
+    unroll      Before a loop of at most ten turns, by a constant, in which no other loop runs, and before any of at most four, stands UNROLL:
+                for gcc and clang, where they compile for speed, a hint, and nothing else.
     switch      The last case of a switch without a default is printed as its default: the proof says that no other value comes.
     kit         Nothing of the kit is printed. `std::num::wrapping_add_u32` is written here from its contract; any other is refused.
     refused     Every operation, type, statement or function that is not named in this file is refused by its name.
@@ -35,6 +38,7 @@ from mir import (count, element, every, inside, is_array, is_number, key, local_
                  without)
 
 WIDTHS = (8, 16, 32, 64)
+TURNS, TURNS_AROUND = 10, 4     # the hint to unroll: of a loop without another in it, and of any other
 LONGEST = 110           # a temporary is not left out where the text that stands for it would be longer
 
 # Unsigned operations on numbers, and those on bools; each with its sign in C.
@@ -42,7 +46,7 @@ ARITHMETIC = {"Add": "+", "Sub": "-", "Mul": "*", "Div": "/", "Rem": "%"}
 BITS = {"And": "&", "Or": "|"}
 ORDERS = {"Lt": "<", "Le": "<="}
 EQUALS = {"Eq": "==", "Ne": "!="}
-OF_BOOLS = {"And": "&&", "Or": "||"}
+OF_BOOLS = {"And": "&", "Or": "|"}
 SIGNED = {"Add": "signed_sum", "Mul": "signed_product", "Lt": "signed_less", "Le": "signed_at_most"}
 
 # The one function of the kit that is known: of its contract, the sum modulo 2 to the 32.
@@ -1010,6 +1014,7 @@ class Function:
             at += 1
         first = inner[at] if at < len(inner) else ("none",)
         if target is not None and first[0] == "if" and first[2] == [] and first[3] == [("exit", 1)]:
+            self.hint(inner[:at], inner[at + 1:])
             self.put(f"while ({self.operand(first[1])[0]}) {{")
             self.block_of(inner[at + 1:])
         else:
@@ -1019,11 +1024,23 @@ class Function:
         self.labels.pop()
         self.put("}")
 
+    def hint(self, condition, inner):
+        """The hint to unroll, by the number that a loop's counter is compared with."""
+        test = condition[-1][2] if condition else None
+        if test is None or key(test) != "Op2" or test["Op2"][0] != {"Lt": "Unsigned"} or key(test["Op2"][2]) != "Int":
+            return
+        turns = test["Op2"][2]["Int"]["value"]
+        around = any(s[0] == "loop" or s[0] == "call" and self.unit.runs_loop(s[1]) for s in every(inner))
+        if turns <= (TURNS_AROUND if around else TURNS):
+            self.unit.unrolls = True
+            self.put("UNROLL")
+
     # -- the whole
 
     def head(self):
         words = ", ".join(f"{self.space(self.types.c(self.locals[i]))}x{i}" for i in self.params)
-        return fold(f"static inline {self.answer()}{symbol(self.name)}(", words or "void", ")")
+        inline = "IN_LINE" if self.name in self.unit.told_variants else "static inline"
+        return fold(f"{inline} {self.answer()}{symbol(self.name)}(", words or "void", ")")
 
     @staticmethod
     def space(c):
@@ -1154,6 +1171,8 @@ class Unit:
                     refuse(f"two shapes of {t['name']}")
         self.types = Types(shapes, self.header)
         self.made_constants, self.helpers, self.fillers, self.memcpy = {}, [], {}, False
+        self.loops, self.unrolls = {}, False
+        self.told_variants = {called for name in self.reached for called in self.tells_variants(name)}
 
     def calls(self, name):
         return [s["Call"][0]["Direct"] for s in self.functions[name]["body"] if key(s) == "Call" and key(s["Call"][0]) == "Direct"]
@@ -1173,6 +1192,24 @@ class Unit:
         if name not in self.helpers:
             self.helpers.append(name)
         return name
+
+    def tells_variants(self, name):
+        """The functions that a function calls with a variant that it writes down itself."""
+        types, body = [x["ty"] for x in self.functions[name]["locals"]], list(every(tree(self.functions[name]["body"])))
+
+        def is_told(x):
+            made = [s for s in body if s[0] == "assign" and s[1]["local"] == x or s[0] == "call" and s[3]["local"] == x]
+            return key(types[x]) == "Named" and "Variants" in self.types.shapes[types[x]["Named"]["name"]] and made and all(
+                s[0] == "assign" and key(s[2]) == "Aggregate" for s in made)
+
+        return {s[1] for s in body if s[0] == "call" for o in s[2] if local_of(o) is not None and is_told(local_of(o))}
+
+    def runs_loop(self, name):
+        """Whether a loop runs in a function, or in one that it calls."""
+        if name not in self.loops:
+            self.loops[name] = name in self.functions and (
+                "Loop" in self.functions[name]["body"] or any(self.runs_loop(c) for c in self.calls(name) if c != name))
+        return self.loops[name]
 
     def copies(self):
         self.memcpy = True
@@ -1236,6 +1273,16 @@ class Unit:
             lines += ["/* On the functions whose sum or product may pass 2 to the 32 or 2 to the 64: clang can be asked to report such a one. */",
                       "#if defined(__clang__)", '#define MAY_WRAP __attribute__((no_sanitize("unsigned-integer-overflow")))', "#else",
                       "#define MAY_WRAP", "#endif", ""]
+        if self.told_variants:
+            lines += ["/* A function that is called with a direction which is known at the call. */",
+                      "#if defined(__OPTIMIZE__) && !defined(__OPTIMIZE_SIZE__) && defined(__GNUC__)",
+                      "#define IN_LINE static inline __attribute__((always_inline))", "#else", "#define IN_LINE static inline", "#endif", ""]
+        if self.unrolls:
+            lines += ["/* Before a loop of few turns: compilers that know the hint unroll it where they compile for speed. */",
+                      "#if defined(__OPTIMIZE__) && !defined(__OPTIMIZE_SIZE__) && defined(__clang__)",
+                      '#define UNROLL _Pragma("clang loop unroll(full)")',
+                      "#elif defined(__OPTIMIZE__) && !defined(__OPTIMIZE_SIZE__) && defined(__GNUC__)",
+                      f'#define UNROLL _Pragma("GCC unroll {TURNS}")', "#else", "#define UNROLL", "#endif", ""]
         lines += ["/* The sizes of the proved layout, by which offsets are counted. */"]
         lines += [f'_Static_assert(sizeof({c}) == {size}, "{c} is not {size} bytes");' for c, size in sorted(self.types.elements.items())]
         lines += [""]
