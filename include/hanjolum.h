@@ -1,14 +1,17 @@
 /*
  * Hanjolum: integration fields and flow fields of a sector, and legs over several sectors.
  *
- * Link libhanjolum.a: an ELF archive for x86-64 with System V calls (Linux, the BSDs). It needs memcpy and memset, and
- * nothing else. Another machine or object format (Arm, Windows, macOS) needs an archive of its own, and a compiler for it:
- * the kit that proves this one writes x86-64 ELF alone. Steps, floors, sheets and leg files are bytes, the same everywhere;
- * the structs below are not for carrying.
+ * There are two forms of it, and both go with this header.
+ *     libhanjolum.a         the proved program, compiled by the kit that proves it: an ELF archive for x86-64 with System V
+ *                           calls (Linux, the BSDs). It needs memcpy and memset, and nothing else.
+ *     portable/hanjolum.c   the proved program printed as C11, one file for every machine: compile it with your own compiler.
+ *                           It needs memcpy, memmove and memset where the compiler calls them, and the compiler's own helpers,
+ *                           as for a division of 64 bits on a small machine. The printing and your compiler are not proved.
+ * Steps, floors, sheets and leg files are bytes, the same everywhere; the structs below are not for carrying.
  *
- * Version.  This header, the archive and the crate in bindings/rust are of one commit, and HANJOLUM_VERSION is theirs. Its
- * first number rises where a caller has to be compiled anew or an accepted or refused call answers otherwise, the second
- * where something is added, the third where neither is so. The archive does not carry it: keep the two files together.
+ * Version.  This header, the archive, the C file and the crate in bindings/rust are of one commit, and HANJOLUM_VERSION is
+ * theirs. Its first number rises where a caller has to be compiled anew or an accepted or refused call answers otherwise, the
+ * second where something is added, the third where neither is so. The library does not carry it: keep the files together.
  *
  * Memory.  All memory is the caller's and is lent for the time of the call: no pointer is kept, nothing is allocated,
  * there are no globals. Every function may be called from several threads at once, each with a sheet of its own.
@@ -20,7 +23,8 @@
  * a length is 0 its pointer may be anything, NULL too. Pointers are aligned as in C.
  *
  * Fields and answers pass by value: a field is 1,312 bytes, the answer with a started field 1,320 and that with a built
- * one 1,328, and the compiler copies them to the stack. Padding between and behind the parts of an answer is not set:
+ * one 1,328 (where a number of 64 bits is aligned to 8 bytes, as on every machine but a few), and the compiler copies them to
+ * the stack. Padding between and behind the parts of an answer is not set:
  * compare its parts, not its bytes.
  *
  * Cells.  A sector is ten by ten cells; the cell at a column and a row has the index row * 10 + column, row 0 is north.
@@ -135,10 +139,6 @@
 #include <stdbool.h>
 #include <stddef.h>
 #include <stdint.h>
-
-#if !defined(__x86_64__) || !defined(__ELF__) || SIZE_MAX != UINT64_MAX
-#error "libhanjolum.a is an ELF archive for x86-64 with System V calls"
-#endif
 
 #ifdef __cplusplus
 extern "C" {
@@ -256,8 +256,8 @@ enum {
  */
 typedef struct {
     uint32_t field[100];
-    size_t los_corners[100];
-    size_t count;
+    uint64_t los_corners[100];
+    uint64_t count;
     uint8_t positions[100];
 } HanjolumIntegrationField;
 
@@ -269,18 +269,18 @@ typedef struct {
 typedef struct {
     uint8_t number;
     HanjolumIntegrationField field;     /* the built field */
-    size_t waves;                       /* how many waves changed a cell */
+    uint64_t waves;                       /* how many waves changed a cell */
 } HanjolumBuildAnswer;
 
 typedef struct {
-    size_t column;
-    size_t row;
+    uint64_t column;
+    uint64_t row;
 } HanjolumFieldCell;
 
 typedef struct {
     uint8_t number;
     HanjolumFieldCell cells[10];        /* `count` cells from source to target, 0 in the places beyond */
-    size_t count;
+    uint64_t count;
 } HanjolumLine;
 
 typedef struct {
@@ -291,8 +291,8 @@ typedef struct {
 /* The steps of a leg file: its `length` bytes from byte `start` on. */
 typedef struct {
     uint8_t number;
-    size_t start;
-    size_t length;
+    uint64_t start;
+    uint64_t length;
 } HanjolumLegFile;
 
 /* A practice floor: a cost for each cell by index, and the goal's index, 0 to 99. */
@@ -352,6 +352,56 @@ typedef struct {
     uint8_t cell;
     uint16_t moves;                     /* at most 6,399 */
 } HanjolumWay;
+
+/*
+ * Where the language can say so (C11, C++11 and later) and a number of 64 bits is aligned to 8 bytes: the places of members and
+ * the sizes that the archive goes by.
+ */
+#if defined(__cplusplus)
+#if __cplusplus >= 201103L
+#define HANJOLUM_HOLDS(test) static_assert(test, #test)
+#endif
+#elif defined(__STDC_VERSION__)
+#if __STDC_VERSION__ >= 201112L
+#define HANJOLUM_HOLDS(test) _Static_assert(test, #test)
+#endif
+#endif
+#ifdef HANJOLUM_HOLDS
+struct HanjolumAligned {
+    uint8_t byte;
+    uint64_t number;
+};
+#define HANJOLUM_LAID_OUT(type, member, place, size) \
+    HANJOLUM_HOLDS(offsetof(struct HanjolumAligned, number) != 8 || (offsetof(type, member) == (place) && sizeof(type) == (size)))
+HANJOLUM_LAID_OUT(HanjolumIntegrationField, los_corners, 400, 1312);
+HANJOLUM_LAID_OUT(HanjolumIntegrationField, count, 1200, 1312);
+HANJOLUM_LAID_OUT(HanjolumIntegrationField, positions, 1208, 1312);
+HANJOLUM_LAID_OUT(HanjolumInitAnswer, field, 8, 1320);
+HANJOLUM_LAID_OUT(HanjolumBuildAnswer, field, 8, 1328);
+HANJOLUM_LAID_OUT(HanjolumBuildAnswer, waves, 1320, 1328);
+HANJOLUM_LAID_OUT(HanjolumFieldCell, row, 8, 16);
+HANJOLUM_LAID_OUT(HanjolumLine, cells, 8, 176);
+HANJOLUM_LAID_OUT(HanjolumLine, count, 168, 176);
+HANJOLUM_LAID_OUT(HanjolumLineEnd, cell, 8, 24);
+HANJOLUM_LAID_OUT(HanjolumLegFile, start, 8, 24);
+HANJOLUM_LAID_OUT(HanjolumLegFile, length, 16, 24);
+HANJOLUM_LAID_OUT(HanjolumPracticeFloor, goal, 100, 101);
+HANJOLUM_LAID_OUT(HanjolumBounds, least, 4, 904);
+HANJOLUM_LAID_OUT(HanjolumBounds, greatest, 404, 904);
+HANJOLUM_LAID_OUT(HanjolumBounds, sure, 804, 904);
+HANJOLUM_LAID_OUT(HanjolumArrivals, moves, 1, 101);
+HANJOLUM_LAID_OUT(HanjolumWindowRow, costs, 0, 32);
+HANJOLUM_LAID_OUT(HanjolumWindowCosts, rows, 4, 260);
+HANJOLUM_LAID_OUT(HanjolumWindowTour, found, 1, 24);
+HANJOLUM_LAID_OUT(HanjolumWindowTour, order, 2, 24);
+HANJOLUM_LAID_OUT(HanjolumWindowTour, sum, 12, 24);
+HANJOLUM_LAID_OUT(HanjolumWindowTour, tried, 16, 24);
+HANJOLUM_LAID_OUT(HanjolumWindowTour, least, 20, 24);
+HANJOLUM_LAID_OUT(HanjolumMove, cell, 3, 4);
+HANJOLUM_LAID_OUT(HanjolumWay, moves, 4, 6);
+#undef HANJOLUM_LAID_OUT
+#undef HANJOLUM_HOLDS
+#endif
 
 /*
  * Plans one sector: starts the field of a step on 100 cost bytes, builds it, and writes its 100 flow bytes to the sheet,
@@ -520,7 +570,7 @@ uint8_t hanjolum_leg_without_sight(
 HanjolumBuildAnswer hanjolum_leg_field(
     const uint8_t *floor, size_t floor_length,
     const uint8_t *steps, size_t steps_length,
-    size_t place);
+    uint64_t place);
 
 /*
  * The same of the leg that hanjolum_leg_without_sight plans.
@@ -529,7 +579,7 @@ HanjolumBuildAnswer hanjolum_leg_field(
 HanjolumBuildAnswer hanjolum_leg_field_without_sight(
     const uint8_t *floor, size_t floor_length,
     const uint8_t *steps, size_t steps_length,
-    size_t place);
+    uint64_t place);
 
 /*
  * One move of a cart, from a sector and a cell, by the byte of that place in a floor's sheet of 6,400 bytes, whatever they are.
@@ -627,7 +677,7 @@ uint8_t hanjolum_flow_build(
  * The cells of the line from a source to a target, both among them: 1 to 10 cells.
  * Number 13.
  */
-HanjolumLine hanjolum_line(size_t source_column, size_t source_row, size_t target_column, size_t target_row);
+HanjolumLine hanjolum_line(uint64_t source_column, uint64_t source_row, uint64_t target_column, uint64_t target_row);
 
 /*
  * One of the reference's two walks that lines are made of: from (col_0, row_0) toward (col_1, row_1), one column on at
@@ -636,20 +686,20 @@ HanjolumLine hanjolum_line(size_t source_column, size_t source_row, size_t targe
  * col_1 before it reaches the target's row.
  * Number 13.
  */
-HanjolumLine hanjolum_walk_bresenham_shallow(size_t col_0, size_t row_0, size_t col_1, size_t row_1);
+HanjolumLine hanjolum_walk_bresenham_shallow(uint64_t col_0, uint64_t row_0, uint64_t col_1, uint64_t row_1);
 
 /*
  * The other walk: the same with columns and rows changed over, one row on at each step.
  * Number 13.
  */
-HanjolumLine hanjolum_walk_bresenham_steep(size_t col_0, size_t row_0, size_t col_1, size_t row_1);
+HanjolumLine hanjolum_walk_bresenham_steep(uint64_t col_0, uint64_t row_0, uint64_t col_1, uint64_t row_1);
 
 /*
  * The cell at the edge of the sector in which the line of a corner, away from the goal, ends. A pair with unequal columns
  * and unequal rows, mirrored left to right or top to bottom, ends mirrored.
  * Number 13.
  */
-HanjolumLineEnd hanjolum_line_end(size_t corner_column, size_t corner_row, size_t goal_column, size_t goal_row);
+HanjolumLineEnd hanjolum_line_end(uint64_t corner_column, uint64_t corner_row, uint64_t goal_column, uint64_t goal_row);
 
 /*
  * The readers of a flow byte, for any byte. In a sheet built from a field given by hand a cell beside one that nothing

@@ -88,6 +88,7 @@ pub const NEVER: u8 = 255;
 pub const UNREACHED: u32 = 65535;
 /// The version of this crate and of the header that it declares.
 pub const VERSION: &str = env!("CARGO_PKG_VERSION");
+}
 
 /// 100 cells by index, the corners that building starts from, and each cell's position in their list once it is built.
 #[repr(C)]
@@ -96,9 +97,9 @@ pub struct IntegrationField {
     /// The cost in the low 16 bits (65535: not reached), flags above.
     pub field: [u32; CELLS],
     /// The indexes of the corners: `count` of them, 0 beyond.
-    pub los_corners: [usize; CELLS],
+    pub los_corners: [u64; CELLS],
     /// How many corners are listed.
-    pub count: usize,
+    pub count: u64,
     /// The place, in the list of corners, of the one that the cell belongs to; 255 for none.
     pub positions: [u8; CELLS],
 }
@@ -113,7 +114,8 @@ impl IntegrationField {
     /// None where its position is 255, and for an index over 99.
     pub fn corner_of(&self, cell: usize) -> Option<usize> {
         let position = usize::from(*self.positions.get(cell)?);
-        self.los_corners.iter().take(self.count).nth(position).copied()
+        let listed = self.los_corners.iter().zip(0..self.count);
+        listed.map(|(corner, _)| *corner as usize).nth(position)
     }
 }
 
@@ -122,9 +124,9 @@ impl IntegrationField {
 #[derive(Clone, Copy, Debug, Default, PartialEq, Eq, Hash)]
 pub struct FieldCell {
     /// The column.
-    pub column: usize,
+    pub column: u64,
     /// The row.
-    pub row: usize,
+    pub row: u64,
 }
 
 /// A practice floor: the same wherever it is made.
@@ -256,7 +258,7 @@ type SectorCall = unsafe extern "C" fn(
 type LegCall = unsafe extern "C" fn(*const u8, usize, *const u8, usize, *mut u8, usize) -> u8;
 
 /// The field of a leg's step, with sight or without.
-type LegFieldCall = unsafe extern "C" fn(*const u8, usize, *const u8, usize, usize) -> sys::BuildAnswer;
+type LegFieldCall = unsafe extern "C" fn(*const u8, usize, *const u8, usize, u64) -> sys::BuildAnswer;
 
 /// Plans one sector by one of the two calls.
 fn sector_by(
@@ -281,7 +283,7 @@ fn sector_by(
             sheet.len(),
         )
     };
-    unless_refused(answer.number, Built { field: answer.field, waves: answer.waves })
+    unless_refused(answer.number, Built { field: answer.field, waves: answer.waves as usize })
 }
 
 /// Plans one sector: 100 cost bytes and a step give the built field, and the sheet's 100 flow bytes are written. A step with
@@ -334,8 +336,8 @@ pub fn leg_without_sight(floor: &[u8], steps: impl AsRef<[u8]>, sheet: &mut [u8]
 /// The built field of a leg's step by one of the two calls.
 fn leg_field_by(call: LegFieldCall, floor: &[u8], steps: &[u8], place: usize) -> Result<Built, Refusal> {
     // SAFETY: each pointer with its length is a live slice.
-    let answer = unsafe { call(floor.as_ptr(), floor.len(), steps.as_ptr(), steps.len(), place) };
-    unless_refused(answer.number, Built { field: answer.field, waves: answer.waves })
+    let answer = unsafe { call(floor.as_ptr(), floor.len(), steps.as_ptr(), steps.len(), place as u64) };
+    unless_refused(answer.number, Built { field: answer.field, waves: answer.waves as usize })
 }
 
 /// The built field of one step of a leg as [`leg`] plans it, over the window cells that count: which of them is a cell's door is
@@ -374,7 +376,7 @@ pub fn leg_file_read(file: &[u8]) -> Result<&[u8], Refusal> {
     // SAFETY: the pointer with its length is a live slice.
     let answer = unsafe { sys::hanjolum_leg_file_read(file.as_ptr(), file.len()) };
     unless_refused(answer.number, ())?;
-    Ok(&file[answer.start..][..answer.length])
+    Ok(&file[answer.start as usize..][..answer.length as usize])
 }
 
 /// Bounds of built costs where costs are known only as from-to: two cost fields of 100 bytes and a step with a window.
@@ -426,7 +428,7 @@ pub fn init(costs: &[u8], step: impl AsRef<[u8]>) -> Result<IntegrationField, Re
 pub fn build(costs: &[u8], field: IntegrationField) -> Result<Built, Refusal> {
     // SAFETY: the pointer with its length is a live slice.
     let answer = unsafe { sys::hanjolum_build(costs.as_ptr(), costs.len(), field) };
-    unless_refused(answer.number, Built { field: answer.field, waves: answer.waves })
+    unless_refused(answer.number, Built { field: answer.field, waves: answer.waves as usize })
 }
 
 /// Writes the first flow bytes of a built field to a sheet of 100. A window may come without `previous` here: then each of
@@ -464,7 +466,7 @@ pub fn flow_build(field: IntegrationField, sheet: &mut [u8]) -> Result<(), Refus
 
 /// A line's answer.
 fn line_of(answer: sys::Line) -> Result<Line, Refusal> {
-    unless_refused(answer.number, Line { cells: answer.cells, count: answer.count })
+    unless_refused(answer.number, Line { cells: answer.cells, count: answer.count as usize })
 }
 
 /// The cells of the line from a source to a target, both among them: 1 to 10 cells.

@@ -22,7 +22,7 @@ pub struct BuildAnswer {
     /// The built field.
     pub field: IntegrationField,
     /// How many waves changed a cell.
-    pub waves: usize,
+    pub waves: u64,
 }
 
 /// `HanjolumLine`.
@@ -34,7 +34,7 @@ pub struct Line {
     /// `count` cells from source to target, 0 in the places beyond.
     pub cells: [FieldCell; 10],
     /// How many cells the line has.
-    pub count: usize,
+    pub count: u64,
 }
 
 /// `HanjolumLineEnd`.
@@ -54,9 +54,9 @@ pub struct LegFile {
     /// 0, or the number of the refusal.
     pub number: u8,
     /// Where the steps begin.
-    pub start: usize,
+    pub start: u64,
     /// How many bytes they are.
-    pub length: usize,
+    pub length: u64,
 }
 
 /// `HanjolumBounds`.
@@ -208,14 +208,14 @@ unsafe extern "C" {
         floor_length: usize,
         steps: *const u8,
         steps_length: usize,
-        place: usize,
+        place: u64,
     ) -> BuildAnswer;
     pub fn hanjolum_leg_field_without_sight(
         floor: *const u8,
         floor_length: usize,
         steps: *const u8,
         steps_length: usize,
-        place: usize,
+        place: u64,
     ) -> BuildAnswer;
     pub fn hanjolum_move(sheet: *const u8, sheet_length: usize, sector: u8, cell: u8) -> Move;
     pub fn hanjolum_way(sheet: *const u8, sheet_length: usize, sector: u8, cell: u8) -> Way;
@@ -235,10 +235,10 @@ unsafe extern "C" {
         sheet_length: usize,
     ) -> u8;
     pub fn hanjolum_flow_build(field: IntegrationField, sheet: *mut u8, sheet_length: usize) -> u8;
-    pub fn hanjolum_line(source_column: usize, source_row: usize, target_column: usize, target_row: usize) -> Line;
-    pub fn hanjolum_walk_bresenham_shallow(col_0: usize, row_0: usize, col_1: usize, row_1: usize) -> Line;
-    pub fn hanjolum_walk_bresenham_steep(col_0: usize, row_0: usize, col_1: usize, row_1: usize) -> Line;
-    pub fn hanjolum_line_end(corner_column: usize, corner_row: usize, goal_column: usize, goal_row: usize) -> LineEnd;
+    pub fn hanjolum_line(source_column: u64, source_row: u64, target_column: u64, target_row: u64) -> Line;
+    pub fn hanjolum_walk_bresenham_shallow(col_0: u64, row_0: u64, col_1: u64, row_1: u64) -> Line;
+    pub fn hanjolum_walk_bresenham_steep(col_0: u64, row_0: u64, col_1: u64, row_1: u64) -> Line;
+    pub fn hanjolum_line_end(corner_column: u64, corner_row: u64, goal_column: u64, goal_row: u64) -> LineEnd;
     pub fn hanjolum_is_pathable(byte: u8) -> bool;
     pub fn hanjolum_is_goal(byte: u8) -> bool;
     pub fn hanjolum_is_portal_goal(byte: u8) -> bool;

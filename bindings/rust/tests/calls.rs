@@ -77,7 +77,7 @@ fn started_at(costs: &[u8; CELLS], goal: usize) -> IntegrationField {
     for (word, _) in started.field.iter_mut().zip(costs).filter(|(_, cost)| **cost == WALL) {
         *word = 0x200FFFF;
     }
-    (started.field[goal], started.los_corners[0]) = (0x20000, goal);
+    (started.field[goal], started.los_corners[0]) = (0x20000, goal as u64);
     started
 }
 
@@ -170,7 +170,7 @@ fn lines_and_their_ends() {
     assert_eq!(walk_bresenham_steep(cell(0, 0), cell(1, 3)).unwrap().cells().len(), 4);
     assert_eq!(line(cell(0, 0), cell(10, 0)), Err(Refusal::Outside));
     assert_eq!(line_end(cell(4, 3), cell(5, 4)), Ok(cell(0, 0)));
-    assert_eq!(line_end(cell(4, 3), cell(5, usize::MAX)), Err(Refusal::Outside));
+    assert_eq!(line_end(cell(4, 3), cell(5, u64::MAX)), Err(Refusal::Outside));
 }
 
 #[test]

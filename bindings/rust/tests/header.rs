@@ -172,6 +172,7 @@ fn rust_type(words: &str) -> String {
         "uint8_t" => "u8",
         "uint16_t" => "u16",
         "uint32_t" => "u32",
+        "uint64_t" => "u64",
         "size_t" => "usize",
         "bool" => "bool",
         other => other.strip_prefix("Hanjolum").unwrap_or_else(|| panic!("`{other}` is not known")),

@@ -30,7 +30,7 @@ fn each_cell_is_told_its_door() {
     let mut floor = [1; FLOOR];
     for (field, _) in BOTH {
         let built = field(&floor, steps().as_ref(), 1).unwrap();
-        assert_eq!(built.field.los_corners[..built.field.count], [30, 40, 50, 60]);
+        assert_eq!(built.field.los_corners[..built.field.count as usize], [30, 40, 50, 60]);
         // Straight west into the window's row, or first along the first column to its end.
         assert_eq!([49, 0, 99, 30].map(|cell| built.field.cost(cell)), [Some(9), Some(3), Some(12), Some(0)]);
         assert_eq!([49, 0, 99, 30].map(|cell| built.field.corner_of(cell)), [Some(40), Some(30), Some(60), Some(30)]);
@@ -40,7 +40,7 @@ fn each_cell_is_told_its_door() {
     (floor[9 * CELLS + 39], floor[9 * CELLS + 49]) = (WALL, WALL);
     for (field, sector) in BOTH {
         let built = field(&floor, steps().as_ref(), 1).unwrap();
-        assert_eq!(built.field.los_corners[..built.field.count], [40, 50, 60]);
+        assert_eq!(built.field.los_corners[..built.field.count as usize], [40, 50, 60]);
         assert_eq!([49, 0, 99, 30].map(|cell| built.field.cost(cell)), [Some(9), Some(4), Some(12), Some(1)]);
         assert_eq!([49, 0, 99, 30].map(|cell| built.field.corner_of(cell)), [Some(40), Some(40), Some(60), Some(40)]);
         // The sector call, which knows nothing of the cells that count, names the whole window.
