@@ -58,6 +58,10 @@ static uint8_t plan(uint8_t *sheet)
 int main(void)
 {
     static uint8_t sheet[HANJOLUM_FLOOR];
+    if (!HANJOLUM_SAME_VERSION()) {
+        fprintf(stderr, "the header is of version %s, and the library is not\n", HANJOLUM_VERSION);
+        return 1;
+    }
     uint8_t number = plan(sheet);
     if (number != HANJOLUM_ACCEPTED) {
         fprintf(stderr, "refused with number %d: %s\n", number, hanjolum_refusal_text(number));

@@ -11,7 +11,8 @@
  *
  * Version.  This header, the archive, the C file and the crate in bindings/rust are of one commit, and HANJOLUM_VERSION is
  * theirs. Its first number rises where a caller has to be compiled anew or an accepted or refused call answers otherwise, the
- * second where something is added, the third where neither is so. The library does not carry it: keep the files together.
+ * second where something is added, the third where neither is so. hanjolum_version answers the library's own: a program that
+ * asks at its start whether HANJOLUM_SAME_VERSION() knows that it was compiled with the header of the library that it runs.
  *
  * Memory.  All memory is the caller's and is lent for the time of the call: no pointer is kept, nothing is allocated,
  * there are no globals. Every function may be called from several threads at once, each with a sheet of its own.
@@ -145,9 +146,11 @@ extern "C" {
 #endif
 
 #define HANJOLUM_VERSION_MAJOR 1
-#define HANJOLUM_VERSION_MINOR 2
-#define HANJOLUM_VERSION_PATCH 1
-#define HANJOLUM_VERSION "1.2.1"
+#define HANJOLUM_VERSION_MINOR 3
+#define HANJOLUM_VERSION_PATCH 0
+#define HANJOLUM_VERSION "1.3.0"
+#define HANJOLUM_VERSION_NUMBER \
+    (HANJOLUM_VERSION_MAJOR * UINT32_C(1000000) + HANJOLUM_VERSION_MINOR * UINT32_C(1000) + HANJOLUM_VERSION_PATCH)
 
 enum {
     HANJOLUM_CELLS = 100,      /* cells of a sector: its cost bytes, and the bytes of its sheet */
@@ -724,6 +727,13 @@ bool hanjolum_is_wall(uint8_t byte);
 
 /* The direction to walk in, HANJOLUM_NORTH to HANJOLUM_NORTH_WEST; HANJOLUM_ZERO where the byte has none. */
 uint8_t hanjolum_get_compass_dir_from_bits(uint8_t byte);
+
+/*
+ * The version of the library: major times 1,000,000, plus minor times 1,000, plus patch. HANJOLUM_VERSION_NUMBER is the header's;
+ * HANJOLUM_SAME_VERSION() says whether both are the same.
+ */
+uint32_t hanjolum_version(void);
+#define HANJOLUM_SAME_VERSION() (hanjolum_version() == HANJOLUM_VERSION_NUMBER)
 
 /*
  * What a number says, in words, for a message; of a number that no call answers, that it is none. It stands here and not in

@@ -1300,6 +1300,8 @@ int main(int argc, char **argv)
     unsigned long long seconds = argc > 1 ? number_of(argv[1]) : 10;
     if (argc > 3 || seconds == 0)
         fail(USAGE);
+    if (!HANJOLUM_SAME_VERSION())
+        fail("the header and the library are of two versions");
     state = 0x9e3779b97f4a7c15u ^ (argc > 2 ? number_of(argv[2]) : 1);
     time_t end = time(NULL) + (time_t)seconds;
     Fenced costs = fence(), route = fence(), previous = fence(), sheet = fence();

@@ -190,6 +190,7 @@ CALL(walk_shallow, hanjolum_walk_bresenham_shallow(0, i % 10, 9, i / 7 % 10).num
 CALL(walk_steep, hanjolum_walk_bresenham_steep(i % 10, 0, i / 7 % 10, 9).number)
 CALL(line_end, hanjolum_line_end(i % 10, i / 7 % 10, i / 3 % 10, i / 11 % 10).number)
 CALL(reader, hanjolum_is_goal((uint8_t)i) * 0u)
+CALL(version, hanjolum_version() * 0u)
 
 static const struct { const char *name; unsigned (*call)(struct input *, unsigned); int times; } CALLS[] = {
     {"hanjolum_sector, a goal", sector_goal, 1},
@@ -218,6 +219,7 @@ static const struct { const char *name; unsigned (*call)(struct input *, unsigne
     {"hanjolum_walk_bresenham_steep", walk_steep, SMALL},
     {"hanjolum_line_end", line_end, SMALL},
     {"hanjolum_is_goal", reader, SMALL},
+    {"hanjolum_version", version, SMALL},
 };
 
 static double now(void)

@@ -88,6 +88,12 @@ pub const NEVER: u8 = 255;
 pub const UNREACHED: u32 = 65535;
 /// The version of this crate and of the header that it declares.
 pub const VERSION: &str = env!("CARGO_PKG_VERSION");
+
+/// The version of the library that is linked: major times 1,000,000, plus minor times 1,000, plus patch. It is this crate's own
+/// unless `HANJOLUM_LIBRARY` names an archive of another one.
+pub fn version() -> u32 {
+    // SAFETY: nothing is lent.
+    unsafe { sys::hanjolum_version() }
 }
 
 /// 100 cells by index, the corners that building starts from, and each cell's position in their list once it is built.

@@ -245,4 +245,5 @@ unsafe extern "C" {
     pub fn hanjolum_has_line_of_sight(byte: u8) -> bool;
     pub fn hanjolum_is_wall(byte: u8) -> bool;
     pub fn hanjolum_get_compass_dir_from_bits(byte: u8) -> u8;
+    pub fn hanjolum_version() -> u32;
 }

@@ -122,9 +122,11 @@ fn constants_are_the_header_s() {
 }
 
 #[test]
-fn the_version_is_the_header_s() {
-    let body = "puts(HANJOLUM_VERSION);\nprintf(\"%d.%d.%d\\n\", HANJOLUM_VERSION_MAJOR, HANJOLUM_VERSION_MINOR, HANJOLUM_VERSION_PATCH);\n";
-    assert_eq!(printed("version", body), [hanjolum::VERSION, hanjolum::VERSION]);
+fn the_version_is_the_header_s_and_the_library_s() {
+    let body = "puts(HANJOLUM_VERSION);\nprintf(\"%d.%d.%d\\n\", HANJOLUM_VERSION_MAJOR, HANJOLUM_VERSION_MINOR, HANJOLUM_VERSION_PATCH);\nput(HANJOLUM_VERSION_NUMBER);\n";
+    let version = hanjolum::version();
+    assert_eq!(format!("{}.{}.{}", version / 1_000_000, version / 1_000 % 1_000, version % 1_000), hanjolum::VERSION);
+    assert_eq!(printed("version", body), [hanjolum::VERSION, hanjolum::VERSION, &version.to_string()]);
 }
 
 #[test]
@@ -199,6 +201,7 @@ fn declared(prototype: &str) -> String {
     let parameters: Vec<String> = rest
         .trim_end_matches([')', ';'])
         .split(',')
+        .filter(|parameter| *parameter != "void")
         .map(|parameter| {
             let (words, name) = named(parameter.trim());
             format!("{name}: {}", rust_type(words))
@@ -225,6 +228,6 @@ fn every_function_is_declared_as_the_header_has_it() {
         let expected = declared(prototype);
         assert!(source.contains(&expected), "sys.rs lacks `{expected}`");
     }
-    assert_eq!(prototypes.len(), 29);
+    assert_eq!(prototypes.len(), 30);
     assert_eq!(source.matches("pub fn hanjolum_").count(), prototypes.len());
 }

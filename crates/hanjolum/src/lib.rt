@@ -64,6 +64,7 @@ ghost use Rattle.leg_file.specs.File.{writeNumber, writtenFile, fileSteps, file
 ghost use Rattle.leg_file.specs.Promise.{ReadBack, WrittenSame, FileRefused};
 ghost use Rattle.practice.specs.Floor.{practiceFloor};
 ghost use Rattle.practice.specs.Promise.{PracticeTold};
+ghost use Rattle.version.specs.Version.{versionNumber};
 
 // The sector call: the field that a step starts, built, and its flow bytes, or number 1, 2, 3, 4 to 8, 16, 17, or 12.
 #[no_mangle]
@@ -457,4 +458,12 @@ pub extern "C" fn hanjolum_get_compass_dir_from_bits(byte: u8) -> u8
 {
     let dir = flow_bits::get_compass_dir_from_bits(byte);
     dir.number()
+}
+
+// The version of the library, as one number.
+#[no_mangle]
+pub extern "C" fn hanjolum_version() -> u32
+    ensures answer { λ r. ⌜ r ≡ versionNumber 1 3 0 ⌝ }
+{
+    version::version()
 }
