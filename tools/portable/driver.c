@@ -278,6 +278,11 @@ static void put_step(uint8_t *step)
         put_goal(step, sector, costs, open);
     } else {
         put_window(step, sector, boundary, costs, open);
+        if (below(12) == 0) {
+            uint8_t first = step[HANJOLUM_STEP_FIRST];
+            step[HANJOLUM_STEP_FIRST] = step[HANJOLUM_STEP_LAST];
+            step[HANJOLUM_STEP_LAST] = first;
+        }
     }
 }
 
@@ -309,6 +314,20 @@ static uint32_t put_leg(void)
         }
     }
     return k;
+}
+
+/* One time in four the steps are no leg: one has another kind or another boundary, or a sector is named twice. */
+static void break_leg(uint32_t many)
+{
+    uint32_t place = below(many), other = below(many), boundary = below(4);
+    uint8_t *step = steps + HANJOLUM_STEP * place;
+    uint32_t sector = step[HANJOLUM_STEP_SECTOR];
+    switch (below(12)) {
+    case 0: put_goal(step, sector, floor_costs + 100 * sector, true); break;
+    case 1: put_window(step, sector, boundary, floor_costs + 100 * sector, true); break;
+    case 2: step[HANJOLUM_STEP_SECTOR] = steps[HANJOLUM_STEP * other + HANJOLUM_STEP_SECTOR]; break;
+    default: break;
+    }
 }
 
 /* ---- calls */
@@ -434,6 +453,7 @@ static void call_legs(void)
 {
     draw_costs(floor_costs, HANJOLUM_FLOOR);
     uint32_t many = put_leg();
+    break_leg(many);
     damage(steps, HANJOLUM_STEP * many, 4);
     size_t f = length(HANJOLUM_FLOOR, 16), s = length(HANJOLUM_STEP * many, 10), o = length(HANJOLUM_FLOOR, 16);
     if (below(12) == 0) {
