@@ -449,6 +449,13 @@ static void drive(void)
     }
 }
 
+/* A number below `many`, and now and then one that is not, of which the low 32 bits may be. */
+static uint64_t draw_place(uint32_t many)
+{
+    static const uint64_t far[] = { 10, 255, UINT64_C(4294967296), UINT64_C(4294967305), UINT64_C(9223372036854775808), UINT64_MAX };
+    return below(12) == 0 ? far[below(6)] : below(many);
+}
+
 static void call_legs(void)
 {
     draw_costs(floor_costs, HANJOLUM_FLOOR);
@@ -465,7 +472,7 @@ static void call_legs(void)
     tell(LEG_WITHOUT_SIGHT, hanjolum_leg_without_sight(lent(floor_costs, f), f, lent(steps, s), s, lent_sheet(floor_sheet, o), o));
     mix_bytes(floor_sheet, ROOM);
     drive();
-    size_t place = below(many + 1);
+    uint64_t place = draw_place(many + 1);
     HanjolumBuildAnswer a = hanjolum_leg_field(lent(floor_costs, f), f, lent(steps, s), s, place);
     mix_build(LEG_FIELD, &a);
     a = hanjolum_leg_field_without_sight(lent(floor_costs, f), f, lent(steps, s), s, place);
@@ -487,16 +494,10 @@ static void call_legs(void)
     drive();
 }
 
-static uint64_t draw_place(void)
-{
-    static const uint64_t far[] = { 10, 255, UINT64_C(4294967296), UINT64_C(4294967305), UINT64_C(9223372036854775808), UINT64_MAX };
-    return below(12) == 0 ? far[below(6)] : below(10);
-}
-
 static void call_lines(void)
 {
     for (int k = 0; k < 20; k++) {
-        uint64_t a = draw_place(), b = draw_place(), c = draw_place(), d = draw_place();
+        uint64_t a = draw_place(10), b = draw_place(10), c = draw_place(10), d = draw_place(10);
         mix_line(LINE, hanjolum_line(a, b, c, d));
         mix_line(SHALLOW, hanjolum_walk_bresenham_shallow(a, b, c, d));
         mix_line(STEEP, hanjolum_walk_bresenham_steep(a, b, c, d));
