@@ -39,10 +39,8 @@ class Gcc:
     """A machine that gcc compiles for: this one, or another, which qemu runs as a user's program, linked statically."""
 
     def __init__(self, name, bits, triple, emulator, package, library):
-        self.name, self.bits = name, bits
+        self.name, self.bits, self.triple, self.emulator = name, bits, triple, emulator
         self.gcc = f"{triple}-gcc" if triple else "gcc"
-        self.nm = f"{triple}-nm" if triple else "nm"
-        self.emulator = emulator
         self.tools = [(self.gcc, package)] + ([(emulator, "qemu-user")] if emulator else [])
         self.library = library
 
@@ -108,9 +106,10 @@ def version(tool):
 
 
 HOST = Gcc("x86-64", 64, "", None, "gcc", "libc6-dev")
+ARM = Gcc("ARM, 32 bits", 32, "arm-linux-gnueabihf", "qemu-arm", "gcc-arm-linux-gnueabihf", "libc6-dev-armhf-cross")
 OTHERS = [
     Gcc("AArch64", 64, "aarch64-linux-gnu", "qemu-aarch64", "gcc-aarch64-linux-gnu", "libc6-dev-arm64-cross"),
-    Gcc("ARM, 32 bits", 32, "arm-linux-gnueabihf", "qemu-arm", "gcc-arm-linux-gnueabihf", "libc6-dev-armhf-cross"),
+    ARM,
     Gcc("RISC-V 64", 64, "riscv64-linux-gnu", "qemu-riscv64", "gcc-riscv64-linux-gnu", "libc6-dev-riscv64-cross"),
     Gcc("s390x, big-endian", 64, "s390x-linux-gnu", "qemu-s390x", "gcc-s390x-linux-gnu", "libc6-dev-s390x-cross"),
     WebAssembly(),
