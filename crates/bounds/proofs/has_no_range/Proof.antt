@@ -50,5 +50,5 @@ returns-2 c =
 
 pub has-no-range-spec : {M : Type 1} → statement M
 has-no-range-spec = tie.close (tie.spec
-    Inv-loop μ-loop loop-holds (λ c. search needs) (λ c. search needs) (λ c κs. search needs) returns (λ c. omega arith)
-    (λ c. omega arith) loop-again returns-2)
+    Inv-loop μ-loop loop-holds (λ c. search needs) (λ c. search needs) (λ c κs. search needs) returns (λ c. omega arith) (λ c. omega arith) loop-again
+    returns-2)

@@ -96,6 +96,5 @@ returns-2 c =
 
 pub has-least-spec : {M : Type 1} → statement M
 has-least-spec = tie.close (tie.spec
-    Inv-loop μ-loop loop-holds (λ c. omega (arith, within c)) (λ c. within c) (λ c. omega (arith, inside c)) (λ c. inside c)
-    is-below-others-requires returns (λ c. omega (arith, within (c .before .before))) (λ c. omega (arith, c .before .before .loop-test .taken))
-    loop-again returns-2)
+    Inv-loop μ-loop loop-holds (λ c. omega (arith, within c)) (λ c. within c) (λ c. omega (arith, inside c)) (λ c. inside c) is-below-others-requires
+    returns (λ c. omega (arith, within (c .before .before))) (λ c. omega (arith, c .before .before .loop-test .taken)) loop-again returns-2)

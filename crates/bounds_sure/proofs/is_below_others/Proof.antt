@@ -96,6 +96,5 @@ returns-2 c =
 
 pub is-below-others-spec : {M : Type 1} → statement M
 is-below-others-spec = tie.close (tie.spec
-    Inv-loop μ-loop mul-most element-copy-out-most loop-holds (λ c. omega (arith, within c)) (λ c. within c)
-    (λ c. omega (arith, inside (c .before))) element-copy-out-if2 returns (λ c. omega (arith, within (c .before)))
-    (λ c. omega (arith, c .before .loop-test .taken)) loop-again returns-2)
+    Inv-loop μ-loop mul-most element-copy-out-most loop-holds (λ c. omega (arith, within c)) (λ c. within c) (λ c. omega (arith, inside (c .before)))
+    element-copy-out-if2 returns (λ c. omega (arith, within (c .before))) (λ c. omega (arith, c .before .loop-test .taken)) loop-again returns-2)

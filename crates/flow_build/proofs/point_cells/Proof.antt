@@ -60,5 +60,5 @@ returns c =
 
 pub point-cells-spec : {M : Type 1} → statement M
 point-cells-spec = tie.close (tie.spec
-    Inv-loop μ-loop loop-holds slice-read-byte-after (λ c. omega arith) (λ c. omega arith) (λ c. omega arith) (λ c κs. search needs)
-    slice-write-sheet (λ c. omega arith) (λ c. omega arith) loop-again same-length returns)
+    Inv-loop μ-loop loop-holds slice-read-byte-after (λ c. omega arith) (λ c. omega arith) (λ c. omega arith) (λ c κs. search needs) slice-write-sheet
+    (λ c. omega arith) (λ c. omega arith) loop-again same-length returns)

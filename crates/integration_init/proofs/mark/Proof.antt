@@ -25,6 +25,6 @@ room c = mark-room (start (c .before) .pre) (free c)
 pub mark-spec : {M : Type 1} → statement M
 mark-spec = tie.close (tie.spec
     (λ c. search needs) (λ c. omega (arith, c .pre .cell-in)) (λ c κs. search needs)
-    (λ c. kept-mark (start (c .before) .pre) (sym (c .before .is-blocked .ensures) ∙ c .if1 .taken))
-    (λ c. omega (arith, room c)) (λ c. omega (arith, room c)) (λ c. search needs) (λ c. search needs)
-    (λ c. search needs) (λ c. search needs) (λ c. omega (arith, room c)) (λ c. new-mark (start (c .before) .pre) (free c)))
+    (λ c. kept-mark (start (c .before) .pre) (sym (c .before .is-blocked .ensures) ∙ c .if1 .taken)) (λ c. omega (arith, room c))
+    (λ c. omega (arith, room c)) (λ c. search needs) (λ c. search needs) (λ c. search needs) (λ c. search needs) (λ c. omega (arith, room c))
+    (λ c. new-mark (start (c .before) .pre) (free c)))

@@ -46,5 +46,6 @@ returns c =
 
 pub entered-from-spec : {M : Type 1} → statement M
 entered-from-spec = tie.close (tie.spec
-    Inv-loop μ-loop loop-holds (λ c. omega (arith, c .before .before .before .before .pre .0)) (λ c. omega arith) (λ c. omega arith) (λ c. omega arith) (λ c. omega arith)
-    entered-at-requires (λ c. omega arith) (λ c. omega arith) (λ c. omega arith) (λ c. omega arith) loop-again returns)
+    Inv-loop μ-loop loop-holds (λ c. omega (arith, c .before .before .before .before .pre .0)) (λ c. omega arith) (λ c. omega arith)
+    (λ c. omega arith) (λ c. omega arith) entered-at-requires (λ c. omega arith) (λ c. omega arith) (λ c. omega arith) (λ c. omega arith) loop-again
+    returns)

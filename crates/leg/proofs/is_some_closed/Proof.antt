@@ -105,6 +105,6 @@ returns-3 c =
 
 pub is-some-closed-spec : {M : Type 1} → statement M
 is-some-closed-spec = tie.close (tie.spec
-    Inv-loop μ-loop loop-holds (λ c. omega arith) (λ c. omega arith) (λ c. omega arith) (λ c. omega arith) (λ c. omega arith)
-    (λ c κs. search needs) (λ c κs. search needs) (λ c κs. search needs) returns (λ c. omega arith) returns-2 build-step-requires (λ c. omega arith)
-    (λ c. omega arith) loop-again returns-3)
+    Inv-loop μ-loop loop-holds (λ c. omega arith) (λ c. omega arith) (λ c. omega arith) (λ c. omega arith) (λ c. omega arith) (λ c κs. search needs)
+    (λ c κs. search needs) (λ c κs. search needs) returns (λ c. omega arith) returns-2 build-step-requires (λ c. omega arith) (λ c. omega arith)
+    loop-again returns-3)

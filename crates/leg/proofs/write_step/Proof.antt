@@ -51,6 +51,6 @@ returns c =
 
 pub write-step-spec : {M : Type 1} → statement M
 write-step-spec = tie.close (tie.spec
-    (λ c κs. search needs) (λ c κs. search needs) build-step-requires
-    (λ c. omega (arith, made (c .before) .sector-in)) (λ c. omega (arith, made (c .before) .sector-in)) (λ c. search needs) (λ c. search needs)
+    (λ c κs. search needs) (λ c κs. search needs) build-step-requires (λ c. omega (arith, made (c .before) .sector-in))
+    (λ c. omega (arith, made (c .before) .sector-in)) (λ c. search needs) (λ c. search needs)
     (λ c. omega (arith, made (c .before .before) .sector-in, start (c .before .before) .pre .sheet-full)) write-requires (λ c. search needs) returns)

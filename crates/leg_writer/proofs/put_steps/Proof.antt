@@ -21,21 +21,6 @@ abbrev μ-loop : tie.MeasureT-loop
 loop-holds : tie.Need-loop-holds Inv-loop μ-loop
 loop-holds c = (omega arith, refl, paste-zero (now (c .args .file)) 6 (now (c .args .steps)))
 
-shared-slice-read-file : tie.Need-shared-slice-read-file Inv-loop μ-loop
-shared-slice-read-file c = search needs
-
-add-file : tie.Need-add-file Inv-loop μ-loop
-add-file c = search needs
-
-slice-write-file : tie.Need-slice-write-file Inv-loop μ-loop
-slice-write-file c = omega arith
-
-add-i : tie.Need-add-i Inv-loop μ-loop
-add-i c = search needs
-
-loop-less : tie.Need-loop-less Inv-loop μ-loop
-loop-less c = search needs
-
 loop-again : tie.Need-loop-again Inv-loop μ-loop
 loop-again c =
     let turn = c .before .before in
@@ -46,9 +31,6 @@ loop-again c =
       rw (turn .loop .inv .2, add-one i) (paste-suc (now (a .file)) 6 (now (a .steps)) i 0 (omega arith) (omega arith)),
     )
 
-same-length : tie.Need-same-length Inv-loop μ-loop
-same-length c = search needs
-
 returns : tie.Need-returns Inv-loop μ-loop
 returns c =
     let a = c .before .before .args in
@@ -56,17 +38,6 @@ returns c =
     c .before .loop .inv .2 ∙ rw all (copied (now (a .steps)) (now (a .file)) (c .before .before .pre))
 
 pub put-steps-spec : {M : Type 1} → statement M
-put-steps-spec =
-    tie.close
-    (tie.spec
-    Inv-loop
-    μ-loop
-    loop-holds
-    shared-slice-read-file
-    add-file
-    slice-write-file
-    add-i
-    loop-less
-    loop-again
-    same-length
-    returns)
+put-steps-spec = tie.close (tie.spec
+    Inv-loop μ-loop loop-holds (λ c. search needs) (λ c. search needs) (λ c. omega arith) (λ c. search needs) (λ c. search needs) loop-again
+    (λ c. search needs) returns)
