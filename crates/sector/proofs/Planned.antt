@@ -160,7 +160,8 @@ module _ (sight : Bool) (costs step : List ℕ) (has : Bool) (previous sheet : L
   refuses (suc n) e h r q =
       let not-zero : r .number ≡ 0 → ⊥ = λ z. h (sym (ap (λ (b : BuildAnswer). b .number) q) ∙ z) in
       let zero-parts = build-refused (suc n) costs (started costs target) r q in
-      (q ∙ rw (← e), (rw (← e, ne-eqb (suc n) 0 h), (λ z. absurd (not-zero z), (λ z. absurd (not-zero z), (zero-parts, told r (ap (λ (b : BuildAnswer). b .number) q ∙ e))))))
+      let number = told r (ap (λ (b : BuildAnswer). b .number) q ∙ e) in
+      (q ∙ rw (← e), (rw (← e, ne-eqb (suc n) 0 h), (λ z. absurd (not-zero z), (λ z. absurd (not-zero z), (zero-parts, number)))))
 
   pub accepts : ((x : ℕ) → x < 100 → getD costs x 0 ≤ 255) → sectorNumber costs step has previous sheet ≡ 0 → (b : BuildAnswer) (bytes : List ℕ)
       → b ≡ answerOf 0 costs (started costs target) → bytes ≡ sectorBytes costs target (portalOf step) has previous → Promised b bytes

@@ -91,4 +91,5 @@ returns c =
     ap₂ (λ (x : IntegrationField) (n : ℕ). record { number = 0; field = x; waves = n }) field (ap (λ (b : Built). b .waves) (left r))
 
 pub build-with-positions-spec : {M : Type 1} → statement M
-build-with-positions-spec = tie.close (tie.spec (λ c κs. search needs) corner-wave-requires run-waves-requires positions-requires (λ c κs. search needs) returns)
+build-with-positions-spec = tie.close (tie.spec
+    (λ c κs. search needs) corner-wave-requires run-waves-requires positions-requires (λ c κs. search needs) returns)

@@ -31,7 +31,8 @@ module _ (s : tie.Start) (costs before corners values : List ℕ) (f : BuiltOn c
     after = go s values (s .args .position) (entry s)
 
     floods : Flood costs before corners (now (s .args .built)) values (s .args .position) (s .args .queued) after
-    floods = rw (← c) (corner-flood costs before corners _ _ f (s .args .position) (s .pre .small) h (entry s) (g .stands .room) (g .gone) (rw c (s .pre .inside)))
+    floods = rw (← c)
+        (corner-flood costs before corners _ _ f (s .args .position) (s .pre .small) h (entry s) (g .stands .room) (g .gone) (rw c (s .pre .inside)))
 
     written : Written (s .args .queued) (now (s .args .positions)) after
     written =
