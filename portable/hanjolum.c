@@ -1358,12 +1358,10 @@ static inline fields__Stepped fields__FieldCell__get_in_compass_direction(Hanjol
                 if (signed_at_most(x5, UINT64_C(9))) {
                     x13 = x4;
                     return (fields__Stepped){ .tag = UINT8_C(0), .v0_f1 = (HanjolumFieldCell){ .column = x13, .row = x5 } };
-                    goto out1;
                 }
             }
         }
     }
-    out1:;
     return (fields__Stepped){ .tag = UINT8_C(1) };
 }
 
@@ -4430,12 +4428,10 @@ static inline sectors__Across sectors__get_in_compass_direction(uint64_t x1, uti
                 if (signed_at_most(x5, UINT64_C(7))) {
                     x15 = x5 * UINT64_C(8);
                     return (sectors__Across){ .tag = UINT8_C(0), .v0_f1 = x15 + x4 };
-                    goto out1;
                 }
             }
         }
     }
-    out1:;
     return (sectors__Across){ .tag = UINT8_C(1) };
 }
 
@@ -4969,12 +4965,10 @@ static inline leg_moves__Onward leg_moves__led_from(uint8_t x1, leg_moves__Spot 
                 if (signed_at_most(x6, UINT64_C(79))) {
                     x14 = x5;
                     return (leg_moves__Onward){ .tag = UINT8_C(0), .v0_f1 = (leg_moves__Spot){ .f0 = x14, .f1 = x6 } };
-                    goto out1;
                 }
             }
         }
     }
-    out1:;
     return (leg_moves__Onward){ .tag = UINT8_C(1) };
 }
 

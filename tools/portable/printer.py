@@ -870,6 +870,8 @@ class Function:
         for s in all_:
             if not (id(s) in self.pairs and self.leave_out(s)):
                 self.statement(s)
+            if s[0] in ("return", "exit", "again"):
+                return
 
     def leave_out(self, s):
         """Puts a temporary's value off to the next statement, unless the text gets too long."""
