@@ -53,6 +53,19 @@ def count(t):
     return n
 
 
+def erased(node):
+    """The same with no lifetime in it: they are for the proof, and two types that differ in them alone are one in C."""
+    if isinstance(node, list):
+        return [erased(part) for part in node]
+    if not isinstance(node, dict):
+        return node
+    if set(node) == {"Ref"}:
+        return {"Ref": ["Erased", node["Ref"][1], erased(node["Ref"][2])]}
+    if set(node) == {"Named"}:
+        return {"Named": {"name": node["Named"]["name"], "lifetimes": []}}
+    return {k: erased(v) for k, v in node.items()}
+
+
 # ---- bodies as trees
 
 def tree(body):

@@ -34,7 +34,7 @@ import hashlib
 import json
 import re
 
-from mir import (count, element, every, inside, is_array, is_number, key, local_of, mentions, operands, read_locals, refuse, told, tree,
+from mir import (count, element, erased, every, inside, is_array, is_number, key, local_of, mentions, operands, read_locals, refuse, told, tree,
                  without)
 
 WIDTHS = (8, 16, 32, 64)
@@ -251,8 +251,7 @@ class Types:
         self.declared.setdefault(name, text)
 
     def size_of_element(self, t):
-        if t not in self.elements.values() and self.c(t) not in self.elements:
-            self.elements[self.c(t)] = self.layout(t)[0]
+        self.elements.setdefault(self.c(t), self.layout(t)[0])
 
     def layout(self, t):
         """The proved size and alignment of a type: fields in order, each at a multiple of its alignment."""
@@ -369,8 +368,7 @@ class Function:
             for s in every(self.body):
                 if s[0] != "assign":
                     continue
-                place, rvalue = s[1], s[2]
-                new = set()
+                place, new = s[1], set()
                 if self.through(place):
                     new.add(place["local"])
                 if not place["steps"] and (place["local"] in found or self.is_for_writing(self.locals[place["local"]])):
@@ -433,7 +431,7 @@ class Function:
             constant, lent = self.unit.filler(s[1]), local_of(s[2][0])
             if constant is None or lent is None or lent in self.params:
                 continue
-            made = [w for w in self.writes(lent)]
+            made = list(self.writes(lent))
             if len(made) != 1 or made[0][0] != "assign" or key(made[0][2]) != "AddrOf" or made[0][2]["AddrOf"]["steps"]:
                 continue
             x = made[0][2]["AddrOf"]["local"]
@@ -551,8 +549,8 @@ class Function:
                 for at, s in enumerate(one):
                     if s[0] == "assign" and s[1] == place_of(x):
                         self.locals.append("Ptr")
+                        one[at] = ("assign", place_of(len(self.locals) - 1), renamed(s[2], x, now))
                         now = len(self.locals) - 1
-                        one[at] = ("assign", place_of(now), s[2])
                     elif x in mentions(s):
                         one[at] = renamed(s, x, now)
 
@@ -1149,7 +1147,8 @@ class Unit:
     """All functions that the exports reach, as one C file."""
 
     def __init__(self, functions, header_text, prefix):
-        self.functions, self.header = functions, Header(header_text)
+        self.proved, self.header = functions, Header(header_text)
+        self.functions = functions = {name: erased(item) for name, item in functions.items()}
         self.exports = {}
         for name in functions:
             last = name.split("::")[-1]
@@ -1301,5 +1300,5 @@ class Unit:
 
     def digest(self):
         """A digest of the MIR of every function that is reached, by name."""
-        items = [[name, self.functions[name]] for name in sorted(self.reached)]
+        items = [[name, self.proved[name]] for name in sorted(self.reached)]
         return hashlib.sha256(json.dumps(items, sort_keys=True, separators=(",", ":")).encode()).hexdigest()
