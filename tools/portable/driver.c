@@ -51,7 +51,7 @@ static void mix_bytes(const uint8_t *bytes, uint32_t count)
 enum {
     SECTOR, SECTOR_WITHOUT_SIGHT, ARRIVALS, BOUNDS, WINDOW_COSTS, WINDOW_TOUR, LEG, LEG_WITHOUT_SIGHT, LEG_FIELD,
     LEG_FIELD_WITHOUT_SIGHT, MOVE, WAY, LEG_FILE_WRITE, LEG_FILE_READ, INIT, BUILD, FLOW_NEW, FLOW_BUILD, LINE, SHALLOW, STEEP,
-    LINE_END, PRACTICE_FLOOR, IS_PATHABLE, IS_GOAL, IS_PORTAL_GOAL, HAS_LINE_OF_SIGHT, IS_WALL, GET_COMPASS_DIR, CALLS
+    LINE_END, PRACTICE_FLOOR, IS_PATHABLE, IS_GOAL, IS_PORTAL_GOAL, HAS_LINE_OF_SIGHT, IS_WALL, GET_COMPASS_DIR, VERSION, CALLS
 };
 
 /* Those before this one have a number in their answer. */
@@ -521,6 +521,13 @@ static void call_readers(void)
     }
 }
 
+/* Of the version only whether it is the header's, so that a new version does not change the digest. */
+static void call_version(void)
+{
+    mix(hanjolum_version() == HANJOLUM_VERSION_NUMBER, 1);
+    accepted[VERSION]++;
+}
+
 static void call_practice(uint32_t seed)
 {
     HanjolumPracticeFloor a = hanjolum_practice_floor(seed);
@@ -534,6 +541,7 @@ uint64_t run_values(uint32_t rounds)
     state = UINT64_C(88172645463325252);
     digest = UINT64_C(14695981039346656037);
     call_readers();
+    call_version();
     for (uint32_t i = 0; i < rounds; i++) {
         call_practice(i == 0 ? 0 : i == 1 ? 4294967295u : draw());
         call_sectors();
