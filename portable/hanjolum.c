@@ -693,6 +693,27 @@ static inline bool signed_at_most(uint64_t a, uint64_t b)
     return (a ^ UINT64_C(0x8000000000000000)) <= (b ^ UINT64_C(0x8000000000000000));
 }
 
+/* One of two numbers, without a branch: the first where the bool holds. */
+static inline uint8_t choose_uint8_t(bool first, uint8_t a, uint8_t b)
+{
+    uint32_t mask = (uint32_t)first * UINT8_MAX;
+    return (uint8_t)(((uint32_t)a & mask) | ((uint32_t)b & (mask ^ UINT8_MAX)));
+}
+
+/* One of two numbers, without a branch: the first where the bool holds. */
+static inline uint32_t choose_uint32_t(bool first, uint32_t a, uint32_t b)
+{
+    uint32_t mask = (uint32_t)first * UINT32_MAX;
+    return (((uint32_t)a & mask) | ((uint32_t)b & (mask ^ UINT32_MAX)));
+}
+
+/* One of two numbers, without a branch: the first where the bool holds. */
+static inline uint64_t choose_uint64_t(bool first, uint64_t a, uint64_t b)
+{
+    uint64_t mask = (uint64_t)first * UINT64_MAX;
+    return (((uint64_t)a & mask) | ((uint64_t)b & (mask ^ UINT64_MAX)));
+}
+
 /* The part of lent memory that begins so many bytes on. Where nothing is lent the pointer may be NULL, and NULL enters no sum. */
 static inline const uint8_t *part(const uint8_t *at, uint64_t bytes)
 {
@@ -815,14 +836,8 @@ static inline uint8_t utilities__CompassDir__number(utilities__CompassDir x1)
 static inline uint64_t route__edge_length(utilities__CompassDir x1)
 {
     uint8_t x2;
-    uint64_t x4;
     x2 = utilities__CompassDir__number(x1);
-    if (x2 < UINT8_C(4)) {
-        x4 = UINT64_C(10);
-    } else {
-        x4 = UINT64_C(0);
-    }
-    return x4;
+    return choose_uint64_t(x2 < UINT8_C(4), UINT64_C(10), UINT64_C(0));
 }
 
 /* utilities::pair */
@@ -880,14 +895,8 @@ static inline uint64_t utilities__rises(uint64_t x1)
 static inline uint64_t route__stride_of(utilities__CompassDir x1)
 {
     utilities__Differences x2;
-    uint64_t x4;
     x2 = utilities__CompassDir__differences(x1);
-    if (x2.f0 == UINT64_C(0)) {
-        x4 = UINT64_C(1);
-    } else {
-        x4 = UINT64_C(10);
-    }
-    return x4;
+    return choose_uint64_t(x2.f0 == UINT64_C(0), UINT64_C(1), UINT64_C(10));
 }
 
 /* route::edge_cell */
@@ -1016,10 +1025,7 @@ static inline uint8_t step_numbers__window_number(uint8_t x1, uint8_t x2, uint8_
         return UINT8_C(7);
     }
     x5 = x2 < x1;
-    if (x5) {
-        return UINT8_C(8);
-    }
-    return UINT8_C(0);
+    return choose_uint8_t(x5, UINT8_C(8), UINT8_C(0));
 }
 
 /* step_numbers::each_step */
@@ -1041,10 +1047,7 @@ static inline uint8_t step_numbers__each_step(
     if (x3 == UINT8_C(1)) {
         return step_numbers__window_number(x4, x5, x6);
     }
-    if (UINT8_C(99) < x2) {
-        return UINT8_C(5);
-    }
-    return UINT8_C(0);
+    return choose_uint8_t(UINT8_C(99) < x2, UINT8_C(5), UINT8_C(0));
 }
 
 /* step_numbers::step_number */
@@ -1099,14 +1102,13 @@ static inline bool step_numbers__is_wall_target(slice_const_uint8_t x1, route__T
 static inline uint8_t step_numbers__number_with_target(slice_const_uint8_t x1, slice_const_uint8_t x2, route__Target x3)
 {
     uint8_t x4;
+    bool x6;
     x4 = step_numbers__step_number(x2);
     if (x4 != UINT8_C(0)) {
         return x4;
     }
-    if (step_numbers__is_wall_target(x1, x3)) {
-        return UINT8_C(16);
-    }
-    return UINT8_C(0);
+    x6 = step_numbers__is_wall_target(x1, x3);
+    return choose_uint8_t(x6, UINT8_C(16), UINT8_C(0));
 }
 
 /* sector::lacks_previous */
@@ -2030,19 +2032,14 @@ static inline bool integration_build__is_first(bool x1, uint32_t x2, uint32_t x3
 static inline uint64_t integration_build__relax(
     uint32_t *x1, const uint32_t *x2, uint8_t *x3, uint64_t x4, uint64_t x5, uint32_t x6)
 {
-    uint32_t x7, x9, x16;
+    uint32_t x7, x9;
     bool x8, x10;
     uint64_t x11;
     uint8_t x19;
     x11 = x5 * UINT64_C(4);
     x7 = *(const uint32_t *)((const uint8_t *)x1 + x11);
     x8 = integration_build__is_written(x7, x6);
-    if (x8) {
-        x16 = x6;
-    } else {
-        x16 = x7;
-    }
-    x9 = x16;
+    x9 = choose_uint32_t(x8, x6, x7);
     x11 = x5 * UINT64_C(4);
     *(uint32_t *)((uint8_t *)x1 + x11) = x9;
     x19 = (uint8_t)x5;
@@ -2219,19 +2216,14 @@ static inline uint8_t integration_positions__narrow(uint64_t x1)
 /* integration_positions::place_at */
 static inline uint64_t integration_positions__place_at(uint32_t *x1, uint8_t *x2, uint64_t x3, uint32_t x4, uint64_t x5)
 {
-    uint32_t x6, x8, x14;
+    uint32_t x6, x8;
     bool x7;
     uint64_t x9;
     uint8_t x17;
     x9 = x5 * UINT64_C(4);
     x6 = *(const uint32_t *)((const uint8_t *)x1 + x9);
     x7 = x6 == x4;
-    if (x7) {
-        x14 = UINT32_C(65537);
-    } else {
-        x14 = x6;
-    }
-    x8 = x14;
+    x8 = choose_uint32_t(x7, UINT32_C(65537), x6);
     x9 = x5 * UINT64_C(4);
     *(uint32_t *)((uint8_t *)x1 + x9) = x8;
     x17 = integration_positions__narrow(x5);
@@ -2346,16 +2338,15 @@ static inline bool integration_bits__is_goal(uint32_t x1)
 /* integration_positions::kept */
 static inline uint8_t integration_positions__kept(uint32_t x1, uint8_t x2)
 {
+    bool x5;
     if (integration_bits__is_impassable(x1)) {
         return UINT8_C(255);
     }
     if (integration_bits__is_los(x1)) {
         return UINT8_C(255);
     }
-    if (integration_bits__is_goal(x1)) {
-        return UINT8_C(255);
-    }
-    return x2;
+    x5 = integration_bits__is_goal(x1);
+    return choose_uint8_t(x5, UINT8_C(255), x2);
 }
 
 /* integration_positions::keep */
@@ -2443,6 +2434,7 @@ static inline bool integration_bits__is_portal(uint32_t x1)
 /* flow_new::starting_flags */
 static inline uint8_t flow_new__starting_flags(uint32_t x1)
 {
+    bool x6;
     if (integration_bits__is_goal(x1)) {
         return (uint8_t)((uint32_t)(uint8_t)(UINT32_C(64) | UINT32_C(16)) | UINT32_C(32));
     }
@@ -2452,10 +2444,8 @@ static inline uint8_t flow_new__starting_flags(uint32_t x1)
     if (integration_bits__is_los(x1)) {
         return (uint8_t)(UINT32_C(32) | UINT32_C(16));
     }
-    if (integration_bits__is_impassable(x1)) {
-        return UINT8_C(224);
-    }
-    return UINT8_C(0);
+    x6 = integration_bits__is_impassable(x1);
+    return choose_uint8_t(x6, UINT8_C(224), UINT8_C(0));
 }
 
 /* flow_new::start_cells */
@@ -2739,15 +2729,14 @@ static inline uint32_t flow_build__seen_key(const uint32_t *x1, const uint32_t *
 {
     uint32_t x5, x6;
     uint64_t x10;
+    bool x18;
     x10 = ((x4.row * UINT64_C(10)) + x4.column) * UINT64_C(4);
     x5 = *(const uint32_t *)((const uint8_t *)x2 + x10);
     x10 = ((x3.row * UINT64_C(10)) + x4.column) * UINT64_C(4);
     x6 = *(const uint32_t *)((const uint8_t *)x1 + x10);
     x10 = ((x4.row * UINT64_C(10)) + x3.column) * UINT64_C(4);
-    if (integration_bits__passes_wall(x3, x4, x6, *(const uint32_t *)((const uint8_t *)x1 + x10))) {
-        return UINT32_C(65537);
-    }
-    return x5;
+    x18 = integration_bits__passes_wall(x3, x4, x6, *(const uint32_t *)((const uint8_t *)x1 + x10));
+    return choose_uint32_t(x18, UINT32_C(65537), x5);
 }
 
 /* flow_build::is_noted */
@@ -2761,27 +2750,17 @@ static inline bool flow_build__is_noted(uint32_t x1, uint32_t x2)
 /* flow_build::key_after */
 static inline uint32_t flow_build__key_after(uint32_t x1, uint32_t x2)
 {
-    uint32_t x4;
-    if (flow_build__is_noted(x1, x2)) {
-        x4 = x1;
-    } else {
-        x4 = x2;
-    }
-    return x4;
+    bool x3;
+    x3 = flow_build__is_noted(x1, x2);
+    return choose_uint32_t(x3, x1, x2);
 }
 
 /* flow_build::bits_after */
 static inline uint8_t flow_build__bits_after(uint32_t x1, uint32_t x2, uint8_t x3, uint8_t x4)
 {
     bool x5;
-    uint8_t x8;
     x5 = flow_build__is_noted(x1, x2);
-    if (x5 & (x1 != UINT32_C(1))) {
-        x8 = x3;
-    } else {
-        x8 = x4;
-    }
-    return x8;
+    return choose_uint8_t(x5 & (x1 != UINT32_C(1)), x3, x4);
 }
 
 /* flow_build::look_from */
@@ -3333,6 +3312,7 @@ static inline uint8_t bounds__bounds_number(
     slice_const_uint8_t x1, slice_const_uint8_t x2, slice_const_uint8_t x3, route__Target x4)
 {
     uint8_t x5, x6;
+    bool x9;
     if (x1.length != UINT64_C(100)) {
         return UINT8_C(1);
     }
@@ -3350,10 +3330,8 @@ static inline uint8_t bounds__bounds_number(
     if (!x4.f0) {
         return UINT8_C(18);
     }
-    if (bounds__has_no_range(x1, x2)) {
-        return UINT8_C(18);
-    }
-    return UINT8_C(0);
+    x9 = bounds__has_no_range(x1, x2);
+    return choose_uint8_t(x9, UINT8_C(18), UINT8_C(0));
 }
 
 /* bounds::refused */
@@ -3686,10 +3664,7 @@ static inline uint8_t window_steps__window_step_number(slice_const_uint8_t x1, u
     if (*(x3.at + UINT64_C(2)) != UINT8_C(1)) {
         return UINT8_C(20);
     }
-    if (*(x3.at + UINT64_C(0)) != x2) {
-        return UINT8_C(20);
-    }
-    return UINT8_C(0);
+    return choose_uint8_t(*(x3.at + UINT64_C(0)) != x2, UINT8_C(20), UINT8_C(0));
 }
 
 /* window_steps::each_window_step */
@@ -3769,13 +3744,7 @@ static inline route__Target window_columns__target_at(slice_const_uint8_t x1, ui
 /* window_columns::smaller */
 static inline uint32_t window_columns__smaller(uint32_t x1, uint32_t x2)
 {
-    uint32_t x4;
-    if (x1 < x2) {
-        x4 = x1;
-    } else {
-        x4 = x2;
-    }
-    return x4;
+    return choose_uint32_t(x1 < x2, x1, x2);
 }
 
 /* window_columns::least_built */
@@ -3996,10 +3965,7 @@ static inline uint64_t tour_search__tried_count(uint64_t x1, uint16_t x2)
     uint64_t x3, x4;
     x3 = tour_ranking__factorial(x1 - UINT64_C(1));
     x4 = (uint64_t)x2;
-    if (x4 < x3) {
-        return x4;
-    }
-    return x3;
+    return choose_uint64_t(x4 < x3, x4, x3);
 }
 
 /* tour_ranking::first_order */
@@ -4031,10 +3997,7 @@ static inline uint32_t tour_search__move_weight(const uint32_t *x1, const uint8_
     x14 = (const uint8_t *)x1 + x7;
     x15 = x5 * UINT64_C(4);
     x6 = *(const uint32_t *)((const uint8_t *)(const uint32_t *)x14 + x15);
-    if (x6 == UINT32_C(65535)) {
-        return UINT32_C(524288);
-    }
-    return x6;
+    return choose_uint32_t(x6 == UINT32_C(65535), UINT32_C(524288), x6);
 }
 
 /* tour_search::add_moves */
@@ -4183,10 +4146,7 @@ static inline uint32_t tour_entries__enter_from(const uint32_t *x1, uint64_t x2,
     x9 = (const uint8_t *)x1 + x7;
     x10 = x3 * UINT64_C(4);
     x5 = *(const uint32_t *)((const uint8_t *)(const uint32_t *)x9 + x10);
-    if (x5 < x4) {
-        return x5;
-    }
-    return x4;
+    return choose_uint32_t(x5 < x4, x5, x4);
 }
 
 /* tour_entries::cheapest_entry */
@@ -4485,6 +4445,7 @@ static inline bool leg__is_apart(slice_const_uint8_t x1)
 static inline uint8_t leg__leg_number(slice_const_uint8_t x1, slice_const_uint8_t x2, uint64_t x3)
 {
     uint8_t x4;
+    bool x9;
     if (x1.length != UINT64_C(6400)) {
         return UINT8_C(1);
     }
@@ -4501,10 +4462,8 @@ static inline uint8_t leg__leg_number(slice_const_uint8_t x1, slice_const_uint8_
     if (leg__is_out_of_order(x2)) {
         return UINT8_C(9);
     }
-    if (leg__is_apart(x2)) {
-        return UINT8_C(10);
-    }
-    return UINT8_C(0);
+    x9 = leg__is_apart(x2);
+    return choose_uint8_t(x9, UINT8_C(10), UINT8_C(0));
 }
 
 /* leg_counting::counts */
@@ -4774,14 +4733,13 @@ static inline uint8_t leg_field__field_number(slice_const_uint8_t x1, slice_cons
 static inline uint8_t leg_field__number_by_sight(slice_const_uint8_t x1, slice_const_uint8_t x2, bool x3, uint64_t x4)
 {
     uint8_t x5;
+    bool x7;
     x5 = leg_field__field_number(x1, x2, x4);
     if (x5 != UINT8_C(0)) {
         return x5;
     }
-    if (leg__is_some_closed(x1, x2, x3)) {
-        return UINT8_C(15);
-    }
-    return UINT8_C(0);
+    x7 = leg__is_some_closed(x1, x2, x3);
+    return choose_uint8_t(x7, UINT8_C(15), UINT8_C(0));
 }
 
 /* leg_field::cells_before */
@@ -4903,10 +4861,7 @@ static inline uint8_t leg_moves__cart_number(uint64_t x1, uint8_t x2, uint8_t x3
     if (UINT8_C(63) < x2) {
         return UINT8_C(4);
     }
-    if (UINT8_C(99) < x3) {
-        return UINT8_C(5);
-    }
-    return UINT8_C(0);
+    return choose_uint8_t(UINT8_C(99) < x3, UINT8_C(5), UINT8_C(0));
 }
 
 /* leg_moves::place_of */
@@ -4983,13 +4938,12 @@ static inline leg_moves__Onward leg_moves__move_from(slice_const_uint8_t x1, leg
 /* leg_moves::still_outcome */
 static inline uint8_t leg_moves__still_outcome(uint8_t x1)
 {
+    bool x3;
     if (flow_bits__is_goal(x1)) {
         return UINT8_C(2);
     }
-    if (flow_bits__has_line_of_sight(x1)) {
-        return UINT8_C(3);
-    }
-    return UINT8_C(0);
+    x3 = flow_bits__has_line_of_sight(x1);
+    return choose_uint8_t(x3, UINT8_C(3), UINT8_C(0));
 }
 
 /* leg_moves::sector_in */
@@ -5117,10 +5071,7 @@ static inline uint8_t leg_writer__write_number(slice_const_uint8_t x1, uint64_t 
     if (step_list__is_no_step_list(x1)) {
         return UINT8_C(3);
     }
-    if (x2 != (UINT64_C(6) + x1.length)) {
-        return UINT8_C(2);
-    }
-    return UINT8_C(0);
+    return choose_uint8_t(x2 != (UINT64_C(6) + x1.length), UINT8_C(2), UINT8_C(0));
 }
 
 /* leg_writer::put_head */
@@ -5220,10 +5171,7 @@ static inline uint8_t leg_reader__number(slice_const_uint8_t x1)
         return UINT8_C(14);
     }
     x3 = x1.length;
-    if (x3 != (UINT64_C(6) + (UINT64_C(8) * x2))) {
-        return UINT8_C(14);
-    }
-    return UINT8_C(0);
+    return choose_uint8_t(x3 != (UINT64_C(6) + (UINT64_C(8) * x2)), UINT8_C(14), UINT8_C(0));
 }
 
 /* leg_reader::read */
@@ -5246,15 +5194,10 @@ static inline HanjolumLegFile leg_reader__locate(slice_const_uint8_t x1)
 {
     uint8_t x2;
     slice_const_uint8_t x3;
-    uint64_t x4, x6;
+    uint64_t x4;
     x2 = leg_reader__number(x1);
     x3 = leg_reader__read(x1);
-    if (x2 == UINT8_C(0)) {
-        x6 = UINT64_C(6);
-    } else {
-        x6 = UINT64_C(0);
-    }
-    x4 = x6;
+    x4 = choose_uint64_t(x2 == UINT8_C(0), UINT64_C(6), UINT64_C(0));
     return (HanjolumLegFile){ .number = x2, .start = x4, .length = x3.length };
 }
 
@@ -5306,10 +5249,7 @@ static inline uint8_t practice__cost_of(uint32_t x1)
     if (x2 < UINT32_C(128)) {
         return UINT8_C(1);
     }
-    if (x2 <= UINT32_C(191)) {
-        return UINT8_C(10);
-    }
-    return UINT8_C(255);
+    return choose_uint8_t(x2 <= UINT32_C(191), UINT8_C(10), UINT8_C(255));
 }
 
 /* practice::draw_costs */
@@ -5640,13 +5580,7 @@ HanjolumLine hanjolum_walk_bresenham_steep(size_t col_0, size_t row_0, size_t co
 /* line_end::edge */
 static inline uint64_t line_end__edge(bool x1)
 {
-    uint64_t x3;
-    if (x1) {
-        x3 = UINT64_C(9);
-    } else {
-        x3 = UINT64_C(0);
-    }
-    return x3;
+    return choose_uint64_t(x1, UINT64_C(9), UINT64_C(0));
 }
 
 /* line_end::after */
@@ -5687,13 +5621,7 @@ static inline uint64_t line_end__first_leaving(uint64_t x1, uint64_t x2, uint64_
 /* line_end::smaller */
 static inline uint64_t line_end__smaller(uint64_t x1, uint64_t x2)
 {
-    uint64_t x4;
-    if (x1 <= x2) {
-        x4 = x1;
-    } else {
-        x4 = x2;
-    }
-    return x4;
+    return choose_uint64_t(x1 <= x2, x1, x2);
 }
 
 /* line_end::further */

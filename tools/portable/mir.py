@@ -6,7 +6,7 @@ Local 0 is the answer, locals 1 to `params` are the parameters. A place is a loc
 A statement is told here as a tuple, its name first:
 
     ("assign", place, rvalue)   ("call", function, operands, place)   ("return",)   ("exit", n)
-    ("again", operands), a call of the function itself that ends it
+    ("again", operands), a call of the function itself that ends it; and an rvalue of ours, {"Choose": [bool, number, number]}
     ("if", operand, [..], [..])   ("switch", operand, [(values, [..])..], [..] or None)   ("block", [..])   ("loop", [..])
 """
 import json
@@ -117,7 +117,7 @@ def operands(rvalue):
         return [v[1]]
     if k == "Op2":
         return [v[1], v[2]]
-    if k == "Aggregate":
+    if k in ("Aggregate", "Choose"):
         return list(v)
     if k == "Repeat":
         return [v[0]]

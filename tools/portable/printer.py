@@ -19,6 +19,8 @@ The rules, by the names under which tools/portable/test tries them:
     constants   An array that is listed from constants, and is written by nothing else and lent for no writing, is a `static const`
                 object and no local. So is a local array that a call fills with such a constant, where the called function does nothing
                 else, nothing was read of the array before, and nothing writes to it afterwards.
+    choice      An `if` that does nothing but choose between two numbers, each a local or a constant, is printed without a branch: one that
+                sets a local to either, or one that answers either.
     tail        A function that calls itself as the last thing it does goes back to its beginning instead, where no local of its own is
                 lent to the call.
     inline      Every function but an export is `static inline`. One that is called with a direction, or another variant, that is written at
@@ -88,6 +90,14 @@ static inline bool signed_at_most(uint64_t a, uint64_t b)
     return (a ^ UINT64_C(0x8000000000000000)) <= (b ^ UINT64_C(0x8000000000000000));
 }
 """,
+    **{f"choose_uint{width}_t": f"""\
+/* One of two numbers, without a branch: the first where the bool holds. */
+static inline uint{width}_t choose_uint{width}_t(bool first, uint{width}_t a, uint{width}_t b)
+{{
+    {wide} mask = ({wide})first * UINT{width}_MAX;
+    return {cut}((({wide})a & mask) | (({wide})b & (mask ^ UINT{width}_MAX)));
+}}
+""" for width, wide, cut in ((8, "uint32_t", "(uint8_t)"), (16, "uint32_t", "(uint16_t)"), (32, "uint32_t", ""), (64, "uint64_t", ""))},
     "part": """\
 /* The part of lent memory that begins so many bytes on. Where nothing is lent the pointer may be NULL, and NULL enters no sum. */
 static inline const uint8_t *part(const uint8_t *at, uint64_t bytes)
@@ -332,6 +342,7 @@ class Function:
     def prepare(self):
         self.find_constants()
         self.drop_dead()
+        self.body = self.find_choices(self.body)
         self.find_tails()
         self.split_pointers()
         self.to_write = self.written_pointers()
@@ -513,6 +524,33 @@ class Function:
             return True
         return key(then[2]) not in ("Aggregate", "Repeat") or key(then[2]) == "Aggregate" and self.is_one_value(self.place_type(then[1]))
 
+    def is_choice(self, s, x):
+        """Whether a statement sets a local, x or any, to a number that is there already: another local or a constant."""
+        if s[0] != "assign" or s[1]["steps"] or x not in (None, s[1]["local"]) or not is_number(self.locals[s[1]["local"]]) or key(s[2]) != "Opd":
+            return False
+        o = s[2]["Opd"]
+        return key(o) == "Int" or local_of(o) is not None and not o[key(o)]["steps"]
+
+    def find_choices(self, statements):
+        """Ifs that choose between two numbers become one statement."""
+        made = []
+        for at, s in enumerate(statements):
+            if s[0] == "if":
+                then, otherwise, rest = s[2], s[3], statements[at + 1:]
+                if len(then) == len(otherwise) == 1 and self.is_choice(then[0], None) and self.is_choice(otherwise[0], then[0][1]["local"]):
+                    made.append(("assign", then[0][1], {"Choose": [s[1], then[0][2]["Opd"], otherwise[0][2]["Opd"]]}))
+                    continue
+                if not otherwise and len(then) == len(rest) == 2 and then[1] == rest[1] == ("return",) \
+                        and self.is_choice(then[0], 0) and self.is_choice(rest[0], 0):
+                    return made + [("assign", place_of(0), {"Choose": [s[1], then[0][2]["Opd"], rest[0][2]["Opd"]]}), ("return",)]
+                s = ("if", s[1], self.find_choices(then), self.find_choices(otherwise))
+            elif s[0] in ("block", "loop"):
+                s = (s[0], self.find_choices(s[1]))
+            elif s[0] == "switch":
+                s = ("switch", s[1], [(v, self.find_choices(a)) for v, a in s[2]], None if s[3] is None else self.find_choices(s[3]))
+            made.append(s)
+        return made
+
     def turn_tails(self, statements, last):
         """Calls of the function itself that are the last thing it does become ("again", operands); `last`: nothing comes behind these."""
         made = []
@@ -685,6 +723,8 @@ class Function:
             return self.two(r[k][0], r[k][1], r[k][2], t, write)
         if k == "Aggregate":
             return self.struct(r[k], t), POSTFIX
+        if k == "Choose":
+            return f"{self.unit.helper('choose_' + self.types.c(t))}({', '.join(self.operand(o)[0] for o in r[k])})", POSTFIX
         return refuse(f"rvalue {told(r)} in {self.name}")
 
     def address(self, place, t, write):
