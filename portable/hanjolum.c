@@ -1,5 +1,5 @@
 /*
- * Hanjolum 1.2.1 as one C file: all calls of hanjolum.h, with every function that they reach. Printed by tools/portable/make from
+ * Hanjolum 1.3.0 as one C file: all calls of hanjolum.h, with every function that they reach. Printed by tools/portable/make from
  * the proved program; not to be edited. Take it along with include/hanjolum.h:
  *
  *     cc -std=c11 -O2 -Iinclude -c portable/hanjolum.c
@@ -14,7 +14,7 @@
  * answers to those of the archive that the toolchain compiles.
  *
  * Printed from: rattle-kit-5b-plain logic 097e4c862dff5811
- * MIR of 317 functions, SHA-256 2203e019a7a58cc58aea37c77435acfdb491be7b1e50c9d75083653865cf426d
+ * MIR of 318 functions, SHA-256 593e0b13f86990f1121d1a61525864ec2ed75f22805d7e2f5a7012ed12474019
  *
  * A port of the field code of bevy_flowfield_tiles_plugin (MIT OR Apache-2.0); NOTICE has its licence.
  */
@@ -121,14 +121,14 @@ typedef struct {
     uint64_t v0_f1;
 } sectors__Across;
 typedef struct { uint32_t at[64]; } array_64_uint32_t;
-/* tour_sums::WindowTour */
+/* tour_sums::SearchedTour */
 typedef struct {
     bool f0;
     uint8_t f1[8];
     uint32_t f2;
     uint32_t f3;
     uint32_t f4;
-} tour_sums__WindowTour;
+} tour_sums__SearchedTour;
 typedef struct { uint8_t at[8]; } array_8_uint8_t;
 /* tour_sums::Tour */
 typedef struct {
@@ -153,11 +153,11 @@ typedef struct {
 typedef struct { uint16_t at[100]; } array_100_uint16_t;
 typedef struct { uint8_t at[101]; } array_101_uint8_t;
 typedef struct { uint64_t at[100]; } array_100_uint64_t;
-/* integration_init::Counts */
+/* integration_init::Lengths */
 typedef struct {
     uint64_t f0;
     uint64_t f1;
-} integration_init__Counts;
+} integration_init__Lengths;
 
 /* The constant that line_end_table::ends::lay_out has. */
 static const uint8_t line_end_table__ends__lay_out__102[10000] = {
@@ -1455,8 +1455,8 @@ static inline uint64_t bresenham__moved(uint64_t x1, uint64_t x2, uint64_t x3)
     return x5;
 }
 
-/* bresenham::place_of */
-static inline uint64_t bresenham__place_of(bool x1, uint64_t x2, uint64_t x3)
+/* bresenham::list_place */
+static inline uint64_t bresenham__list_place(bool x1, uint64_t x2, uint64_t x3)
 {
     if (x1) {
         return x2 - x3;
@@ -1464,8 +1464,8 @@ static inline uint64_t bresenham__place_of(bool x1, uint64_t x2, uint64_t x3)
     return x3;
 }
 
-/* bresenham::placed_index */
-static inline uint64_t bresenham__placed_index(bool x1, uint64_t x2, uint64_t x3)
+/* bresenham::index_on_axes */
+static inline uint64_t bresenham__index_on_axes(bool x1, uint64_t x2, uint64_t x3)
 {
     if (x1) {
         return (x2 * UINT64_C(10)) + x3;
@@ -1484,8 +1484,8 @@ static inline uint64_t bresenham__walk(bool x1, bool x2, uint64_t x3, uint64_t x
     x12 = UINT64_C(0);
     while (x12 <= x8) {
         x13 = bresenham__moved(x4, x6, x11);
-        x14 = bresenham__place_of(x2, x8, x12);
-        x17 = bresenham__placed_index(x1, x3 + x12, x13);
+        x14 = bresenham__list_place(x2, x8, x12);
+        x17 = bresenham__index_on_axes(x1, x3 + x12, x13);
         x19 = x14 * UINT64_C(8);
         *(uint64_t *)((uint8_t *)x7 + x19) = x17;
         x17 = UINT64_C(2) * x8;
@@ -1712,9 +1712,9 @@ static inline uint64_t integration_init__meet_wall(
     return integration_init__try_side(x14, x15, x11, x4, x5, x16, x7, x8, x9);
 }
 
-/* integration_init::look_at */
-static inline integration_init__Counts integration_init__look_at(
-    uint32_t *x1, uint64_t *x2, uint8_t *x3, integration_init__Counts x4, uint64_t x5,
+/* integration_init::spread_to */
+static inline integration_init__Lengths integration_init__spread_to(
+    uint32_t *x1, uint64_t *x2, uint8_t *x3, integration_init__Lengths x4, uint64_t x5,
     utilities__CompassDir x6, uint64_t x7, uint64_t x8, uint32_t x9, const uint8_t *x10)
 {
     uint64_t x11, x12, x14, x15;
@@ -1732,7 +1732,7 @@ static inline integration_init__Counts integration_init__look_at(
     if (integration_bits__is_impassable(x13)) {
         x21 = x1;
         x14 = integration_init__meet_wall(x21, x2, x11, x5, x7, x6, x8, x9, x10);
-        return (integration_init__Counts){ .f0 = x14, .f1 = x12 };
+        return (integration_init__Lengths){ .f0 = x14, .f1 = x12 };
     }
     x18 = x9 + UINT32_C(65536);
     x15 = x7 * UINT64_C(4);
@@ -1740,12 +1740,12 @@ static inline integration_init__Counts integration_init__look_at(
     x25 = (uint8_t)x7;
     *(x3 + x12) = x25;
     x15 = x12 + UINT64_C(1);
-    return (integration_init__Counts){ .f0 = x11, .f1 = x15 };
+    return (integration_init__Lengths){ .f0 = x11, .f1 = x15 };
 }
 
-/* integration_init::look */
-static inline integration_init__Counts integration_init__look(
-    uint32_t *x1, uint64_t *x2, uint8_t *x3, integration_init__Counts x4, uint64_t x5,
+/* integration_init::spread_towards */
+static inline integration_init__Lengths integration_init__spread_towards(
+    uint32_t *x1, uint64_t *x2, uint8_t *x3, integration_init__Lengths x4, uint64_t x5,
     utilities__CompassDir x6, uint64_t x7, uint32_t x8, const uint8_t *x9)
 {
     uint64_t x11;
@@ -1762,15 +1762,15 @@ static inline integration_init__Counts integration_init__look(
     x11 = fields__index_beside(x5, x6);
     x14 = x1;
     x15 = x2;
-    return integration_init__look_at(x14, x15, x3, x4, x5, x6, x11, x7, x8, x9);
+    return integration_init__spread_to(x14, x15, x3, x4, x5, x6, x11, x7, x8, x9);
 }
 
-/* integration_init::look_around */
-static inline integration_init__Counts integration_init__look_around(
-    uint32_t *x1, uint64_t *x2, uint8_t *x3, integration_init__Counts x4, uint64_t x5, uint64_t x6,
+/* integration_init::spread_around */
+static inline integration_init__Lengths integration_init__spread_around(
+    uint32_t *x1, uint64_t *x2, uint8_t *x3, integration_init__Lengths x4, uint64_t x5, uint64_t x6,
     uint32_t x7, const uint8_t *x8)
 {
-    integration_init__Counts x9;
+    integration_init__Lengths x9;
     uint8_t x10;
     utilities__CompassDir x11;
     uint32_t *x13;
@@ -1782,28 +1782,28 @@ static inline integration_init__Counts integration_init__look_around(
         x11 = utilities__CompassDir__from_boundary(x10);
         x13 = x1;
         x14 = x2;
-        x9 = integration_init__look(x13, x14, x3, x9, x5, x11, x6, x7, x8);
+        x9 = integration_init__spread_towards(x13, x14, x3, x9, x5, x11, x6, x7, x8);
         x10 = (uint8_t)((uint32_t)x10 + UINT32_C(1));
     }
     return x9;
 }
 
-/* integration_init::look_wave */
-static inline integration_init__Counts integration_init__look_wave(
+/* integration_init::spread_wave */
+static inline integration_init__Lengths integration_init__spread_wave(
     uint32_t *x1, uint64_t *x2, uint64_t x3, const uint8_t *x4, uint64_t x5, uint8_t *x6, uint64_t x7,
     uint32_t x8, const uint8_t *x9)
 {
-    integration_init__Counts x10;
+    integration_init__Lengths x10;
     uint64_t x11, x12;
     uint32_t *x17;
     uint64_t *x18;
-    x10 = (integration_init__Counts){ .f0 = x3, .f1 = UINT64_C(0) };
+    x10 = (integration_init__Lengths){ .f0 = x3, .f1 = UINT64_C(0) };
     x11 = UINT64_C(0);
     while (x11 < x5) {
         x12 = utilities__index_of(*(x4 + x11));
         x17 = x1;
         x18 = x2;
-        x10 = integration_init__look_around(x17, x18, x6, x10, x12, x7, x8, x9);
+        x10 = integration_init__spread_around(x17, x18, x6, x10, x12, x7, x8, x9);
         x11 = x11 + UINT64_C(1);
     }
     return x10;
@@ -1814,7 +1814,7 @@ static inline uint64_t integration_init__propagate_los(
     uint32_t *x1, uint64_t *x2, uint64_t x3, uint8_t *x4, uint64_t x5, uint8_t *x6, uint64_t x7, uint32_t x8,
     uint64_t x9, const uint8_t *x10)
 {
-    integration_init__Counts x11;
+    integration_init__Lengths x11;
     uint64_t x12, x13;
     uint32_t *x15, *x19;
     uint64_t *x16, *x20;
@@ -1831,7 +1831,7 @@ again:;
     x15 = x1;
     x16 = x2;
     x17 = x4;
-    x11 = integration_init__look_wave(x15, x16, x3, x17, x5, x6, x7, x8, x10);
+    x11 = integration_init__spread_wave(x15, x16, x3, x17, x5, x6, x7, x8, x10);
     x12 = x11.f0;
     x13 = x11.f1;
     x19 = x1;
@@ -2271,8 +2271,8 @@ static inline uint64_t integration_positions__place_around(uint32_t *x1, uint8_t
     return integration_positions__place_towards(x19, x2, x12, x4, x5, x9);
 }
 
-/* integration_positions::spread */
-static inline uint64_t integration_positions__spread(
+/* integration_positions::flood */
+static inline uint64_t integration_positions__flood(
     const uint32_t *x1, uint32_t *x2, uint8_t *x3, uint8_t *x4, uint64_t x5, uint64_t x6, uint8_t x7)
 {
     uint64_t x8, x9, x10, x16;
@@ -2303,7 +2303,7 @@ static inline uint64_t integration_positions__place_corner(
     x8 = integration_positions__place_at(x9, x4, x5, UINT32_C(65536), x7);
     x11 = x2;
     x12 = x3;
-    return integration_positions__spread(x1, x11, x12, x4, x5, x8, x6);
+    return integration_positions__flood(x1, x11, x12, x4, x5, x8, x6);
 }
 
 /* integration_positions::place_corners */
@@ -2398,8 +2398,8 @@ static inline void integration_build__put(uint8_t *x1, array_100_uint8_t x2)
     memcpy(x1, x2.at, 100 * sizeof(uint8_t));
 }
 
-/* integration_build::built */
-static inline HanjolumBuildAnswer integration_build__built(slice_const_uint8_t x1, HanjolumIntegrationField x2)
+/* integration_build::build_with_positions */
+static inline HanjolumBuildAnswer integration_build__build_with_positions(slice_const_uint8_t x1, HanjolumIntegrationField x2)
 {
     array_100_uint32_t x3;
     HanjolumBuildAnswer x4;
@@ -2968,7 +2968,7 @@ static inline HanjolumBuildAnswer sector__run(
     HanjolumIntegrationField x7, x9;
     HanjolumBuildAnswer x8;
     x7 = integration_init__start(x1, x2);
-    x8 = integration_build__built(x1, x7);
+    x8 = integration_build__build_with_positions(x1, x7);
     x9 = x8.field;
     sector__write(x3, x2.f3, x9, x4, x5, (slice_uint8_t){ .at = x6.at, .length = x6.length });
     return x8;
@@ -4180,10 +4180,10 @@ static inline uint32_t tour_entries__least_figure(array_64_uint32_t x1, uint64_t
     return x4;
 }
 
-/* tour_search::window_tour */
-static inline tour_sums__WindowTour tour_search__window_tour(array_64_uint32_t x1, uint64_t x2, uint16_t x3)
+/* tour_search::search_tours */
+static inline tour_sums__SearchedTour tour_search__search_tours(array_64_uint32_t x1, uint64_t x2, uint16_t x3)
 {
-    tour_sums__WindowTour x0;
+    tour_sums__SearchedTour x0;
     array_64_uint32_t x4, x10;
     uint64_t x5;
     tour_sums__Tour x6;
@@ -4205,7 +4205,7 @@ static inline tour_sums__WindowTour tour_search__window_tour(array_64_uint32_t x
 }
 
 /* tour::accepted */
-static inline HanjolumWindowTour tour__accepted(tour_sums__WindowTour x1)
+static inline HanjolumWindowTour tour__accepted(tour_sums__SearchedTour x1)
 {
     HanjolumWindowTour x0;
     array_8_uint8_t x2;
@@ -4219,18 +4219,18 @@ static inline HanjolumWindowTour tour__accepted(tour_sums__WindowTour x1)
     return x0;
 }
 
-/* tour::plan_tour */
-static inline HanjolumWindowTour tour__plan_tour(slice_const_uint8_t x1, slice_const_uint8_t x2, uint16_t x3)
+/* tour::window_tour */
+static inline HanjolumWindowTour tour__window_tour(slice_const_uint8_t x1, slice_const_uint8_t x2, uint16_t x3)
 {
     uint8_t x4;
     array_64_uint32_t x5;
-    tour_sums__WindowTour x6;
+    tour_sums__SearchedTour x6;
     x4 = window_steps__window_costs_number(x1, x2);
     if (x4 != UINT8_C(0)) {
         return tour__refused(x4);
     }
     x5 = window_costs__window_square(x1, x2);
-    x6 = tour_search__window_tour(x5, x2.length / UINT64_C(8), x3);
+    x6 = tour_search__search_tours(x5, x2.length / UINT64_C(8), x3);
     return tour__accepted(x6);
 }
 
@@ -4240,7 +4240,7 @@ HanjolumWindowTour hanjolum_window_tour(
 {
     slice_const_uint8_t x1 = { costs, costs_length };
     slice_const_uint8_t x2 = { steps, steps_length };
-    return tour__plan_tour(x1, x2, limit);
+    return tour__window_tour(x1, x2, limit);
 }
 
 /* step_list::is_no_step_list */
@@ -4415,8 +4415,8 @@ static inline bool leg__faces(uint8_t x1, uint8_t x2, uint8_t x3)
     return x5 == x7;
 }
 
-/* leg::is_apart */
-static inline bool leg__is_apart(slice_const_uint8_t x1)
+/* leg::is_disconnected */
+static inline bool leg__is_disconnected(slice_const_uint8_t x1)
 {
     uint64_t x2, x3, x4, x5;
     bool x7;
@@ -4462,7 +4462,7 @@ static inline uint8_t leg__leg_number(slice_const_uint8_t x1, slice_const_uint8_
     if (leg__is_out_of_order(x2)) {
         return UINT8_C(9);
     }
-    x9 = leg__is_apart(x2);
+    x9 = leg__is_disconnected(x2);
     return choose_uint8_t(x9, UINT8_C(10), UINT8_C(0));
 }
 
@@ -4526,14 +4526,6 @@ static inline route__Target leg_counting__leg_target(route__RouteStep x1, bool x
     return x0;
 }
 
-/* leg::target_of */
-static inline route__Target leg__target_of(slice_const_uint8_t x1, bool x2, bool x3, const uint32_t *x4)
-{
-    route__RouteStep x5;
-    x5 = route__RouteStep__new(x1);
-    return leg_counting__leg_target(x5, x2, x3, x4);
-}
-
 /* leg_counting::is_closed */
 static inline bool leg_counting__is_closed(route__Target x1)
 {
@@ -4556,16 +4548,15 @@ static inline HanjolumIntegrationField integration_target__build_target(slice_co
 }
 
 /* leg::build_step */
-static inline HanjolumIntegrationField leg__build_step(slice_const_uint8_t x1, slice_const_uint8_t x2, route__Target x3)
+static inline HanjolumIntegrationField leg__build_step(slice_const_uint8_t x1, uint64_t x2, route__Target x3)
 {
-    uint64_t x4, x5, x6;
-    const uint8_t *x9;
-    x6 = utilities__index_of(*(x2.at + UINT64_C(0)));
-    x4 = x6 * UINT64_C(100);
+    uint64_t x4, x5, x7;
+    const uint8_t *x6;
+    x4 = x2 * UINT64_C(100);
     x5 = x4 + UINT64_C(100);
-    x9 = part(x1.at, x4);
-    x6 = x5 - x4;
-    return integration_target__build_target((slice_const_uint8_t){ .at = x9, .length = x6 }, x3);
+    x6 = part(x1.at, x4);
+    x7 = x5 - x4;
+    return integration_target__build_target((slice_const_uint8_t){ .at = x6, .length = x7 }, x3);
 }
 
 /* leg::is_some_closed */
@@ -4573,7 +4564,7 @@ static inline bool leg__is_some_closed(slice_const_uint8_t x1, slice_const_uint8
 {
     uint64_t x4, x6, x7, x13, x15;
     array_100_uint32_t x5;
-    slice_const_uint8_t x8;
+    route__RouteStep x8;
     route__Target x9;
     HanjolumIntegrationField x10;
     bool x12;
@@ -4590,9 +4581,9 @@ static inline bool leg__is_some_closed(slice_const_uint8_t x1, slice_const_uint8
         x13 = x7 + UINT64_C(8);
         x14 = part(x2.at, x7);
         x15 = x13 - x7;
-        x8 = (slice_const_uint8_t){ .at = x14, .length = x15 };
+        x8 = route__RouteStep__new((slice_const_uint8_t){ .at = x14, .length = x15 });
         x12 = UINT64_C(0) < x6;
-        x9 = leg__target_of(x8, x3, x12, x5.at);
+        x9 = leg_counting__leg_target(x8, x3, x12, x5.at);
         if (leg_counting__is_closed(x9)) {
             return true;
         }
@@ -4601,7 +4592,7 @@ static inline bool leg__is_some_closed(slice_const_uint8_t x1, slice_const_uint8
         if (x12) {
             return false;
         }
-        x10 = leg__build_step(x1, x8, x9);
+        x10 = leg__build_step(x1, x8.f0, x9);
         memcpy(x5.at, x10.field, sizeof x5.at);
         x6 = x6 + UINT64_C(1);
     }
@@ -4613,25 +4604,23 @@ static inline array_100_uint32_t leg__write_step(
     slice_const_uint8_t x1, slice_const_uint8_t x2, bool x3, bool x4, const uint32_t *x5, slice_uint8_t x6)
 {
     array_100_uint32_t x0;
-    route__Target x7;
-    HanjolumIntegrationField x8;
-    route__PortalWindow x9;
-    uint64_t x10, x11, x13;
-    route__RouteStep x12;
-    slice_const_uint32_t x18;
-    uint8_t *x19;
-    x7 = leg__target_of(x2, x3, x4, x5);
-    x8 = leg__build_step(x1, x2, x7);
-    x12 = route__RouteStep__new(x2);
-    x9 = x12.f3;
-    x13 = utilities__index_of(*(x2.at + UINT64_C(0)));
-    x10 = x13 * UINT64_C(100);
-    x11 = x10 + UINT64_C(100);
-    x18 = (slice_const_uint32_t){ .at = x5, .length = UINT64_C(100) };
-    x19 = part_to_write(x6.at, x10);
-    x13 = x11 - x10;
-    sector__write(x9, x7.f3, x8, x4, x18, (slice_uint8_t){ .at = x19, .length = x13 });
-    memcpy(x0.at, x8.field, sizeof x0.at);
+    route__RouteStep x7;
+    uint64_t x8, x11, x12, x17;
+    route__Target x9;
+    HanjolumIntegrationField x10;
+    slice_const_uint32_t x15;
+    uint8_t *x16;
+    x7 = route__RouteStep__new(x2);
+    x8 = x7.f0;
+    x9 = leg_counting__leg_target(x7, x3, x4, x5);
+    x10 = leg__build_step(x1, x8, x9);
+    x11 = x8 * UINT64_C(100);
+    x12 = x11 + UINT64_C(100);
+    x15 = (slice_const_uint32_t){ .at = x5, .length = UINT64_C(100) };
+    x16 = part_to_write(x6.at, x11);
+    x17 = x12 - x11;
+    sector__write(x7.f3, x9.f3, x10, x4, x15, (slice_uint8_t){ .at = x16, .length = x17 });
+    memcpy(x0.at, x10.field, sizeof x0.at);
     return x0;
 }
 
@@ -4747,7 +4736,7 @@ static inline array_100_uint32_t leg_field__cells_before(slice_const_uint8_t x1,
 {
     array_100_uint32_t x5;
     uint64_t x6, x7, x12, x14;
-    slice_const_uint8_t x8;
+    route__RouteStep x8;
     route__Target x9;
     HanjolumIntegrationField x10;
     bool x11;
@@ -4763,10 +4752,10 @@ static inline array_100_uint32_t leg_field__cells_before(slice_const_uint8_t x1,
         x12 = x7 + UINT64_C(8);
         x13 = part(x2.at, x7);
         x14 = x12 - x7;
-        x8 = (slice_const_uint8_t){ .at = x13, .length = x14 };
+        x8 = route__RouteStep__new((slice_const_uint8_t){ .at = x13, .length = x14 });
         x11 = UINT64_C(0) < x6;
-        x9 = leg__target_of(x8, x3, x11, x5.at);
-        x10 = leg__build_step(x1, x8, x9);
+        x9 = leg_counting__leg_target(x8, x3, x11, x5.at);
+        x10 = leg__build_step(x1, x8.f0, x9);
         memcpy(x5.at, x10.field, sizeof x5.at);
         x6 = x6 + UINT64_C(1);
     }
@@ -4774,20 +4763,19 @@ static inline array_100_uint32_t leg_field__cells_before(slice_const_uint8_t x1,
 }
 
 /* leg_field::field_of */
-static inline HanjolumBuildAnswer leg_field__field_of(slice_const_uint8_t x1, slice_const_uint8_t x2, route__Target x3)
+static inline HanjolumBuildAnswer leg_field__field_of(slice_const_uint8_t x1, uint64_t x2, route__Target x3)
 {
-    uint64_t x4, x5, x8;
+    uint64_t x4, x5, x9;
     slice_const_uint8_t x6;
     HanjolumIntegrationField x7;
-    const uint8_t *x11;
-    x8 = utilities__index_of(*(x2.at + UINT64_C(0)));
-    x4 = x8 * UINT64_C(100);
+    const uint8_t *x8;
+    x4 = x2 * UINT64_C(100);
     x5 = x4 + UINT64_C(100);
-    x11 = part(x1.at, x4);
-    x8 = x5 - x4;
-    x6 = (slice_const_uint8_t){ .at = x11, .length = x8 };
+    x8 = part(x1.at, x4);
+    x9 = x5 - x4;
+    x6 = (slice_const_uint8_t){ .at = x8, .length = x9 };
     x7 = integration_init__start(x6, x3);
-    return integration_build__built(x6, x7);
+    return integration_build__build_with_positions(x6, x7);
 }
 
 /* leg_field::field_by_sight */
@@ -4796,7 +4784,7 @@ static inline HanjolumBuildAnswer leg_field__field_by_sight(
 {
     array_100_uint32_t x6, x11;
     uint64_t x7, x12, x14;
-    slice_const_uint8_t x8;
+    route__RouteStep x8;
     route__Target x9;
     bool x10;
     const uint8_t *x13;
@@ -4810,10 +4798,10 @@ static inline HanjolumBuildAnswer leg_field__field_by_sight(
     x12 = x7 + UINT64_C(8);
     x13 = part(x3.at, x7);
     x14 = x12 - x7;
-    x8 = (slice_const_uint8_t){ .at = x13, .length = x14 };
+    x8 = route__RouteStep__new((slice_const_uint8_t){ .at = x13, .length = x14 });
     x10 = UINT64_C(0) < x5;
-    x9 = leg__target_of(x8, x4, x10, x6.at);
-    return leg_field__field_of(x2, x8, x9);
+    x9 = leg_counting__leg_target(x8, x4, x10, x6.at);
+    return leg_field__field_of(x2, x8.f0, x9);
 }
 
 /* leg_field::leg_field */
@@ -4826,12 +4814,11 @@ static inline HanjolumBuildAnswer leg_field__leg_field(slice_const_uint8_t x1, s
 
 /* hanjolum::hanjolum_leg_field */
 HanjolumBuildAnswer hanjolum_leg_field(
-    const uint8_t *floor, size_t floor_length, const uint8_t *steps, size_t steps_length, size_t place)
+    const uint8_t *floor, size_t floor_length, const uint8_t *steps, size_t steps_length, uint64_t place)
 {
     slice_const_uint8_t x1 = { floor, floor_length };
     slice_const_uint8_t x2 = { steps, steps_length };
-    uint64_t x3 = place;
-    return leg_field__leg_field(x1, x2, x3);
+    return leg_field__leg_field(x1, x2, place);
 }
 
 /* leg_field::leg_field_without_sight */
@@ -4844,12 +4831,11 @@ static inline HanjolumBuildAnswer leg_field__leg_field_without_sight(slice_const
 
 /* hanjolum::hanjolum_leg_field_without_sight */
 HanjolumBuildAnswer hanjolum_leg_field_without_sight(
-    const uint8_t *floor, size_t floor_length, const uint8_t *steps, size_t steps_length, size_t place)
+    const uint8_t *floor, size_t floor_length, const uint8_t *steps, size_t steps_length, uint64_t place)
 {
     slice_const_uint8_t x1 = { floor, floor_length };
     slice_const_uint8_t x2 = { steps, steps_length };
-    uint64_t x3 = place;
-    return leg_field__leg_field_without_sight(x1, x2, x3);
+    return leg_field__leg_field_without_sight(x1, x2, place);
 }
 
 /* leg_moves::cart_number */
@@ -4964,8 +4950,8 @@ static inline uint8_t leg_moves__cell_in(leg_moves__Spot x1)
     return (uint8_t)(x6 + (x2 % UINT64_C(10)));
 }
 
-/* leg_moves::placed_at */
-static inline HanjolumMove leg_moves__placed_at(uint8_t x1, leg_moves__Spot x2)
+/* leg_moves::accepted_move */
+static inline HanjolumMove leg_moves__accepted_move(uint8_t x1, leg_moves__Spot x2)
 {
     uint8_t x3, x4;
     x3 = leg_moves__sector_in(x2);
@@ -4992,9 +4978,9 @@ static inline HanjolumMove leg_moves__next_move(slice_const_uint8_t x1, uint8_t 
     default:
         x7 = leg_moves__byte_at(x1, x5);
         x11 = leg_moves__still_outcome(x7);
-        return leg_moves__placed_at(x11, x5);
+        return leg_moves__accepted_move(x11, x5);
     }
-    return leg_moves__placed_at(UINT8_C(1), x6);
+    return leg_moves__accepted_move(UINT8_C(1), x6);
 }
 
 /* hanjolum::hanjolum_move */
@@ -5369,7 +5355,7 @@ static inline HanjolumBuildAnswer integration_build__build(slice_const_uint8_t x
         return integration_field__refused(UINT8_C(11));
     }
     if (integration_build__corners_inside(x3.los_corners, x4)) {
-        return integration_build__built(x1, x3);
+        return integration_build__build_with_positions(x1, x3);
     }
     return integration_field__refused(UINT8_C(11));
 }
@@ -5503,19 +5489,15 @@ static inline HanjolumLine bresenham__get_cells_between_points(HanjolumFieldCell
 }
 
 /* hanjolum::hanjolum_line */
-HanjolumLine hanjolum_line(size_t source_column, size_t source_row, size_t target_column, size_t target_row)
+HanjolumLine hanjolum_line(uint64_t source_column, uint64_t source_row, uint64_t target_column, uint64_t target_row)
 {
-    uint64_t x1 = source_column;
-    uint64_t x2 = source_row;
-    uint64_t x3 = target_column;
-    uint64_t x4 = target_row;
     HanjolumFieldCell x5;
-    x5 = (HanjolumFieldCell){ .column = x1, .row = x2 };
-    return bresenham__get_cells_between_points(x5, (HanjolumFieldCell){ .column = x3, .row = x4 });
+    x5 = (HanjolumFieldCell){ .column = source_column, .row = source_row };
+    return bresenham__get_cells_between_points(x5, (HanjolumFieldCell){ .column = target_column, .row = target_row });
 }
 
-/* bresenham::placed_cell */
-static inline HanjolumFieldCell bresenham__placed_cell(bool x1, uint64_t x2, uint64_t x3)
+/* bresenham::cell_on_axes */
+static inline HanjolumFieldCell bresenham__cell_on_axes(bool x1, uint64_t x2, uint64_t x3)
 {
     if (x1) {
         return (HanjolumFieldCell){ .column = x3, .row = x2 };
@@ -5530,8 +5512,8 @@ static inline HanjolumLine bresenham__walk_alone(bool x1, uint64_t x2, uint64_t 
     array_10_uint64_t x8;
     uint64_t x9;
     bool x10;
-    x6 = bresenham__placed_cell(x1, x2, x3);
-    x7 = bresenham__placed_cell(x1, x4, x5);
+    x6 = bresenham__cell_on_axes(x1, x2, x3);
+    x7 = bresenham__cell_on_axes(x1, x4, x5);
     x10 = bresenham__both_inside(x6, x7);
     if (!x10) {
         return bresenham__empty(UINT8_C(13));
@@ -5552,13 +5534,9 @@ static inline HanjolumLine bresenham__walk_bresenham_shallow(uint64_t x1, uint64
 }
 
 /* hanjolum::hanjolum_walk_bresenham_shallow */
-HanjolumLine hanjolum_walk_bresenham_shallow(size_t col_0, size_t row_0, size_t col_1, size_t row_1)
+HanjolumLine hanjolum_walk_bresenham_shallow(uint64_t col_0, uint64_t row_0, uint64_t col_1, uint64_t row_1)
 {
-    uint64_t x1 = col_0;
-    uint64_t x2 = row_0;
-    uint64_t x3 = col_1;
-    uint64_t x4 = row_1;
-    return bresenham__walk_bresenham_shallow(x1, x2, x3, x4);
+    return bresenham__walk_bresenham_shallow(col_0, row_0, col_1, row_1);
 }
 
 /* bresenham::walk_bresenham_steep */
@@ -5568,17 +5546,13 @@ static inline HanjolumLine bresenham__walk_bresenham_steep(uint64_t x1, uint64_t
 }
 
 /* hanjolum::hanjolum_walk_bresenham_steep */
-HanjolumLine hanjolum_walk_bresenham_steep(size_t col_0, size_t row_0, size_t col_1, size_t row_1)
+HanjolumLine hanjolum_walk_bresenham_steep(uint64_t col_0, uint64_t row_0, uint64_t col_1, uint64_t row_1)
 {
-    uint64_t x1 = col_0;
-    uint64_t x2 = row_0;
-    uint64_t x3 = col_1;
-    uint64_t x4 = row_1;
-    return bresenham__walk_bresenham_steep(x1, x2, x3, x4);
+    return bresenham__walk_bresenham_steep(col_0, row_0, col_1, row_1);
 }
 
-/* line_end::edge */
-static inline uint64_t line_end__edge(bool x1)
+/* line_end::edge_away */
+static inline uint64_t line_end__edge_away(bool x1)
 {
     return choose_uint64_t(x1, UINT64_C(9), UINT64_C(0));
 }
@@ -5663,11 +5637,11 @@ static inline HanjolumFieldCell line_end__corner_line_end(HanjolumFieldCell x1, 
     x5 = x2.column < x3;
     x6 = x2.row < x4;
     if (x3 == x2.column) {
-        x7 = line_end__edge(x6);
+        x7 = line_end__edge_away(x6);
         return (HanjolumFieldCell){ .column = x3, .row = x7 };
     }
     if (x4 == x2.row) {
-        x8 = line_end__edge(x5);
+        x8 = line_end__edge_away(x5);
         return (HanjolumFieldCell){ .column = x8, .row = x4 };
     }
     return line_end__slanted_end(x5, x6, x1, x2);
@@ -5693,15 +5667,11 @@ static inline HanjolumLineEnd line_end__check_los_corner_propagation(HanjolumFie
 }
 
 /* hanjolum::hanjolum_line_end */
-HanjolumLineEnd hanjolum_line_end(size_t corner_column, size_t corner_row, size_t goal_column, size_t goal_row)
+HanjolumLineEnd hanjolum_line_end(uint64_t corner_column, uint64_t corner_row, uint64_t goal_column, uint64_t goal_row)
 {
-    uint64_t x1 = corner_column;
-    uint64_t x2 = corner_row;
-    uint64_t x3 = goal_column;
-    uint64_t x4 = goal_row;
     HanjolumFieldCell x5;
-    x5 = (HanjolumFieldCell){ .column = x1, .row = x2 };
-    return line_end__check_los_corner_propagation(x5, (HanjolumFieldCell){ .column = x3, .row = x4 });
+    x5 = (HanjolumFieldCell){ .column = corner_column, .row = corner_row };
+    return line_end__check_los_corner_propagation(x5, (HanjolumFieldCell){ .column = goal_column, .row = goal_row });
 }
 
 /* hanjolum::hanjolum_is_pathable */
@@ -5752,4 +5722,18 @@ uint8_t hanjolum_get_compass_dir_from_bits(uint8_t byte)
     utilities__CompassDir x2;
     x2 = flow_bits__get_compass_dir_from_bits(byte);
     return utilities__CompassDir__number(x2);
+}
+
+/* version::version */
+static inline uint32_t version__version(void)
+{
+    uint32_t x1;
+    x1 = UINT32_C(1) * UINT32_C(1000000);
+    return (x1 + (UINT32_C(3) * UINT32_C(1000))) + UINT32_C(0);
+}
+
+/* hanjolum::hanjolum_version */
+uint32_t hanjolum_version()
+{
+    return version__version();
 }
