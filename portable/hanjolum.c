@@ -663,6 +663,16 @@ static const uint8_t line_end_table__ends__lay_out__102[10000] = {
     99, 99, 99, 99, 99, 99, 99, 99, 99, 99, 99, 99, 99, 99, 99, 99, 99, 99, 99, 9,
 };
 
+/* The constant that utilities::CompassDir::differences has. */
+static const uint64_t utilities__CompassDir__differences__2_0[9] = {
+    0, 1, 0, UINT64_C(18446744073709551615), 1, 1, UINT64_C(18446744073709551615), UINT64_C(18446744073709551615), 0,
+};
+
+/* The constant that utilities::CompassDir::differences has. */
+static const uint64_t utilities__CompassDir__differences__2_1[9] = {
+    UINT64_C(18446744073709551615), 0, 1, 0, UINT64_C(18446744073709551615), 1, 1, UINT64_C(18446744073709551615), 0,
+};
+
 /* std::num::wrapping_add_u32, written from its contract: the sum modulo 4294967296. */
 MAY_WRAP static inline uint32_t wrapping_add_u32(uint32_t a, uint32_t b)
 {
@@ -850,35 +860,7 @@ static inline utilities__Differences utilities__pair(uint64_t x1, uint64_t x2)
 static inline utilities__Differences utilities__CompassDir__differences(utilities__CompassDir x1)
 {
     utilities__Differences x2;
-    switch (x1.tag) {
-    case 0:
-        x2 = utilities__pair(UINT64_C(0), UINT64_C(18446744073709551615));
-        break;
-    case 1:
-        x2 = utilities__pair(UINT64_C(1), UINT64_C(0));
-        break;
-    case 2:
-        x2 = utilities__pair(UINT64_C(0), UINT64_C(1));
-        break;
-    case 3:
-        x2 = utilities__pair(UINT64_C(18446744073709551615), UINT64_C(0));
-        break;
-    case 4:
-        x2 = utilities__pair(UINT64_C(1), UINT64_C(18446744073709551615));
-        break;
-    case 5:
-        x2 = utilities__pair(UINT64_C(1), UINT64_C(1));
-        break;
-    case 6:
-        x2 = utilities__pair(UINT64_C(18446744073709551615), UINT64_C(1));
-        break;
-    case 7:
-        x2 = utilities__pair(UINT64_C(18446744073709551615), UINT64_C(18446744073709551615));
-        break;
-    default:
-        x2 = utilities__pair(UINT64_C(0), UINT64_C(0));
-        break;
-    }
+    x2 = utilities__pair(utilities__CompassDir__differences__2_0[x1.tag], utilities__CompassDir__differences__2_1[x1.tag]);
     return x2;
 }
 

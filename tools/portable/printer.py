@@ -29,6 +29,9 @@ The rules, by the names under which tools/portable/test tries them:
     unroll      Before a loop of at most ten turns, by a constant, in which no other loop runs, and before any of at most four, stands UNROLL:
                 for gcc and clang, where they compile for speed, a hint, and nothing else.
     switch      The last case of a switch without a default is printed as its default: the proof says that no other value comes.
+    table       A switch without a default on 0, 1, 2 and so on, in which each arm does nothing but call one function with constants, is
+                printed as one call: an argument that is not the same in all arms is read from a `static const` table. A compiler that
+                made a jump of such a switch took twice the archive's time for arrivals.
     kit         Nothing of the kit is printed. `std::num::wrapping_add_u32` is written here from its contract; any other is refused.
     refused     Every operation, type, statement or function that is not named in this file is refused by its name.
 """
@@ -816,12 +819,12 @@ class Function:
     def put(self, text):
         self.lines.append("    " * self.depth + text)
 
-    def call(self, s):
+    def call(self, s, arguments=None):
         if s[1] in KIT:
             called = self.unit.helper(KIT[s[1]])
         else:
             called = symbol(s[1])
-        return f"{called}({', '.join(self.operand(o)[0] for o in s[2])})"
+        return f"{called}({', '.join(arguments or [self.operand(o)[0] for o in s[2]])})"
 
     def assign(self, place, r):
         t = self.place_type(place)
@@ -951,11 +954,12 @@ class Function:
         elif s[0] == "block":
             self.statement_block(s[1])
 
-    def statement_call(self, s):
+    def statement_call(self, s, arguments=None):
+        """A call, by these texts of its arguments where they are given."""
         if s[3]["steps"]:
             refuse(f"a call whose answer goes to {told(s[3])} in {self.name}")
         x = s[3]["local"]
-        text = self.call(s)
+        text = self.call(s, arguments)
         read = self.locals[x] != "Unit" and any(x in read_locals(r) for r in every(self.body))
         self.put(f"{self.names.get(x, f'x{x}')} = {text};" if read else f"{text};")
         if read:
@@ -1000,10 +1004,32 @@ class Function:
             self.block_of(s[3])
         self.put("}")
 
+    def calls_of(self, s):
+        """The calls that the arms of a switch make, in the order of its values, if the rule of tables holds of it; else nothing."""
+        arms = sorted(((v, arm) for values, arm in s[2] for v in values), key=lambda both: both[0])
+        if s[3] is not None or [v for v, _ in arms] != list(range(len(arms))) or any(len(arm) != 1 or arm[0][0] != "call" for _, arm in arms):
+            return []
+        calls = [arm[0] for _, arm in arms]
+        alike = all(c[1] == calls[0][1] and c[3] == calls[0][3] and all(key(o) == "Int" for o in c[2]) for c in calls)
+        return calls if alike else []
+
+    def from_table(self, e, calls, i):
+        """Argument i of the calls of a switch's arms, which is told by the value e."""
+        values, width = [c[2][i]["Int"]["value"] for c in calls], calls[0][2][i]["Int"]["width"]
+        if len(set(values)) == 1:
+            return self.operand(calls[0][2][i])[0]
+        t = {"Array": [{"Int": width}, {"Lit": len(values)}]}
+        table = self.unit.constant(self.name, f"{calls[0][3]['local']}_{i}", t, values)
+        return f"{table}[{e}]"
+
     def statement_switch(self, s):
         e, t, _ = self.operand(s[1])
         if not is_number(t):
             refuse(f"a switch on {told(t)} in {self.name}")
+        calls = self.calls_of(s)
+        if calls:
+            self.statement_call(calls[0], [self.from_table(e, calls, i) for i in range(len(calls[0][2]))])
+            return
         self.put(f"switch ({e}) {{")
         self.labels.append(("switch", None))
         for at, (values, arm) in enumerate(s[2]):
@@ -1333,7 +1359,8 @@ class Unit:
         for name, (function, t, values) in self.made_constants.items():
             lines += [f"/* The constant that {function} has. */",
                       f"static const {self.types.c(element(t))} {name}[{count(t)}] = {{"]
-            lines += ["    " + " ".join(f"{v}," for v in values[i:i + 20]) for i in range(0, len(values), 20)]
+            shown = [f"UINT64_C({v})" if v >= 2**31 else str(v) for v in values]
+            lines += ["    " + " ".join(f"{v}," for v in shown[i:i + 20]) for i in range(0, len(shown), 20)]
             lines += ["};", ""]
         lines += [HELPERS[h] for h in HELPERS if h in self.helpers]
         return "\n".join(lines)
