@@ -212,9 +212,11 @@ fn declared(prototype: &str) -> String {
 
 #[test]
 fn every_function_is_declared_as_the_header_has_it() {
-    let text = header();
+    let text = header().replace("\\\n", " ");
     let after_comments: String =
         text.split("/*").map(|part| part.split_once("*/").map_or(part, |(_, rest)| rest)).collect();
+    let macros = |line: &&str| line.starts_with('#') || line.starts_with("HANJOLUM_LAID_OUT");
+    let after_comments = after_comments.lines().filter(|line| !macros(line)).collect::<Vec<_>>().join("\n");
     let prototypes: Vec<String> = after_comments
         .split(';')
         .map(|part| part.split_whitespace().collect::<Vec<_>>().join(" "))
