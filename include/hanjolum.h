@@ -102,7 +102,7 @@
  * Stack and time.  Every call ends, on all input. In the program each wave of a field is a call of its own; the compiler makes
  * a loop of them, so that no function of the archive calls itself. Before sight spreads from a goal (init, sector, leg and
  * field of a leg's step, with sight), the table of line ends lies on the stack, 10,000 bytes; beside it no call needs more than
- * 10,016 bytes. Give a thread that makes those four calls 32 KB, and one that makes only others 16 KB, beside what the thread
+ * 10,096 bytes. Give a thread that makes those four calls 32 KB, and one that makes only others 16 KB, beside what the thread
  * itself needs. That is the compiler's doing and not proved.
  * Below, for each call, its bytes of stack in all, beside what memcpy and memset need, read off the archive
  * (tools/stack/frames); and its nanoseconds, the median on practice floors (tools/time/header) on one core of an AMD EPYC that
@@ -114,10 +114,10 @@
  *     hanjolum_bounds                                      7616      6866
  *     hanjolum_window_costs, eight windows                 5264      9476
  *     hanjolum_window_tour, eight windows, all orders      4800     41718
- *     hanjolum_leg, sixteen steps                         19008     45733
- *     hanjolum_leg_without_sight, sixteen steps            8792     43014
- *     hanjolum_leg_field, the last of sixteen steps       20016     35944
- *     hanjolum_leg_field_without_sight, the same           9920     33915
+ *     hanjolum_leg, sixteen steps                         19056     45733
+ *     hanjolum_leg_without_sight, sixteen steps            8840     43014
+ *     hanjolum_leg_field, the last of sixteen steps       20096     35944
+ *     hanjolum_leg_field_without_sight, the same          10000     33915
  *     hanjolum_move                                           8        10
  *     hanjolum_way, over sixteen sectors                     56      2369
  *     hanjolum_way, the longest                              56     47366
@@ -133,6 +133,7 @@
  *     hanjolum_walk_bresenham_steep                         848        51
  *     hanjolum_line_end                                      56        10
  *     hanjolum_is_goal                                        8         4
+ *     hanjolum_version                                        8         4
  */
 #ifndef HANJOLUM_H
 #define HANJOLUM_H
