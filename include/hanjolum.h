@@ -105,35 +105,35 @@
  * 10,096 bytes. Give a thread that makes those four calls 32 KB, and one that makes only others 16 KB, beside what the thread
  * itself needs. That is the compiler's doing and not proved.
  * Below, for each call, its bytes of stack in all, beside what memcpy and memset need, read off the archive
- * (tools/stack/frames); and its nanoseconds, the median on practice floors (tools/time/header) on one core of an AMD EPYC that
+ * (tools/stack/frames); and its nanoseconds, the median on practice floors (tools/time/header) on one core of an Intel Xeon that
  * did nothing else. Neither is proved, and times belong to the machine. Readers of a byte are alike.
- *     hanjolum_sector, a goal                             19296      3386
- *     hanjolum_sector, a window                           19296      2409
- *     hanjolum_sector_without_sight, a goal                9200      2186
- *     hanjolum_arrivals                                     640       992
- *     hanjolum_bounds                                      7616      6866
- *     hanjolum_window_costs, eight windows                 5264      9476
- *     hanjolum_window_tour, eight windows, all orders      4800     41718
- *     hanjolum_leg, sixteen steps                         19056     45733
- *     hanjolum_leg_without_sight, sixteen steps            8840     43014
- *     hanjolum_leg_field, the last of sixteen steps       20096     35944
- *     hanjolum_leg_field_without_sight, the same          10000     33915
- *     hanjolum_move                                           8        10
- *     hanjolum_way, over sixteen sectors                     56      2369
- *     hanjolum_way, the longest                              56     47366
+ *     hanjolum_sector, a goal                             19296      4529
+ *     hanjolum_sector, a window                           19296      2833
+ *     hanjolum_sector_without_sight, a goal                9200      2922
+ *     hanjolum_arrivals                                     640       945
+ *     hanjolum_bounds                                      7616      7608
+ *     hanjolum_window_costs, eight windows                 5264     11484
+ *     hanjolum_window_tour, eight windows, all orders      4800     46645
+ *     hanjolum_leg, sixteen steps                         19056     55185
+ *     hanjolum_leg_without_sight, sixteen steps            8840     53062
+ *     hanjolum_leg_field, the last of sixteen steps       20096     42262
+ *     hanjolum_leg_field_without_sight, the same          10000     40073
+ *     hanjolum_move                                           8        11
+ *     hanjolum_way, over sixteen sectors                     56      1937
+ *     hanjolum_way, the longest                              56     67025
  *     hanjolum_leg_file_write, sixteen steps                  8         5
  *     hanjolum_leg_file_read, sixteen steps                   8         4
- *     hanjolum_practice_floor                               752       206
- *     hanjolum_init, a goal                               16272      1571
- *     hanjolum_build, a goal                               7376      1790
- *     hanjolum_flow_new, a goal                            1088       259
- *     hanjolum_flow_build, a goal                          1344       545
- *     hanjolum_line                                         664        38
- *     hanjolum_walk_bresenham_shallow                       848        51
- *     hanjolum_walk_bresenham_steep                         848        51
- *     hanjolum_line_end                                      56        10
- *     hanjolum_is_goal                                        8         4
- *     hanjolum_version                                        8         4
+ *     hanjolum_practice_floor                               752       190
+ *     hanjolum_init, a goal                               16272      1828
+ *     hanjolum_build, a goal                               7376      1886
+ *     hanjolum_flow_new, a goal                            1088       140
+ *     hanjolum_flow_build, a goal                          1344       692
+ *     hanjolum_line                                         664        39
+ *     hanjolum_walk_bresenham_shallow                       848        54
+ *     hanjolum_walk_bresenham_steep                         848        52
+ *     hanjolum_line_end                                      56        12
+ *     hanjolum_is_goal                                        8         3
+ *     hanjolum_version                                        8         3
  */
 #ifndef HANJOLUM_H
 #define HANJOLUM_H
