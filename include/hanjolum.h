@@ -104,7 +104,8 @@
  * field of a leg's step, with sight), the table of line ends lies on the stack, 10,000 bytes; beside it no call needs more than
  * 10,096 bytes. Give a thread that makes those four calls 32 KB, and one that makes only others 16 KB, beside what the thread
  * itself needs. That is the compiler's doing and not proved.
- * Below, for each call, its bytes of stack in all, beside what memcpy and memset need, read off the archive
+ * The C file has that table as a constant, and what it needs depends on your compiler: docs/MACHINES.md has figures.
+ * Below, for each call of the archive, its bytes of stack in all, beside what memcpy and memset need, read off the archive
  * (tools/stack/frames); and its nanoseconds, the median on practice floors (tools/time/header) on one core of an Intel Xeon that
  * did nothing else. Neither is proved, and times belong to the machine. Readers of a byte are alike.
  *     hanjolum_sector, a goal                             19296      4529

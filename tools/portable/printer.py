@@ -30,8 +30,8 @@ The rules, by the names under which tools/portable/test tries them:
                 for gcc and clang, where they compile for speed, a hint, and nothing else.
     switch      The last case of a switch without a default is printed as its default: the proof says that no other value comes.
     table       A switch without a default on 0, 1, 2 and so on, in which each arm does nothing but call one function with constants, is
-                printed as one call: an argument that is not the same in all arms is read from a `static const` table. A compiler that
-                made a jump of such a switch took twice the archive's time for arrivals.
+                printed as one call: an argument that is not the same in all arms is read from a `static const` table, since the proof
+                says that no other value comes. A compiler that made a jump of such a switch took twice the archive's time for arrivals.
     kit         Nothing of the kit is printed. `std::num::wrapping_add_u32` is written here from its contract; any other is refused.
     refused     Every operation, type, statement or function that is not named in this file is refused by its name.
 """
