@@ -1,5 +1,7 @@
 // The call for bounds: its number, and for two floors and a window step each cell's least and greatest built cost over all floors between them, and
 // which cells are sure.
+#![tactic(auto)]
+
 ghost use Rattle.std.specs.Prelude.{◌≡◌, ◌↔◌, not, ◌&&◌, ◌||◌, ltb, eqb, length};
 ghost use Rattle.utilities.specs.Lists.{below};
 ghost use Rattle.route.specs.Step.{route_step};

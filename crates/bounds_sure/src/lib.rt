@@ -1,4 +1,6 @@
 // The built costs of a field's cells, and which cells are sure by them: the permitted neighbours of each are compared.
+#![tactic(auto)]
+
 ghost use Rattle.std.specs.Prelude.{◌≡◌, List, [], ◌∷◌, map, ℕ, ◌<◌, ltb, get_or, ◌&&◌};
 ghost use Rattle.utilities.specs.Lists.{below};
 ghost use Rattle.fields.specs.Cell.{Inside, index_of};

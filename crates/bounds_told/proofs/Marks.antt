@@ -4,7 +4,7 @@
 --     same-sure                floors with the same walls have the same sure cells
 -- Assumes nothing.
 use mathlib.Core.Path.{◌≡◌, refl, sym, ap, ◌∙◌}
-use mathlib.Core.Bool.{Bool, true, false, true≢false, not, ◌&&◌, ◌||◌, and-eq-true_iff, or_true}
+use mathlib.Core.Bool.{Bool, true, false, true≢false, not, ◌&&◌, ◌||◌, and-eq-true_iff, or-true}
 use mathlib.Core.Logic.{◌⊎◌, inl, inr, ◌↔◌}
 use mathlib.Core.List.Memᴰ
 use mathlib.Core.List.{List, [], ◌∷◌, Memᴰ}
@@ -48,7 +48,7 @@ module _ (p : ℕ → Bool) where
     where
       go : (x ≡ y) ⊎ Memᴰ x l → (Memᴰ x l → some_of p l ≡ true) → (p y || some_of p l) ≡ true
       go (inl q) f = let h : p y ≡ true = rw (← q) e in rw h
-      go (inr k) f = rw (f k) (or_true (p y))
+      go (inr k) f = rw (f k) (or-true (p y))
 
   pub every_told : (l : List ℕ) → every_of p l ≡ true → (x : ℕ) → Memᴰ x l → p x ≡ true
   every_told [] e x m = absurd (Memᴰ.not-nil m)
@@ -112,7 +112,7 @@ module _ {costs window cells corners built : List ℕ} (s : Sector costs window 
       where
         go : (m : ℕ) → Dec (m ≡ n) → PermittedNeighbour built x m → (eqb m n || ltb (get_or greatest n 0) (get_or least m 0)) ≡ true
         go m (yes q) p = rw (eq-eqb m n q)
-        go m (no q) p = rw (lt-ltb (get_or greatest n 0) (get_or least m 0) (o m p q)) (or_true (eqb m n))
+        go m (no q) p = rw (lt-ltb (get_or greatest n 0) (get_or least m 0) (o m p q)) (or-true (eqb m n))
 
     test_by : (has_window || has_least) ≡ true → (n : ℕ) × IsSureBy n
     test_by e = go has_window refl e
@@ -131,7 +131,7 @@ module _ {costs window cells corners built : List ℕ} (s : Sector costs window 
     by_test n (is_by_window p w) = rw (told_some _ neighbours n ((listed_told built x h n).1 p) (is_in_law n window (mem_among n window w)))
     by_test n (by_costs p r o) =
         let e : is_least n ≡ true = rw (lt-ltb (get_or greatest n 0) 65535 r, below_others n o) in
-        rw (told_some is_least neighbours n ((listed_told built x h n).1 p) e) (or_true has_window)
+        rw (told_some is_least neighbours n ((listed_told built x h n).1 p) e) (or-true has_window)
 
     pub sure_told : (is_sure built window least greatest x ≡ true) ↔ SureCell built (to_window window) least greatest costs x
     unfolding is_sure

@@ -1,8 +1,9 @@
 // Bounds of built costs over all floors between two: definitions and theorems, and the records of their code.
+#![tactic(auto)]
 
 // What the call for bounds answers: its number, each cell's least and greatest built cost, and whether the cell is sure.
 #[repr(C)]
-#[derive(Drop)]
+#[derive(Clone, Copy)]
 pub struct Bounds {
     pub number: u8,
     pub least: [u32; 100],
@@ -11,7 +12,7 @@ pub struct Bounds {
 }
 
 // The permitted neighbours of a cell: `count` of them, in the first places.
-#[derive(Drop)]
+#[derive(Clone, Copy)]
 pub struct PermittedCells {
     pub cells: [usize; 8],
     pub count: usize,

@@ -1,4 +1,6 @@
 // The cells of a line by Bresenham's algorithm.
+#![tactic(auto)]
+
 ghost use Rattle.std.specs.Prelude.{◌≡◌, ◌&&◌, map, ◌≤◌, ◌<◌, length, take};
 ghost use Rattle.fields.specs.Cell.{cell, inside, Inside, index_of, cell_at};
 ghost use Rattle.line_nearest.specs.Line.{distance, toward, cell_on_axes, walk_cells, line, answered, refused, called, line_call, shallow_call, steep_call};

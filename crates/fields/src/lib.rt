@@ -1,4 +1,6 @@
 // Cells of a sector, and steps from one to the next.
+#![tactic(auto)]
+
 ghost use Rattle.std.specs.Prelude.{◌≡◌, ◌<◌};
 ghost use Rattle.fields.specs.Cell.{inside, index_of, cell_at, index_or, the_cell_in, stepped};
 ghost use Rattle.fields.specs.declared.FieldCell.{FieldCell};
@@ -10,14 +12,14 @@ use utilities::CompassDir;
 
 // ID of a cell within a field.
 #[repr(C)]
-#[derive(Drop)]
+#[derive(Clone, Copy)]
 pub struct FieldCell {
     pub column: usize,
     pub row: usize,
 }
 
 // What a step answers: the cell that it arrives at, or that it leaves the sector.
-#[derive(Drop)]
+#[derive(Clone, Copy)]
 pub enum Stepped {
     Cell(FieldCell),
     Outside,

@@ -6,7 +6,7 @@
 --     sees_beside                   a cell beside that is no wall is seen in some direction
 -- Assumes nothing.
 use mathlib.Core.Path.{◌≡◌, refl, sym}
-use mathlib.Core.Bool.{Bool, true, false, true≢false, not, ◌||◌, and_false}
+use mathlib.Core.Bool.{Bool, true, false, true≢false, not, ◌||◌, and-false}
 use mathlib.Core.Logic.{◌⊎◌, inl, inr}
 use mathlib.Core.List.Memᴰ
 use mathlib.Core.List.{List, [], ◌∷◌, Memᴰ}
@@ -162,5 +162,5 @@ module _ (cells : List ℕ) (i : ℕ) (h : i < 100) where
       (r.0, in_all r.0 r.1, record { steps = r.2; to = beside b; no_wall = w; open_way = rw (no_diagonal b.one_apart) })
     where
       no_diagonal : ((i % 10 ≡ n % 10) × ByOne (i / 10) (n / 10)) ⊎ ((i / 10 ≡ n / 10) × ByOne (i % 10) (n % 10)) → diagonal i n ≡ false
-      no_diagonal (inl (c, o)) = rw (eq-eqb (i % 10) (n % 10) c) (and_false (not (eqb (i / 10) (n / 10))))
+      no_diagonal (inl (c, o)) = rw (eq-eqb (i % 10) (n % 10) c) (and-false (not (eqb (i / 10) (n / 10))))
       no_diagonal (inr (r, o)) = rw (eq-eqb (i / 10) (n / 10) r)

@@ -9,7 +9,7 @@
 --     target-on       a step's window cells lie on the edge of its boundary
 -- Assumes nothing.
 use mathlib.Core.Path.{◌≡◌, refl, sym, ap, subst, ◌∙◌}
-use mathlib.Core.Bool.{Bool, true, false, true≢false, cond, not, ◌&&◌, ◌||◌, or_true}
+use mathlib.Core.Bool.{Bool, true, false, true≢false, cond, not, ◌&&◌, ◌||◌, or-true}
 use mathlib.Core.Logic.{◌⊎◌, inl, inr, ◌↔◌}
 use mathlib.Core.List.Memᴰ
 use mathlib.Core.List.{List, Memᴰ}
@@ -87,7 +87,7 @@ module _ (costs : List ℕ) (target : Target) (built : List ℕ) (walls : (x : �
 
       either : Wall costs target in_row ⊎ Wall costs target in_column → (wall_at built in_row || wall_at built in_column) ≡ true
       either (inl w) = rw ((walls in_row (omega arith)).1 w)
-      either (inr w) = rw ((walls in_column (omega arith)).1 w) (or_true (wall_at built in_row))
+      either (inr w) = rw ((walls in_column (omega arith)).1 w) (or-true (wall_at built in_row))
 
       bars : PassesWall costs target a b → passes_wall built a b ≡ true
       bars p = rw (differ (a / 10) (b / 10) p.other_row, differ (a % 10) (b % 10) p.other_column, either p.wall_beside)

@@ -10,7 +10,7 @@
 --     spreads     beside a reached cell every cell but a wall is reached: the sum stays below 65535. It asks for no cost from 1 on
 -- Assumes nothing.
 use mathlib.Core.Path.{◌≡◌, refl, sym, ap, ◌∙◌}
-use mathlib.Core.Bool.{Bool, true, false, true≢false, ◌||◌, or_true}
+use mathlib.Core.Bool.{Bool, true, false, true≢false, ◌||◌, or-true}
 use mathlib.Core.Logic.{◌⊎◌, inl, inr}
 use mathlib.Core.List.{List, [], ◌∷◌}
 use Prim.Native.Nat.{ℕ, zero, suc, ◌+◌, ◌*◌, ◌^◌, ◌≤◌, ◌<◌}
@@ -34,7 +34,7 @@ use Rattle.flow_byte.specs.New.{is_in}
 pub is_in_law : (x : ℕ) (l : List ℕ) → Among x l → is_in x l ≡ true
 is_in_law x [] (i, h, e) = absurd (omega arith)
 is_in_law x (y ∷ l) (zero, h, e) = rw (eq-eqb y x e)
-is_in_law x (y ∷ l) (suc i, h, e) = rw (is_in_law x l (i, omega arith, e)) (or_true (eqb y x))
+is_in_law x (y ∷ l) (suc i, h, e) = rw (is_in_law x l (i, omega arith, e)) (or-true (eqb y x))
 
 pub in_among : (x : ℕ) (l : List ℕ) → is_in x l ≡ true → Among x l
 in_among x [] e = absurd (true≢false (sym e))

@@ -1,1 +1,2 @@
 // Followed arrows of a window sector: definitions and theorems, with no code.
+#![tactic(auto)]

@@ -1,4 +1,6 @@
 // The bits of a flow byte: its flags and its direction, and their readers.
+#![tactic(auto)]
+
 ghost use Rattle.std.specs.Prelude.{◌≡◌};
 ghost use Rattle.flow_bits.specs.Byte.{bits_of, dir_of, is_pathable, is_impassable, has_line_of_sight, is_goal, is_portal_goal, is_wall};
 

@@ -4,6 +4,8 @@
 // ends; 65537 for a wall, or a diagonal past one, which is passed over; for any other cell its cost plus 2. `best` holds the key of each cell's look so
 // far, and `bits` the direction found. A look changes only at a lower key, so that of equals the earliest stays, and never after it has ended. After
 // the eight passes each cell gets its byte from these two numbers.
+#![tactic(auto)]
+
 ghost use Rattle.std.specs.Prelude.{◌≡◌, true, ◌+◌, ◌*◌, ◌<◌, length};
 ghost use Rattle.fields.specs.Cell.{Inside, index_of};
 ghost use Rattle.flow_byte.specs.Look.{look_around, flow_build};

@@ -1,6 +1,8 @@
 // Following the arrows of a sheet from all of its cells at once: how many moves it takes to arrive.
 // Each cell makes its own move. Then all go on in rounds, and a round doubles the moves: where a cell's moves have led to another cell, that cell's
 // own moves tell where as many more lead. So each cell is looked at a few times in each of at most seven rounds, however far its arrows lead.
+#![tactic(auto)]
+
 ghost use Rattle.std.specs.Prelude.{◌≡◌, true, map, ◌<◌, ◌%◌, length, get_or};
 ghost use Rattle.utilities.specs.Lists.{below};
 ghost use Rattle.fields.specs.Cell.{cell_at, stepped};

@@ -1,4 +1,6 @@
 // A new flow field: the flags that each cell starts with, and the directions of the window cells.
+#![tactic(auto)]
+
 ghost use Rattle.std.specs.Prelude.{◌≡◌, true, not, ◌&&◌, ◌-◌, ◌<◌, eqb, leb, length};
 ghost use Rattle.route.specs.Inner.{held_cells};
 ghost use Rattle.flow_byte.specs.New.{start_of, facing_bits, facing_value, unless_end, seen_values, facing_choice, window_bits, new_bytes};

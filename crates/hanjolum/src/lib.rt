@@ -1,4 +1,6 @@
 // The library that others link. Each export hands on to the call of its name, and promises the same.
+#![tactic(auto)]
+
 ghost use Rattle.std.specs.Prelude.{true, false, ◌≡◌, ◌↔◌, take, drop};
 ghost use Rattle.utilities.specs.Compass.{number_of};
 ghost use Rattle.utilities.specs.Padded.{AllZero};

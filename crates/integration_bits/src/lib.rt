@@ -1,5 +1,7 @@
 // The bits of an integration field's cell: its cost and its flags, their readers, and the walls that bar a move. All 32 bits together are the cell's
 // word; the low 16 are its cost, or value.
+#![tactic(auto)]
+
 ghost use Rattle.std.specs.Prelude.{◌≡◌, not, ◌&&◌, ◌||◌, eqb};
 ghost use Rattle.integration_field.specs.Word.{low, is_los, is_goal, is_blocked, is_portal, is_impassable};
 

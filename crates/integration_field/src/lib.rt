@@ -1,4 +1,6 @@
 // The integration field: 100 cells of 32 bits, the cost in the low 16 and flags above, and the list of its corners.
+#![tactic(auto)]
+
 ghost use Rattle.std.specs.Prelude.{◌≡◌};
 ghost use Rattle.integration_field.specs.Listed.{zero_field};
 ghost use Rattle.integration_field.specs.Answer.{refusal};
@@ -6,7 +8,7 @@ ghost use Rattle.integration_field.specs.Answer.{refusal};
 // A field's 100 cells, its list of corners, `count` of them in the first places of `los_corners`, and for each cell the position in that
 // list of the corner that it belongs to, 255 where it has none.
 #[repr(C)]
-#[derive(Drop)]
+#[derive(Clone, Copy)]
 pub struct IntegrationField {
     pub field: [u32; 100],
     pub los_corners: [usize; 100],
@@ -16,7 +18,7 @@ pub struct IntegrationField {
 
 // What building answers: its number, the built field and how many waves changed a cell.
 #[repr(C)]
-#[derive(Drop)]
+#[derive(Clone, Copy)]
 pub struct BuildAnswer {
     pub number: u8,
     pub field: IntegrationField,

@@ -1,4 +1,6 @@
 // Starting a field: walls, then window cells or the goal, and from a goal the sight of it.
+#![tactic(auto)]
+
 ghost use Rattle.std.specs.Prelude.{◌≡◌, false, ◌||◌, List, [], ℕ, suc, ◌+◌, ◌<◌, length, take};
 ghost use Rattle.utilities.specs.Compass.{orthogonal};
 ghost use Rattle.fields.specs.Cell.{cell_at, stepped};
@@ -28,7 +30,7 @@ use route::{RouteStep, Target, WindowCells};
 use utilities::CompassDir;
 
 // How many corners are listed, and how many cells the wave has queued.
-#[derive(Drop)]
+#[derive(Clone, Copy)]
 struct Lengths {
     corners: usize,
     queued: usize,

@@ -1,6 +1,8 @@
 // Which corner each cell belongs to: the earliest of the list with a walk that arrives at the cell's built cost. After building, the corners have their
 // turns in list order. Each hands its position on, from itself, over the moves that come to exactly the built cost of the cell they enter, into the
 // cells that have no position yet.
+#![tactic(auto)]
+
 ghost use Rattle.std.specs.Prelude.{◌≡◌, List, map, ℕ, ◌+◌, ◌<◌, ◌≤◌, length, get_or, take};
 ghost use Rattle.utilities.specs.Compass.{orthogonal};
 ghost use Rattle.utilities.specs.Lists.{below};

@@ -6,7 +6,7 @@
 --     walls-stay                   a word that is no wall's, written over one that is none
 -- Assumes nothing.
 use mathlib.Core.Path.{◌≡◌, refl, sym, ◌∙◌, ap}
-use mathlib.Core.Bool.{Bool, true, false, ◌||◌, or_true, true≢false}
+use mathlib.Core.Bool.{Bool, true, false, ◌||◌, or-true, true≢false}
 use mathlib.Core.List.{List}
 use Prim.Native.Nat.{ℕ, ◌<◌, ◌≤◌}
 use native.Mathlib.Omega.{arith}
@@ -24,7 +24,7 @@ abbrev pub is_known : ℕ → Bool
 is_known x = is_los x || is_blocked x
 
 known_corner : (v : ℕ) → v < 0x10000 → is_known (corner_word v) ≡ true
-known_corner v h = rw (corner_flags v h).blocked_is (or_true (is_los (corner_word v)))
+known_corner v h = rw (corner_flags v h).blocked_is (or-true (is_los (corner_word v)))
 
 known_seen : (v : ℕ) → v < 0x10000 → is_known (sight_word v) ≡ true
 known_seen v h = rw (seen_flags v h).los_is

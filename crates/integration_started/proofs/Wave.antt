@@ -1,7 +1,7 @@
 -- What holds of sight throughout a wave: its cells, its list, and how many cells it has met.
 -- Assumes nothing.
 use mathlib.Core.Path.{◌≡◌, refl, sym, ◌∙◌, ap, subst}
-use mathlib.Core.Bool.{Bool, true, false, ◌||◌, or_true, true≢false}
+use mathlib.Core.Bool.{Bool, true, false, ◌||◌, or-true, true≢false}
 use mathlib.Core.List.{List, [], ◌∷◌, ◌++◌}
 use Prim.Native.Nat.{ℕ, suc, ◌+◌, ◌<◌, ◌≤◌}
 use native.Mathlib.Omega.{arith}
@@ -33,13 +33,13 @@ pub met_los : (x : ℕ) → is_los x ≡ true → is_met x ≡ true
 met_los x e = rw e
 
 pub met_goal : (x : ℕ) → is_goal x ≡ true → is_met x ≡ true
-met_goal x e = rw e (or_true (is_los x))
+met_goal x e = rw e (or-true (is_los x))
 
 pub met_blocked : (x : ℕ) → is_blocked x ≡ true → is_met x ≡ true
-met_blocked x e = rw (e, or_true (is_goal x)) (or_true (is_los x))
+met_blocked x e = rw (e, or-true (is_goal x)) (or-true (is_los x))
 
 pub met_wall : (x : ℕ) → is_impassable x ≡ true → is_met x ≡ true
-met_wall x e = rw (e, or_true (is_blocked x), or_true (is_goal x)) (or_true (is_los x))
+met_wall x e = rw (e, or-true (is_blocked x), or-true (is_goal x)) (or-true (is_los x))
 
 among_more : (x n : ℕ) (l : List ℕ) → Among x l → Among x (l ++ n ∷ [])
 among_more x n l a = (a.0, omega (arith, more_length l n, a.1), more_before l n a.0 a.1 ∙ a.2)

@@ -1,4 +1,6 @@
 // A target's field, started and built, for callers that need no positions.
+#![tactic(auto)]
+
 ghost use Rattle.std.specs.Prelude.{◌≡◌, length};
 ghost use Rattle.route.specs.Inner.{TargetHeld};
 ghost use Rattle.integration_target.specs.Inner.{target_field, WindowTarget};

@@ -1,1 +1,2 @@
 // Nothing to compile: the crate is its definitions (specs/) and theorems (proofs/).
+#![tactic(auto)]

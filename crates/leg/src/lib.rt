@@ -1,6 +1,8 @@
 // A leg: a plan for one to sixteen sectors, step by step from the goal's. What its bytes alone show to be wrong is refused first. Then all steps are
 // started and built without writing, which shows whether a window is closed; if none is, they are built once more, and each is written to its own
 // sector's part of the lent sheet.
+#![tactic(auto)]
+
 ghost use Rattle.std.specs.Prelude.{◌≡◌, true, false, ◌↔◌, List, ℕ, ◌≤◌, length};
 ghost use Rattle.utilities.specs.Compass.{side_of};
 ghost use Rattle.route.specs.Table.{first_number};

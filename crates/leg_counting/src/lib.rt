@@ -1,5 +1,7 @@
 // The window cells that count in a leg, from which a later step starts: a window cell counts if one of the facing cells that it compares was reached in
 // the sector before.
+#![tactic(auto)]
+
 ghost use Rattle.std.specs.Prelude.{◌≡◌, ◌&&◌, ◌<◌, eqb};
 ghost use Rattle.route.specs.Window.{select, cells_between, listed};
 ghost use Rattle.route.specs.Inner.{listed_target};

@@ -1,4 +1,6 @@
 // The field behind a leg: the built field of one of its steps, as the leg plans it.
+#![tactic(auto)]
+
 ghost use Rattle.std.specs.Prelude.{◌≡◌, true, false, ◌↔◌, ◌/◌, ◌≤◌, length};
 ghost use Rattle.route.specs.Table.{first_number};
 ghost use Rattle.route.specs.Inner.{held_target};

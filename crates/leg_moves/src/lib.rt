@@ -1,4 +1,6 @@
 // A cart's moves over a floor, by the bytes of its sheet: one move, and the moves until the cart stands still.
+#![tactic(auto)]
+
 ghost use Rattle.std.specs.Prelude.{◌≡◌, List, ℕ, ◌+◌, ◌*◌, ◌%◌, ◌<◌, length};
 ghost use Rattle.leg_journey.specs.Place.{OnFloor, place_of, the_sector_in, the_cell_in, arrow_at};
 ghost use Rattle.leg_moves.specs.Moving.{still_outcome, byte_at};
@@ -10,7 +12,7 @@ use utilities::index_of;
 
 // What a move is answered with: its number, its outcome, and the place by its sector and cell.
 #[repr(C)]
-#[derive(Drop)]
+#[derive(Clone, Copy)]
 pub struct CartMove {
     pub number: u8,
     pub outcome: u8,
@@ -20,7 +22,7 @@ pub struct CartMove {
 
 // What a way is answered with: its number, its outcome, the place where the cart stands still, and after how many moves.
 #[repr(C)]
-#[derive(Drop)]
+#[derive(Clone, Copy)]
 pub struct CartWay {
     pub number: u8,
     pub outcome: u8,
@@ -41,14 +43,14 @@ const IN_SIGHT: u8 = 3;
 const NEVER: u8 = 4;
 
 // A place on the floor, of 80 columns by 80 rows.
-#[derive(Drop)]
+#[derive(Clone, Copy)]
 struct Spot {
     column: usize,
     row: usize,
 }
 
 // Where an arrow leads: to a place on the floor, or nowhere.
-#[derive(Drop)]
+#[derive(Clone, Copy)]
 enum Onward {
     To(Spot),
     Nowhere,

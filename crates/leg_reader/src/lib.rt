@@ -1,4 +1,6 @@
 // Reads a file of steps: its number, and the part of it that holds the steps.
+#![tactic(auto)]
+
 ghost use Rattle.std.specs.Prelude.{◌≡◌, ◌≤◌, length, take, drop};
 ghost use Rattle.leg_file.specs.File.{is_marked, version_of, file_number, file_steps, file_answer};
 ghost use Rattle.leg_file.specs.Promise.{WrittenSame, PartOf, FileRefused};

@@ -1,4 +1,6 @@
 // Where the line of a corner ends: on the edge of the sector, away from the goal.
+#![tactic(auto)]
+
 ghost use Rattle.std.specs.Prelude.{◌≡◌, ◌<◌, ◌≤◌, min};
 ghost use Rattle.fields.specs.Cell.{Inside};
 ghost use Rattle.line_nearest.specs.Line.{nearest};
@@ -10,7 +12,7 @@ use fields::FieldCell;
 
 // What the call answers: 0 and the cell that the line ends in, or the number of a refusal.
 #[repr(C)]
-#[derive(Drop)]
+#[derive(Clone, Copy)]
 pub struct LineEnd {
     pub number: u8,
     pub cell: FieldCell,

@@ -1,4 +1,6 @@
 // Where the lines of corners end, from a table of all pairs of corner and goal.
+#![tactic(auto)]
+
 mod ends;
 
 ghost use Rattle.std.specs.Prelude.{◌<◌};

@@ -1,4 +1,6 @@
 // Practice floors: from a seed of 32 bits the costs of a sector and a goal, the same wherever they are made.
+#![tactic(auto)]
+
 ghost use Rattle.std.specs.Prelude.{◌≡◌, ◌<◌, ◌≤◌, map, length, take, drop};
 ghost use Rattle.practice.specs.Values.{next_value, values_to};
 ghost use Rattle.practice.specs.Floor.{cost_of, practice_floor};
@@ -6,7 +8,7 @@ ghost use Rattle.practice.specs.Promise.{PracticeTold};
 
 // 100 costs by cell, and the goal's cell, whose cost is 1.
 #[repr(C)]
-#[derive(Drop)]
+#[derive(Clone, Copy)]
 pub struct PracticeFloor {
     pub costs: [u8; 100],
     pub goal: u8,

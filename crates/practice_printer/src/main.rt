@@ -1,6 +1,8 @@
 // Reads a seed of four bytes, low byte first, from standard input, and prints its practice floor, or `no`.
 // An input longer than four bytes prints `no` whatever follows, so five bytes decide what is printed.
 // Where standard output takes less than that, standard error says so: a Rattle program has no exit status to say it with.
+#![tactic(auto)]
+
 fn main() {
     let mut input = [0u8; 5];
     let count = io::read_full(0, &mut input);

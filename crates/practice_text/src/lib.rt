@@ -1,4 +1,6 @@
 // What the practice printer prints, worked out in memory.
+#![tactic(auto)]
+
 ghost use Rattle.std.specs.Prelude.{◌≡◌, ◌<◌, ◌≤◌, length};
 ghost use Rattle.std.proofs.lemmas.List.Edits.{sets};
 ghost use Rattle.practice_text.specs.Text.{seed_of, floor_text, no_line, practice_text};

@@ -1,4 +1,6 @@
 // Bytes as text, for the printers: rows of ten hexadecimal cells, and numbers of one or two digits.
+#![tactic(auto)]
+
 ghost use Rattle.std.specs.Prelude.{◌≡◌, ◌+◌, ◌*◌, ◌≤◌, ◌<◌, length};
 ghost use Rattle.std.proofs.lemmas.List.Edits.{sets};
 ghost use Rattle.print_text.specs.Rows.{hex_digit, cell_text, row_text, rows_text, decimal};

@@ -1,6 +1,8 @@
 // Compares our calls with recorded answers, a file for each section: prints how many records agree and a sum of all
 // their bytes, or the first record that differs. The answers are the published Rust's; a file that has another judge has
 // its name behind a dot: the Rust altered in two rules, the table of refusals, or the model.
+#![tactic(auto)]
+
 mod carts;
 mod files;
 mod floors;
@@ -13,7 +15,7 @@ mod seeds;
 mod windows;
 
 // How many records agree, a sum of the bytes that were read, and whether the next record differs.
-#[derive(Drop)]
+#[derive(Clone, Copy)]
 struct Tally {
     agreed: u64,
     sum: u64,

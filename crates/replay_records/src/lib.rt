@@ -1,4 +1,6 @@
 // The bytes of a record: parts, numbers and fields read from them, and a field compared with them.
+#![tactic(auto)]
+
 ghost use Rattle.std.specs.Prelude.{◌-◌, ◌≤◌, ◌<◌, ◌≡◌, true, length, get_or};
 ghost use Rattle.replay_records.specs.Same.{word_at, SameField};
 

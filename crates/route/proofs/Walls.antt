@@ -6,7 +6,7 @@
 --     sixteen-told                 a step is refused with 16 exactly if 3 to 8 are not due and its goal or a window cell, by rows and columns, has cost 255
 -- Assumes nothing.
 use mathlib.Core.Path.{◌≡◌, refl, sym, ◌∙◌}
-use mathlib.Core.Bool.{Bool, true, false, true≢false, or_false, not, cond, ◌&&◌, ◌||◌}
+use mathlib.Core.Bool.{Bool, true, false, true≢false, or-false, not, cond, ◌&&◌, ◌||◌}
 use mathlib.Core.Logic.{◌↔◌}
 use mathlib.Core.List.Memᴰ
 use mathlib.Core.List.{List, [], ◌∷◌, Memᴰ}
@@ -123,7 +123,7 @@ module _ (costs s : List ℕ) where
           rw (target_window s e, z, e)
       go false e =
           let z : is_goal s ≡ true = eq-eqb (mark_of s) 0 (omega (arith, (accepted_step s good).mark_in, eqb-false (mark_of s) 1 e)) in
-          rw (target_goal s e, z, e) (or_false (is_wall_cost costs (goal_of s)))
+          rw (target_goal s e, z, e) (or-false (is_wall_cost costs (goal_of s)))
 
   told : step_number s ≡ 0 → is_wall_target costs (target_of s) ≡ true → StepOnWall costs s
   told good e =

@@ -1,4 +1,6 @@
 // A step of a route, parsed: its window's cells, and the target that a sector's field starts from.
+#![tactic(auto)]
+
 ghost use Rattle.std.specs.Prelude.{◌≡◌, ◌+◌, ◌*◌, ◌%◌, ◌<◌, length, get_or};
 ghost use Rattle.route.specs.Window.{edge, stride, between, cells_between, listed, facing};
 ghost use Rattle.route.specs.Step.{route_step};
@@ -26,7 +28,7 @@ pub const STEP_ZERO: usize = 6;
 pub const STEP_OTHER_ZERO: usize = 7;
 
 // The start and end index of a portal, and the side of the sector that it sits on.
-#[derive(Drop)]
+#[derive(Clone, Copy)]
 pub struct PortalWindow {
     pub start: usize,
     pub end: usize,
@@ -34,7 +36,7 @@ pub struct PortalWindow {
 }
 
 // A parsed step, with the fields of the Rust's. With a portal the actual goal is its window, else the goal cell.
-#[derive(Drop)]
+#[derive(Clone, Copy)]
 pub struct RouteStep {
     pub sector: usize,
     pub goal: usize,
@@ -44,14 +46,14 @@ pub struct RouteStep {
 
 // The cells of a window: `count` of them, in the first places.
 #[repr(C)]
-#[derive(Drop)]
+#[derive(Clone, Copy)]
 pub struct WindowCells {
     pub cells: [usize; 10],
     pub count: usize,
 }
 
 // What a sector's field starts from: the cells of a window, or the goal cell, with the sight of it or without. Beside a goal there are no window cells.
-#[derive(Drop)]
+#[derive(Clone, Copy)]
 pub struct Target {
     pub has_window: bool,
     pub sight: bool,

@@ -1,5 +1,7 @@
 // The sector call: a field is started and built on the sector's costs for a step's target, and its flow bytes are written to the sheet; or the call is
 // refused with its number.
+#![tactic(auto)]
+
 ghost use Rattle.std.specs.Prelude.{◌≡◌, ◌↔◌, true, false, not, ◌&&◌, List, ℕ, length};
 ghost use Rattle.route.specs.Step.{is_window, route_step};
 ghost use Rattle.route.specs.Target.{target_of, without_sight, by_sight, TargetTold};

@@ -2,6 +2,8 @@
 // There is no previous field, so that a step with a window is refused: with 17, where no earlier number is due.
 // An input longer than 108 bytes is refused whatever follows, so 109 bytes decide what is printed.
 // Where standard output takes less than that, standard error says so: a Rattle program has no exit status to say it with.
+#![tactic(auto)]
+
 fn main() {
     let mut input = [0u8; 109];
     let count = io::read_full(0, &mut input);

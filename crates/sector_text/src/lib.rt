@@ -1,4 +1,6 @@
 // What the sector printer prints, worked out in memory.
+#![tactic(auto)]
+
 ghost use Rattle.std.specs.Prelude.{◌≡◌, ◌≤◌, length};
 ghost use Rattle.std.proofs.lemmas.List.Edits.{sets};
 ghost use Rattle.sector_text.specs.Text.{no_text, rendered, printed};

@@ -1,11 +1,13 @@
 // Sectors of a floor, eight rows of eight, and the sector across a boundary.
+#![tactic(auto)]
+
 ghost use Rattle.std.specs.Prelude.{◌≡◌};
 ghost use Rattle.sectors.specs.Floor.{across};
 
 use utilities::CompassDir;
 
 // What lies across a boundary.
-#[derive(Drop)]
+#[derive(Clone, Copy)]
 pub enum Across {
     Sector(usize),
     OffFloor,

@@ -1,4 +1,6 @@
 // Number 3 of a list of steps.
+#![tactic(auto)]
+
 ghost use Rattle.std.specs.Prelude.{◌≡◌};
 ghost use Rattle.route.specs.Step.{no_step_list};
 

@@ -1,4 +1,6 @@
 // The numbers 3 to 8 with which a step of a route is refused, and number 16 on its sector's costs.
+#![tactic(auto)]
+
 ghost use Rattle.std.specs.Prelude.{◌≡◌, [], ◌∷◌};
 ghost use Rattle.route.specs.Window.{on_edge};
 ghost use Rattle.route.specs.Step.{route_step, each_step, step_number, some_wall_cost, step_number_on};

@@ -1,4 +1,6 @@
 // The call for a tour of the windows of one sector: Job 13's number and square, and the tour over it.
+#![tactic(auto)]
+
 ghost use Rattle.std.specs.Prelude.{◌≡◌, ◌↔◌};
 ghost use Rattle.step_list.specs.Steps.{steps_of};
 ghost use Rattle.window_square.specs.Promise.{WrongCount, NotAmong};

@@ -1,4 +1,6 @@
 // The least figure of a tour: over the windows but the first, the sum of the cheapest entry into each from another.
+#![tactic(auto)]
+
 ghost use Rattle.std.specs.Prelude.{◌≡◌, cond, ◌<◌, ◌≤◌, min, eqb};
 ghost use Rattle.tour_sums.specs.Tours.{move_cost, cheapest_entry, least_figure};
 ghost use Rattle.tour_sums.specs.Promise.{TourSquare};

@@ -1,4 +1,6 @@
 // The orders of windows, each made from the one before: the first order of the dictionary of all orders, and the next behind an order.
+#![tactic(auto)]
+
 ghost use Rattle.std.specs.Prelude.{◌≡◌, ℕ, ◌+◌, ◌-◌, ◌<◌, ◌≤◌, length, get_or, set};
 ghost use Rattle.tour_orders.specs.Orders.{factorial};
 ghost use Rattle.tour_ranking.specs.Inner.{order_at, LastRise, LastAbove, Reversed, NextMade};

@@ -1,5 +1,7 @@
 // A tour of 2 to 8 windows: from the first window, each other once, no way back, with the smallest sum of the orders tried. Each order is made from
 // the one before, and the sums of its moves are kept place by place, so that they are made anew only from the first place that changed on.
+#![tactic(auto)]
+
 ghost use Rattle.std.specs.Prelude.{◌≡◌, ◌-◌, ◌<◌, ◌≤◌, get_or, take};
 ghost use Rattle.tour_orders.specs.Orders.{orders, factorial};
 ghost use Rattle.tour_orders.specs.Told.{AllOrders};

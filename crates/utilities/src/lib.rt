@@ -1,9 +1,11 @@
 // The eight directions: what each adds to a column and a row, its opposite, its number and its sides. And a byte as an index.
+#![tactic(auto)]
+
 ghost use Rattle.std.specs.Prelude.{◌≡◌};
 ghost use Rattle.utilities.specs.Compass.{differences, rises, opposite, number_of, points, lower_side, side_of};
 
 // A direction. Row 0 is north; `Zero` is none.
-#[derive(Drop)]
+#[derive(Clone, Copy)]
 pub enum CompassDir {
     North,
     East,
@@ -17,7 +19,7 @@ pub enum CompassDir {
 }
 
 // What a direction adds to a cell's column and to its row.
-#[derive(Drop)]
+#[derive(Clone, Copy)]
 pub struct Differences {
     pub column: i64,
     pub row: i64,

@@ -1,4 +1,6 @@
 // Which version of the library this is, as one number that a program can ask for.
+#![tactic(auto)]
+
 ghost use Rattle.std.specs.Prelude.{◌≡◌};
 ghost use Rattle.version.specs.Version.{version_number};
 

@@ -1,4 +1,6 @@
 // Window costs, column by column: the least costs of each window's cells in one built field; and columns turned into the rows of a square.
+#![tactic(auto)]
+
 ghost use Rattle.std.specs.Prelude.{◌≡◌, map, ◌/◌, ◌<◌, min, length};
 ghost use Rattle.utilities.specs.Lists.{below};
 ghost use Rattle.route.specs.Target.{target_of};

@@ -1,4 +1,6 @@
 // The call for window costs: its number, and for the windows of one sector the square of their costs, a column for each window that is built for.
+#![tactic(auto)]
+
 ghost use Rattle.std.specs.Prelude.{◌≡◌, ◌↔◌, map};
 ghost use Rattle.utilities.specs.Lists.{below};
 ghost use Rattle.step_list.specs.Steps.{steps_of};

@@ -1,4 +1,6 @@
 // The number with which a list of windows is refused: 1, 3, 19, then 4 to 8, 16 and 20 of one step before the next.
+#![tactic(auto)]
+
 ghost use Rattle.std.specs.Prelude.{◌≡◌, length};
 ghost use Rattle.route.specs.Table.{first_number};
 ghost use Rattle.step_list.specs.Steps.{steps_of};

@@ -1,7 +1,7 @@
 -- `bounds_sure::has_least` meets its contract. The loop's invariant: what is left of the neighbours from place i on decides.
 -- Assumes nothing.
 use mathlib.Core.Path.{◌≡◌, refl, sym, ◌∙◌}
-use mathlib.Core.Bool.{Bool, false, ◌&&◌, ◌||◌, and_false}
+use mathlib.Core.Bool.{Bool, false, ◌&&◌, ◌||◌, and-false}
 use mathlib.Core.Logic.{⊎_elim}
 use mathlib.Core.List.{List}
 use Prim.Native.Nat.{ℕ, ◌+◌, ◌-◌, ◌<◌, ◌≤◌}
@@ -81,7 +81,7 @@ loop_again c =
     let m = c.before.before in (
       omega (arith, m.loop-test.true),
       ⊎_elim
-          (λ w. fails m (rw (sym w.1.ensures ∙ w.2.left) (and_false (reached m))))
+          (λ w. fails m (rw (sym w.1.ensures ∙ w.2.left) (and-false (reached m))))
           (λ w. fails m (rw (le-ltb _ 65535 w.left)))
           c.if1.branch,
     )

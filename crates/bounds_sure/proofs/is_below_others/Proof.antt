@@ -1,7 +1,7 @@
 -- `bounds_sure::is_below_others` meets its contract. The loop's invariant: what is left of the neighbours from place i on decides.
 -- Assumes nothing.
 use mathlib.Core.Path.{◌≡◌, refl, sym, ◌∙◌}
-use mathlib.Core.Bool.{Bool, true, ◌&&◌, ◌||◌, or_true}
+use mathlib.Core.Bool.{Bool, true, ◌&&◌, ◌||◌, or-true}
 use mathlib.Core.Logic.{⊎_elim}
 use mathlib.Core.List.{List}
 use Prim.Native.Nat.{ℕ, ◌+◌, ◌-◌, ◌<◌, ◌≤◌}
@@ -81,7 +81,7 @@ loop_again c =
     let m = c.before in (
       omega (arith, m.loop-test.true),
       ⊎_elim
-          (λ w. passes m (rw (lt-ltb _ _ w.2.left) (or_true (eqb (other m) (start m).args.one))))
+          (λ w. passes m (rw (lt-ltb _ _ w.2.left) (or-true (eqb (other m) (start m).args.one))))
           (λ w. passes m (rw (eq-eqb (other m) (start m).args.one w.left)))
           c.if1.branch,
     )

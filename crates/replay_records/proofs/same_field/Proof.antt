@@ -6,7 +6,7 @@ use native.Mathlib.Omega.{arith}
 use Prim.Native.Nat.{◌≤◌, ◌-◌}
 use mathlib.Core.Path.{◌≡◌, sym, ◌∙◌}
 use mathlib.Core.Bool.{true, false, true≢false}
-use borrow.Author.Count.{below_none, below_more}
+use borrow.Author.Count.{below-none, below_more}
 use Rattle.replay_records.specs.Same.{SameFirst}
 use Rattle.replay_records.proofs.same_field.Statement.{statement}
 use Rattle.replay_records.proofs.same_field.Tie as tie
@@ -22,7 +22,7 @@ differs : {P : Type 0} → false ≡ true → P
 differs e = absurd (true≢false (sym e))
 
 loop_holds : tie.Need-loop-init invariant_loop decreases_loop
-loop_holds c = (omega arith, below_none _)
+loop_holds c = (omega arith, below-none _)
 
 loop_again : tie.Need-loop-preserved invariant_loop decreases_loop
 loop_again c =
