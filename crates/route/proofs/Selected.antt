@@ -66,12 +66,15 @@ module _ (p : ℕ → Bool) where
   }
 
   pub selected : (l : List ℕ) (x : ℕ) → Memᴰ x l → p x ≡ true → Memᴰ x (select p l)
-  selected l x (Memᴰ.head {xs = ys} e) t = rw (sym (ap p e) ∙ t) (Memᴰ.head e)
-  selected l x (Memᴰ.tail {x = y} {xs = ys} m) t = go (p y) (selected ys x m t)
+  selected l x m t = along x l m t
     where
-      go : (b : Bool) → Memᴰ x (select p ys) → Memᴰ x (cons_if b y (select p ys))
-      go true n = Memᴰ.tail n
-      go false n = n
+      along : (x : ℕ) (l : List ℕ) → Memᴰ x l → p x ≡ true → Memᴰ x (select p l)
+      along x l (Memᴰ.head {xs = ys} e) t = rw (sym (ap p e) ∙ t) (Memᴰ.head e)
+      along x l (Memᴰ.tail {x = y} {xs = ys} n) t = go (p y) (along x ys n t)
+        where
+          go : (b : Bool) → Memᴰ x (select p ys) → Memᴰ x (cons_if b y (select p ys))
+          go true n = Memᴰ.tail n
+          go false n = n
 
   pub selected_from : (l : List ℕ) (x : ℕ) → Memᴰ x (select p l) → Memᴰ x l × (p x ≡ true)
   selected_from [] x m = absurd (Memᴰ.not-nil m)

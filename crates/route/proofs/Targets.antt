@@ -50,8 +50,11 @@ at_place (y ∷ l) zero x h e = Memᴰ.head (sym e)
 at_place (y ∷ l) (suc i) x h e = Memᴰ.tail (at_place l i x (omega arith) e)
 
 pub place_of : (l : List ℕ) (x : ℕ) → Memᴰ x l → (i : ℕ) × (i < length l) × (get_or l i 0 ≡ x)
-place_of l x (Memᴰ.head e) = (0, omega arith, sym e)
-place_of l x (Memᴰ.tail {xs = ys} m) = let r = place_of ys x m in (suc r.0, omega (arith, r.1), r.2)
+place_of l x m = go x l m
+  where
+    go : (x : ℕ) (l : List ℕ) → Memᴰ x l → (i : ℕ) × (i < length l) × (get_or l i 0 ≡ x)
+    go x l (Memᴰ.head e) = (0, omega arith, sym e)
+    go x l (Memᴰ.tail {xs = ys} n) = let r = go x ys n in (suc r.0, omega (arith, r.1), r.2)
 
 -- the named edge, by the boundary's byte
 pub named_edge : (boundary x : ℕ) → on_edge (side_of boundary) x ≡ true → OnNamedEdge boundary x

@@ -90,12 +90,15 @@ module _ (costs : List ℕ) where
       go false q d ih = ih d
 
   at_some : (cells : List ℕ) (x : ℕ) → Memᴰ x cells → get_or costs x 0 ≡ 255 → some_wall_cost costs cells ≡ true
-  at_some cells x (Memᴰ.head {x = y} {xs = ys} e) w = let q : is_wall_cost costs y ≡ true = eq-eqb (get_or costs y 0) 255 (rw (← e) w) in rw q
-  at_some cells x (Memᴰ.tail {x = y} {xs = ys} m) w = go (is_wall_cost costs y) (at_some ys x m w)
+  at_some cells x m w = along x cells m w
     where
-      go : (b : Bool) → some_wall_cost costs ys ≡ true → (b || some_wall_cost costs ys) ≡ true
-      go true e = refl
-      go false e = e
+      along : (x : ℕ) (cells : List ℕ) → Memᴰ x cells → get_or costs x 0 ≡ 255 → some_wall_cost costs cells ≡ true
+      along x cells (Memᴰ.head {x = y} {xs = ys} e) w = let q : is_wall_cost costs y ≡ true = eq-eqb (get_or costs y 0) 255 (rw (← e) w) in rw q
+      along x cells (Memᴰ.tail {x = y} {xs = ys} n) w = go (is_wall_cost costs y) (along x ys n w)
+        where
+          go : (b : Bool) → some_wall_cost costs ys ≡ true → (b || some_wall_cost costs ys) ≡ true
+          go true e = refl
+          go false e = e
 
   wall_at_law : {A : Type 0} (t : Target) → is_wall_target costs t ≡ true → ((x : ℕ) → GoalCell t x → get_or costs x 0 ≡ 255 → A)
       → ((x : ℕ) → WindowCell t x → get_or costs x 0 ≡ 255 → A) → A

@@ -1,8 +1,0 @@
--- `integration_bits::is_impassable` meets its contract: a mask of one bit is a flag.
--- Assumes nothing.
-use Rattle.integration_field.proofs.Flags.{mask_flag}
-use Rattle.integration_bits.proofs.is_impassable.Statement.{statement}
-use Rattle.integration_bits.proofs.is_impassable.Tie as tie
-
-pub is_impassable_spec : {M : Type 1} → statement M
-is_impassable_spec = tie.close (tie.spec (λ c. mask_flag c.args.word 25))
