@@ -1,19 +1,18 @@
-use Rattle.std.proofs.Common.{rules, ◌≡◌, ◌<◌, ℕ, ◌+◌, ◌-◌, ◌*◌, ◌≤◌, length, ◌/◌, ◌%◌, Bool, true, false, nat_eq, nat_lt, List, [], ◌∷◌, ◌++◌, slice_index_or, slice_set, bit_and, bit_or, Fits, w8, w32, w64, Bor, MutBor}
-use Rattle.fields.specs.Cell.{inside, index_of, cell_at, index_or, the_cell_in, stepped}
-use Rattle.fields.specs.declared.FieldCell.{FieldCell}
-use Rattle.fields.specs.declared.Stepped.TheVariants.{Cell}
-use Rattle.fields.specs.Steps.{BySums, Undone}
-use Rattle.fields.specs.Inner.{Near, StaysInside}
+-- `fields::FieldCell::as_1d_index` meets its contract: a cell inside has its index, one outside has 100.
+-- Assumes nothing.
+use Rattle.std.proofs.Common.{arith}
+use borrow.Author.Tests.{le-ltb, lt-ltb}
+use Rattle.fields.specs.Cell.{index_or}
 use Rattle.fields.proofs.FieldCell.as_1d_index.Goals as goal
 
--- src/lib.rt:72:13
 pub returns-then-column-gt9 : goal.returns-then-column-gt9
-returns-then-column-gt9 c = ?
+unfolding index_or
+returns-then-column-gt9 c = rw (le-ltb c.args.self.column 10 (omega arith))
 
--- src/lib.rt:75:13
 pub returns-then-row-gt9 : goal.returns-then-row-gt9
-returns-then-row-gt9 c = ?
+unfolding index_or
+returns-then-row-gt9 c = rw (lt-ltb c.args.self.column 10 (omega arith), le-ltb c.args.self.row 10 (omega arith))
 
--- src/lib.rt:66:5
 pub returns : goal.returns
-returns c = ?
+unfolding index_or
+returns c = rw (lt-ltb c.args.self.column 10 (omega arith), lt-ltb c.args.self.row 10 (omega arith))
