@@ -1,0 +1,13 @@
+-- `print_text::hex_digit` meets its contract: a digit below ten, or a letter.
+-- Assumes nothing.
+use borrow.Author.Tests.{lt-ltb, le-ltb}
+use Rattle.print_text.specs.Rows.{hex_digit}
+use Rattle.print_text.proofs.hex_digit.Goals as goal
+
+pub returns-then-n-lt10 : goal.returns-then-n-lt10
+unfolding hex_digit
+returns-then-n-lt10 c = rw (lt-ltb _ _ c.if-n-lt10.true)
+
+pub returns-else-n-lt10 : goal.returns-else-n-lt10
+unfolding hex_digit
+returns-else-n-lt10 c = rw (le-ltb _ _ c.if-n-lt10.false)
