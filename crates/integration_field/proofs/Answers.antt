@@ -31,8 +31,11 @@ use Rattle.integration_field.proofs.Position.{positions_told}
 
 pub all_cells_law : (l : List ℕ) → all_cells l ≡ true → (x : ℕ) → Memᴰ x l → x < 100
 unfolding all_cells
-all_cells_law l e x (Memᴰ.head {x = y} {xs = ys} q) = rw q (ltb-true y 100 ((and-eq-true_iff (ltb y 100) (all_cells ys)).0 e).0)
-all_cells_law l e x (Memᴰ.tail {x = y} {xs = ys} m) = all_cells_law ys ((and-eq-true_iff (ltb y 100) (all_cells ys)).0 e).1 x m
+all_cells_law l e x m = go x l m e
+  where
+    go : (x : ℕ) (l : List ℕ) → Memᴰ x l → all_cells l ≡ true → x < 100
+    go x l (Memᴰ.head {x = y} {xs = ys} q) e = rw q (ltb-true y 100 ((and-eq-true_iff (ltb y 100) (all_cells ys)).0 e).0)
+    go x l (Memᴰ.tail {x = y} {xs = ys} m) e = go x ys m ((and-eq-true_iff (ltb y 100) (all_cells ys)).0 e).1
 
 pub all_below : (l : List ℕ) → all_cells l ≡ true → (i : ℕ) → i < length l → get_or l i 0 < 100
 unfolding all_cells

@@ -172,16 +172,20 @@ module _ (costs old : List ℕ) where
   pub offers_taken : (is cells : List ℕ) (y z : ℕ) → Memᴰ y is → Neighbour (cell_at y) orthogonal z → is_open (get_or cells z 0) ≡ true
       → low (get_or (offered_by costs old is cells) z 0) ≤ low (get_or old y 0) + get_or costs z 0
   unfolding offered_by
-  offers_taken is cells y z (Memᴰ.head {x = i} {xs = js} e) n o =
-      let v = low (get_or old i 0) in
-      rw e (omega (
-        arith,
-        held_le ((offers_made js (offered_around costs v (cell_at i) orthogonal cells)).cell z),
-        around_taken costs v (cell_at i) orthogonal cells z (rw e at n) o,
-      ))
-  offers_taken is cells y z (Memᴰ.tail {x = i} {xs = js} m) n o =
-      let v = low (get_or old i 0) in
-      offers_taken js (offered_around costs v (cell_at i) orthogonal cells) y z m n (held_open ((around_made costs v (cell_at i) orthogonal cells).cell z) ∙ o)
+  offers_taken is cells y z m n o = go y is m cells n o
+    where
+      go : (y : ℕ) (is : List ℕ) → Memᴰ y is → (cells : List ℕ) → Neighbour (cell_at y) orthogonal z → is_open (get_or cells z 0) ≡ true
+          → low (get_or (offered_by costs old is cells) z 0) ≤ low (get_or old y 0) + get_or costs z 0
+      go y is (Memᴰ.head {x = i} {xs = js} e) cells n o =
+          let v = low (get_or old i 0) in
+          rw e (omega (
+            arith,
+            held_le ((offers_made js (offered_around costs v (cell_at i) orthogonal cells)).cell z),
+            around_taken costs v (cell_at i) orthogonal cells z (rw e at n) o,
+          ))
+      go y is (Memᴰ.tail {x = i} {xs = js} m) cells n o =
+          let v = low (get_or old i 0) in
+          go y js m (offered_around costs v (cell_at i) orthogonal cells) n (held_open ((around_made costs v (cell_at i) orthogonal cells).cell z) ∙ o)
 
 -- ---- which cells a wave changed
 

@@ -15,7 +15,6 @@ use native.Mathlib.Decide.{dec_lt}
 use borrow.Author.Tests.{ltb-true, ltb-false, eqb-true, eq-eqb}
 use lib.Dec.{ltb, eqb}
 use lib.ListN.{length, get_or}
-use Rattle.utilities.specs.Lists.{below}
 use Rattle.utilities.proofs.Lists.{table_at}
 use Rattle.integration_waves.specs.Walks.{start, move}
 use Rattle.integration_field.specs.Word.{low, is_goal, is_los, is_impassable}

@@ -77,7 +77,10 @@ module _ (costs : List ℕ) where
             let first : is_empty (at (suc k)).changed ≡ false = rw (← next_wave k, ← e) q in
             rw (settle_more n w h q) (record {
               is = rw (suc-add, ← add-suc) s.is;
-              each = λ i. elim i [ zero ↦ λ l. rw zero-add first | suc j ↦ λ l. rw (suc-add, ← add-suc) (s.each j (omega arith)) ];
+              each = λ i. elim i as (λ m. m < suc r.waves → is_empty (at (suc (m + k))).changed ≡ false) [
+                | zero ↦ λ l. rw zero-add first
+                | suc j ↦ λ l. rw (suc-add, ← add-suc) (s.each j (omega arith))
+              ];
               still = rw (suc-add, ← add-suc) s.still;
             })
 
