@@ -3,7 +3,7 @@
 #     make check                           runs the examples, holds the header to that library, and tries an installation
 #     make install PREFIX=/opt/hanjolum    header, static library and hanjolum.pc; DESTDIR, for packages, is put before PREFIX
 #     make clean
-# LIBRARY=target/staticlib/libhanjolum.a takes the toolchain's own archive, of `rt staticlib hanjolum`, in place of the one made here.
+# LIBRARY=target/staticlib/libhanjolum.a takes the toolchain's own archive, of `tools/proved/make hanjolum`, in place of the one made here.
 # CC, CFLAGS (-O2, where make has none of its own) and AR name the compiler, its options and the archiver.
 PREFIX = /usr/local
 CFLAGS ?= -O2

@@ -2,7 +2,7 @@
  * Drives a cart by arrows alone. A leg over two sectors is planned without sight, so that the arrows lead to the goal itself. Then
  * the cart asks where its way ends, and is driven there: its loop is the one that hanjolum.h and README.md show.
  *
- *     rt staticlib hanjolum && cc -Iinclude examples/cart.c target/staticlib/libhanjolum.a -o target/cart && target/cart
+ *     tools/proved/make hanjolum && cc -Iinclude examples/cart.c target/staticlib/libhanjolum.a -o target/cart && target/cart
  */
 #include <stdio.h>
 #include <string.h>

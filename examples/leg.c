@@ -5,7 +5,7 @@
  * carts can queue by door. For a cart that follows arrows alone take the call without sight, and drive by hanjolum_move, as
  * examples/cart.c does.
  *
- *     rt staticlib hanjolum && cc -Iinclude examples/leg.c target/staticlib/libhanjolum.a -o target/leg && target/leg
+ *     tools/proved/make hanjolum && cc -Iinclude examples/leg.c target/staticlib/libhanjolum.a -o target/leg && target/leg
  */
 #include <stdio.h>
 #include <string.h>

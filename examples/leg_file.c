@@ -1,7 +1,7 @@
 /*
  * Carries a leg in a file: the tablet writes its steps, the cart reads them back and plans the leg over its floor.
  *
- *     rt staticlib hanjolum && cc -Iinclude examples/leg_file.c target/staticlib/libhanjolum.a -o target/leg_file
+ *     tools/proved/make hanjolum && cc -Iinclude examples/leg_file.c target/staticlib/libhanjolum.a -o target/leg_file
  *     target/leg_file target/two-sectors.leg
  */
 #include <stdio.h>

@@ -233,7 +233,7 @@ fn archived(named: &str) -> PathBuf {
     if archive.file_name().is_none_or(|name| name != "libhanjolum.a") {
         fail(format!("HANJOLUM_LIBRARY names {named}, and the archive's file is libhanjolum.a"));
     }
-    let advice = "rt staticlib hanjolum makes it; unset HANJOLUM_LIBRARY, and the C file is compiled";
+    let advice = "tools/proved/make hanjolum makes it; unset HANJOLUM_LIBRARY, and the C file is compiled";
     let whence = if archive.is_absolute() { "" } else { " from the crate's folder" };
     let archive = fs::canonicalize(&archive).unwrap_or_else(|error| {
         fail(format!("HANJOLUM_LIBRARY names {named}, which is not there{whence}: {error}; {advice}"))

@@ -16,7 +16,7 @@ fn folder() -> PathBuf {
     PathBuf::from(env::var("CARGO_MANIFEST_DIR").expect("cargo sets CARGO_MANIFEST_DIR"))
 }
 
-/// The archive: ORACLE_LIBRARY, or what `rt staticlib hanjolum` writes.
+/// The archive: ORACLE_LIBRARY, or what `tools/proved/make hanjolum` writes.
 fn archive() -> PathBuf {
     println!("cargo:rerun-if-env-changed=ORACLE_LIBRARY");
     println!("cargo:rerun-if-env-changed=ORACLE_LIBRARY_SUM");

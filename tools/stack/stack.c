@@ -9,7 +9,7 @@
  * those of a hard sector: its own and seven more cells of its edges.
  * What goes wrong, a refused call among it, is one line on standard error and exit status 1.
  *
- *     rt staticlib hanjolum
+ *     tools/proved/make hanjolum
  *     cc -pthread -Iinclude tools/stack/stack.c target/staticlib/libhanjolum.a -o target/stack && target/stack
  */
 #define _XOPEN_SOURCE 700

@@ -12,13 +12,13 @@ impl Library {
     pub fn found(calls: &[Call]) -> Result<(), String> {
         let archive = env!("ORACLE_ARCHIVE");
         if !cfg!(library) {
-            return Err(format!("there is no library {archive}: run `rt staticlib hanjolum` first"));
+            return Err(format!("there is no library {archive}: run `tools/proved/make hanjolum` first"));
         }
         // A library that ORACLE_LIBRARY names may be of any age.
         let ours = Path::new(env!("CARGO_MANIFEST_DIR"));
         let newer = newer_source(&ours.join("../../crates"), Path::new(archive));
         if let Some(source) = newer.filter(|_| Path::new(archive).starts_with(ours)) {
-            return Err(format!("the library is older than {}: run `rt staticlib hanjolum` first", source.display()));
+            return Err(format!("the library is older than {}: run `tools/proved/make hanjolum` first", source.display()));
         }
         match calls.iter().find(|call| !Library.offers(**call)) {
             Some(call) => Err(format!("the library {archive} does not export the call {call:?}")),
