@@ -16,7 +16,7 @@ use lib.Dec.{ltb, eqb}
 use lib.ListN.{length, get_or}
 use borrow.Author.Tests.{eqb-true, eqb-false, eq-eqb, ne_eqb}
 use Rattle.route.specs.Window.{on_edge}
-use Rattle.route.specs.Step.{sector_of, goal_of, mark_of, first_of, last_of, boundary_byte, boundary_of, is_goal, is_window, window_cells, step_number}
+use Rattle.route.specs.Step.{sector_of, goal_of, mark_of, first_of, last_of, boundary_byte, boundary_of, is_goal, is_window, step_number}
 use Rattle.route.specs.Step.{is_wall_cost, some_wall_cost, targets_wall, each_step_on, step_number_on}
 use Rattle.route.specs.Target.{Target, to_goal, to_window, to_corner, GoalCell, WindowCell, target_of, StepOnWall, goal_on, window_on}
 use Rattle.route.specs.Inner.{is_wall_target}

@@ -1,14 +1,9 @@
 -- `route::PortalWindow::get_all_window_cells` meets its contract. The loop's invariant: of the edge's cells before the place, those
 -- of the window are collected.
 -- Assumes nothing.
-use mathlib.Core.Path.{refl, sym, ◌∙◌}
-use mathlib.Core.Logic.{⊎_elim}
-use Prim.Native.Nat.{◌≤◌, ◌<◌, ◌-◌}
-use native.Mathlib.Omega.{arith}
-use borrow.Author.Rules.{rules}
-use lib.ListN.{length}
-use Rattle.route.specs.Window.{edge, between, cells_between}
-use Rattle.route.proofs.Cells.{Collected, edge_at_most, taken, passed, collected_all}
+use Rattle.std.proofs.Common.{◌≤◌, ◌-◌}
+use Rattle.route.specs.Window.{edge, between}
+use Rattle.route.proofs.Cells.{Collected}
 use Rattle.route.proofs.PortalWindow.get_all_window_cells.Given as goal
 
 abbrev pub invariant-loop-place : goal.invariant-loop-place
