@@ -1,5 +1,5 @@
 /*
- * Hanjolum 2.0.0 as one C file: all calls of hanjolum.h, with every function that they reach. Printed by tools/portable/make from
+ * Hanjolum 1.3.0 as one C file: all calls of hanjolum.h, with every function that they reach. Printed by tools/portable/make from
  * the proved program; not to be edited. Take it along with include/hanjolum.h:
  *
  *     cc -std=c11 -O2 -Iinclude -c portable/hanjolum.c
@@ -14,7 +14,7 @@
  * answers to those of the archive that the toolchain compiles.
  *
  * Printed from: rattle-kit-5b-plain logic 097e4c862dff5811
- * MIR of 318 functions, SHA-256 1d2c4becc62bc98a964630396097b109e574a55090e2b1794b3c467317732e70
+ * MIR of 318 functions, SHA-256 593e0b13f86990f1121d1a61525864ec2ed75f22805d7e2f5a7012ed12474019
  *
  * A port of the field code of bevy_flowfield_tiles_plugin (MIT OR Apache-2.0); NOTICE has its licence.
  */
@@ -5710,8 +5710,8 @@ uint8_t hanjolum_get_compass_dir_from_bits(uint8_t byte)
 static inline uint32_t version__version(void)
 {
     uint32_t x1;
-    x1 = UINT32_C(2) * UINT32_C(1000000);
-    return (x1 + (UINT32_C(0) * UINT32_C(1000))) + UINT32_C(0);
+    x1 = UINT32_C(1) * UINT32_C(1000000);
+    return (x1 + (UINT32_C(3) * UINT32_C(1000))) + UINT32_C(0);
 }
 
 /* hanjolum::hanjolum_version */
