@@ -24,6 +24,7 @@ fn on_edge(boundary: CompassDir, index: usize) -> bool
 }
 
 // 6, 7 or 8 for a step with this window that is refused, else 0.
+#[tactic(auto, unfolding(route::specs::Step::each_step))]
 fn window_number(first: u8, last: u8, boundary: u8) -> u8
     ensures { result ≡ each_step (0 ∷ 0 ∷ 1 ∷ first ∷ last ∷ boundary ∷ 0 ∷ 0 ∷ []) }
 {
@@ -50,6 +51,7 @@ fn window_number(first: u8, last: u8, boundary: u8) -> u8
 }
 
 // 4 to 8 for a step of these 8 bytes that is refused, else 0.
+#[tactic(auto, unfolding(route::specs::Step::each_step))]
 fn each_step(
     sector: u8,
     goal: u8,
@@ -84,6 +86,7 @@ fn each_step(
 }
 
 // 3 to 8 for a step that is refused, else 0.
+#[tactic(auto, unfolding(route::specs::Step::step_number, route::specs::Step::each_step))]
 pub fn step_number(step: &[u8]) -> u8
     ensures { result ≡ step_number step.now }
 {
