@@ -1,0 +1,15 @@
+-- `walk_bresenham_shallow`: the walk alone is the definition's, and so the nearest one where the pair is of its kind.
+-- Assumes nothing.
+use Rattle.fields.specs.Cell.{cell}
+use Rattle.line_nearest.specs.Line.{shallow}
+use Rattle.line_nearest.proofs.Calls.{shallow_held}
+use Rattle.bresenham.proofs.walk_bresenham_shallow.Goals as goal
+
+pub returns-clause-answer : goal.returns-clause-answer
+unfolding shallow
+returns-clause-answer c = c.walk_alone.ensures
+
+pub returns-clause-nearest : goal.returns-clause-nearest
+unfolding shallow
+returns-clause-nearest c =
+    shallow_held (cell c.args.col_0 c.args.row_0) (cell c.args.col_1 c.args.row_1) c.walk_alone.result c.walk_alone.ensures
