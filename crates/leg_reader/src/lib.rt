@@ -9,6 +9,7 @@ use leg_file::LegFile;
 use utilities::index_of;
 
 // Whether the file begins with `LEG`.
+#[tactic(auto, unfolding(leg_file::specs::File::is_marked))]
 fn is_marked(file: &[u8]) -> bool
     requires { 6 ≤ length file.now }
     ensures { result ≡ is_marked file.now }
