@@ -7,6 +7,7 @@ ghost use Rattle.leg_file.specs.File.{write_number, written_file};
 ghost use Rattle.leg_file.specs.Promise.{ReadBack};
 
 // The writer's number for a buffer of so many bytes.
+#[tactic(auto, unfolding(leg_file::specs::File::write_number))]
 fn write_number(steps: &[u8], file_length: usize) -> u8
     ensures { (file : List ℕ) → length file ≡ file_length → result ≡ write_number steps.now file }
 {
