@@ -51,7 +51,7 @@ module _ {costs window cells corners built : List ℕ} (s : Sector costs window 
       go : (l : Look) → get_or bytes x 0 ≡ looked_byte 0 l → LooksAt built x n l → Away (arrow bytes x) x n
       go (Looking best v) e q = towards best e q
       go (Taken d) e q = towards d e q
-      go (Ended best) e q = absurd q
+      go (Ended _) e q = absurd q
 
   -- where one that is seen is reached, all are
   all_reached : NoWall s x → (d : CompassDir) (n : ℕ) → Sees built x d n → value s n < 65535
