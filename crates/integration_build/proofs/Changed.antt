@@ -256,8 +256,11 @@ module _ {before cells next : List ℕ} {found : ℕ} (c : ChangedCells before c
 
 -- what holds of each entry holds of each member
 each_member : (P : ℕ → Type 0) (l : List ℕ) → Each P l → (x : ℕ) → Memᴰ x l → P x
-each_member P l e x (Memᴰ.head q) = subst P (sym q) (e 0 (omega arith))
-each_member P l e x (Memᴰ.tail {xs = ys} m) = each_member P ys (λ i h. e (suc i) (omega arith)) x m
+each_member P l e x m = go x l m e
+  where
+    go : (x : ℕ) (l : List ℕ) → Memᴰ x l → Each P l → P x
+    go x l (Memᴰ.head q) e = subst P (sym q) (e 0 (omega arith))
+    go x l (Memᴰ.tail {xs = ys} m) e = go x ys m (λ i h. e (suc i) (omega arith))
 
 module _ {before cells next : List ℕ} {found : ℕ} (c : ChangedCells before cells next found) (was-full : length before ≡ 100) where
   differs_member : (x : ℕ) → Differs before cells x → Memᴰ x (changed_from 0 before cells)
