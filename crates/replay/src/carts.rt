@@ -18,7 +18,7 @@ fn cart_agrees(sheet: &[u8], bytes: &[u8]) -> bool {
         way.sector,
         way.cell,
     ];
-    check::same(&told, part(bytes, 2, 10)) && way.moves as usize == short_at(bytes, 10, 11)
+    told.as_slice() == part(bytes, 2, 10) && way.moves as usize == short_at(bytes, 10, 11)
 }
 
 // Whether the moves and the ways from sixty-four places are those that stand there.

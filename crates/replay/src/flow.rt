@@ -16,16 +16,17 @@ pub fn new_agrees(record: &[u8]) -> bool {
         &previous,
         &mut sheet,
     );
-    number == byte_at(record, 809) && check::same(&sheet, part(record, 810, 910))
+    number == byte_at(record, 809) && sheet.as_slice() == part(record, 810, 910)
 }
 
 // A record: cells, sheet; number, sheet.
 pub fn build_agrees(record: &[u8]) -> bool {
     let mut sheet = [0u8; 100];
-    bytes::copy(part(record, 400, 500), &mut sheet);
+    let given = part(record, 400, 500);
+    sheet[..given.len()].copy_from_slice(given);
     let field = field_of(part(record, 0, 400));
     let number = flow_build::build(field, &mut sheet);
-    number == byte_at(record, 500) && check::same(&sheet, part(record, 501, 601))
+    number == byte_at(record, 500) && sheet.as_slice() == part(record, 501, 601)
 }
 
 // A record: byte; the five flags, the direction's number, 0.
@@ -41,7 +42,7 @@ pub fn readers_agree(record: &[u8]) -> bool {
         flow_bits::get_compass_dir_from_bits(byte).number(),
         0,
     ];
-    check::same(&read, record)
+    read.as_slice() == record
 }
 
 // A record: length of the sheet, 101 bytes for the sheet; number, 100 numbers of moves.
@@ -52,5 +53,5 @@ pub fn arrivals_agree(record: &[u8]) -> bool {
     }
     let found = flow_following::arrivals(part(record, 1, 1 + sheet));
     let moves = found.moves;
-    found.number == byte_at(record, 102) && check::same(&moves, part(record, 103, 203))
+    found.number == byte_at(record, 102) && moves.as_slice() == part(record, 103, 203)
 }

@@ -58,5 +58,5 @@ pub fn sector_agrees(record: &[u8], sight: bool) -> bool {
         &previous,
         &mut sheet,
     );
-    same_build(answer, part(record, 509, 1112)) && check::same(&sheet, part(record, 1112, 1212))
+    same_build(answer, part(record, 509, 1112)) && sheet.as_slice() == part(record, 1112, 1212)
 }

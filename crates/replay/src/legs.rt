@@ -12,7 +12,8 @@ fn put_sector(whole: &mut [u8], sector: usize, bytes: &[u8])
     let first = 100 * sector;
     let last = first + 100;
     if last <= whole.len() {
-        bytes::copy(bytes, &mut whole[first..last]);
+        let end = first + bytes.len();
+        whole[first..end].copy_from_slice(bytes);
     }
 }
 
@@ -45,7 +46,7 @@ pub fn leg_agrees(record: &[u8], sight: bool) -> bool {
     put_sectors(&mut expected, steps, part(record, 1730, 1730 + 100 * count));
     let mut sheet = [0x55u8; 6400];
     let number = plan_by_sight(sight, &floor, steps, &mut sheet);
-    number == byte_at(record, 1729) && check::same(&sheet, &expected)
+    number == byte_at(record, 1729) && sheet.as_slice() == expected.as_slice()
 }
 
 // The field of a leg's step, with the sight of the leg's goal or without.

@@ -14,6 +14,11 @@ mod refusals;
 mod seeds;
 mod windows;
 
+use std::alloc::Global;
+use std::io::Read;
+use std::rt::Files;
+use std::{fs, io};
+
 // How many records agree, a sum of the bytes that were read, and whether the next record differs.
 #[derive(Clone, Copy)]
 struct Tally {
@@ -52,95 +57,98 @@ fn agrees(section: u8, record: &[u8]) -> bool {
     }
 }
 
-// Compares record after record. No file has a million, and a proved loop has to end.
-fn compare(section: u8, file: i32, record: &mut [u8]) -> Tally {
+// Compares record after record, each of this length. No file has a million, and a proved loop has to end.
+fn compare<R: Read>(alloc: Global, section: u8, file: &mut R, length: u64) -> io::Result<Tally> {
+    let mut record = Vec::new(alloc);
     let mut agreed: u64 = 0;
     let mut sum: u64 = 0;
     while agreed < 1000000 {
-        let read = io::read_full(file, record);
+        record.clear();
+        let read = file.by_ref().take(length).read_to_end(&mut record)?;
         if read == 0 {
-            return Tally {
+            return Ok(Tally {
                 agreed,
                 sum,
                 differs: false,
-            };
+            });
         }
-        if read != record.len() {
+        if read as u64 != length {
             break;
         }
-        sum = replay_records::summed(sum, record);
-        if !agrees(section, record) {
+        sum = replay_records::summed(sum, &record);
+        if !agrees(section, &record) {
             break;
         }
         agreed += 1;
     }
-    Tally {
+    Ok(Tally {
         agreed,
         sum,
         differs: true,
-    }
+    })
 }
 
-fn print_tally(name: &[u8], counted: Tally) {
-    io::write_all(1, name);
+fn print_tally(rt: &impl Print, name: &str, counted: Tally) -> io::Result<()> {
+    let agreed = counted.agreed;
+    let sum = counted.sum;
     if counted.differs {
-        io::write_all(1, b": records that agree before one that differs: ");
-    } else {
-        io::write_all(1, b": records that agree: ");
+        return println!(rt;
+            "{name}: records that agree before one that differs: {agreed}, sum of the bytes: {sum}"
+        );
     }
-    io::print_decimal(1, counted.agreed);
-    io::write_all(1, b", sum of the bytes: ");
-    io::print_decimal(1, counted.sum);
-    io::write_all(1, b"\n");
+    println!(rt; "{name}: records that agree: {agreed}, sum of the bytes: {sum}")
 }
 
 // Replays a section, whose records are this long.
-fn replay(section: u8, name: &[u8], length: usize) {
-    let mut longest = [0u8; 7171];
-    let file = os::open_read(name);
-    let counted = compare(section, file, replay_records::front(&mut longest, length));
-    libc::close(file);
-    print_tally(name, counted);
+fn replay<R: Files + Print + AllocGlobal>(
+    rt: &R,
+    section: u8,
+    name: &str,
+    length: u64,
+) -> io::Result<()> {
+    let mut file = fs::open(rt, name)?;
+    let counted = compare(rt.alloc(), section, &mut file, length)?;
+    print_tally(rt, name, counted)
 }
 
-fn main() {
-    replay(0, b"line", 16);
-    replay(1, b"line_end.altered", 8);
-    replay(2, b"readers", 8);
-    replay(3, b"init.altered", 710);
-    replay(3, b"init.table", 710);
-    replay(4, b"build", 1304);
-    replay(5, b"flow_new", 910);
-    replay(6, b"flow_build.altered", 601);
-    replay(7, b"sector.altered", 1212);
-    replay(7, b"sector.table", 1212);
-    replay(8, b"leg.altered", 3330);
-    replay(8, b"leg.model", 3330);
-    replay(8, b"leg.table", 3330);
-    replay(18, b"sector_without_sight.altered", 1212);
-    replay(18, b"sector_without_sight.table", 1212);
-    replay(19, b"leg_without_sight.altered", 3330);
-    replay(19, b"leg_without_sight.model", 3330);
-    replay(19, b"leg_without_sight.table", 3330);
-    replay(9, b"refusals.table", 160);
-    replay(10, b"leg_file_write.model", 314);
-    replay(11, b"leg_file_read.model", 154);
-    replay(12, b"practice.model", 105);
-    replay(13, b"practice_text.model", 223);
-    replay(14, b"bounds.model", 1115);
-    replay(14, b"bounds.table", 1115);
-    replay(15, b"window_costs.model", 496);
-    replay(15, b"window_costs.table", 496);
-    replay(16, b"window_tour.model", 263);
-    replay(16, b"window_tour.table", 263);
-    replay(17, b"arrivals.model", 203);
-    replay(17, b"arrivals.table", 203);
-    replay(20, b"cart.model", 7171);
-    replay(20, b"cart.table", 7171);
-    replay(21, b"leg_field.altered", 2344);
-    replay(21, b"leg_field.model", 2344);
-    replay(21, b"leg_field.table", 2344);
-    replay(22, b"leg_field_without_sight.altered", 2344);
-    replay(22, b"leg_field_without_sight.model", 2344);
-    replay(22, b"leg_field_without_sight.table", 2344);
+fn main(rt: HostRuntime) -> io::Result<()> {
+    replay(&rt, 0, "line", 16)?;
+    replay(&rt, 1, "line_end.altered", 8)?;
+    replay(&rt, 2, "readers", 8)?;
+    replay(&rt, 3, "init.altered", 710)?;
+    replay(&rt, 3, "init.table", 710)?;
+    replay(&rt, 4, "build", 1304)?;
+    replay(&rt, 5, "flow_new", 910)?;
+    replay(&rt, 6, "flow_build.altered", 601)?;
+    replay(&rt, 7, "sector.altered", 1212)?;
+    replay(&rt, 7, "sector.table", 1212)?;
+    replay(&rt, 8, "leg.altered", 3330)?;
+    replay(&rt, 8, "leg.model", 3330)?;
+    replay(&rt, 8, "leg.table", 3330)?;
+    replay(&rt, 18, "sector_without_sight.altered", 1212)?;
+    replay(&rt, 18, "sector_without_sight.table", 1212)?;
+    replay(&rt, 19, "leg_without_sight.altered", 3330)?;
+    replay(&rt, 19, "leg_without_sight.model", 3330)?;
+    replay(&rt, 19, "leg_without_sight.table", 3330)?;
+    replay(&rt, 9, "refusals.table", 160)?;
+    replay(&rt, 10, "leg_file_write.model", 314)?;
+    replay(&rt, 11, "leg_file_read.model", 154)?;
+    replay(&rt, 12, "practice.model", 105)?;
+    replay(&rt, 13, "practice_text.model", 223)?;
+    replay(&rt, 14, "bounds.model", 1115)?;
+    replay(&rt, 14, "bounds.table", 1115)?;
+    replay(&rt, 15, "window_costs.model", 496)?;
+    replay(&rt, 15, "window_costs.table", 496)?;
+    replay(&rt, 16, "window_tour.model", 263)?;
+    replay(&rt, 16, "window_tour.table", 263)?;
+    replay(&rt, 17, "arrivals.model", 203)?;
+    replay(&rt, 17, "arrivals.table", 203)?;
+    replay(&rt, 20, "cart.model", 7171)?;
+    replay(&rt, 20, "cart.table", 7171)?;
+    replay(&rt, 21, "leg_field.altered", 2344)?;
+    replay(&rt, 21, "leg_field.model", 2344)?;
+    replay(&rt, 21, "leg_field.table", 2344)?;
+    replay(&rt, 22, "leg_field_without_sight.altered", 2344)?;
+    replay(&rt, 22, "leg_field_without_sight.model", 2344)?;
+    replay(&rt, 22, "leg_field_without_sight.table", 2344)
 }

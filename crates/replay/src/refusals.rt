@@ -93,5 +93,5 @@ pub fn refusal_agrees(record: &[u8]) -> bool {
         front(&mut sheet, sheet_length),
     );
     let before = [0x55u8; 6401];
-    number == byte_at(record, 157) && (number == 0 || check::same(&sheet, &before))
+    number == byte_at(record, 157) && (number == 0 || sheet.as_slice() == before.as_slice())
 }

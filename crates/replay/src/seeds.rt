@@ -5,7 +5,7 @@ use replay_records::{byte_at, part, usize_at, word_at};
 pub fn floor_agrees(record: &[u8]) -> bool {
     let floor = practice::practice_floor(word_at(record, 0));
     let costs = floor.costs;
-    floor.goal == byte_at(record, 104) && check::same(&costs, part(record, 4, 104))
+    floor.goal == byte_at(record, 104) && costs.as_slice() == part(record, 4, 104)
 }
 
 // A record: length of the input, 8 bytes of input; length of the text, 213 bytes of text.
@@ -16,5 +16,5 @@ pub fn text_agrees(record: &[u8]) -> bool {
     }
     let mut out = [0u8; 213];
     let count = practice_text::report(part(record, 1, 1 + length), &mut out);
-    count == usize_at(record, 9) && check::same(&out, part(record, 10, 223))
+    count == usize_at(record, 9) && out.as_slice() == part(record, 10, 223)
 }

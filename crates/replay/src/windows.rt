@@ -52,7 +52,7 @@ pub fn tour_agrees(record: &[u8]) -> bool {
     let order = found.order;
     found.number == byte_at(record, 241)
         && found.found as u8 == byte_at(record, 242)
-        && check::same(&order, part(record, 243, 251))
+        && order.as_slice() == part(record, 243, 251)
         && found.sum == word_at(record, 251)
         && found.tried == word_at(record, 255)
         && found.least == word_at(record, 259)
