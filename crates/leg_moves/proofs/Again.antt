@@ -129,7 +129,7 @@ module _ (sheet : List ℕ) where
   -- ---- the other way
 
   -- where a cart stands still after some moves, it does after fewer from a place that it comes to
-  behind : {n k : ℕ} {p q : Place} → FloorWalk sheet k p q → StandsAfter sheet n p → (m : ℕ) × (n ≡ k + m) × StandsAfter sheet m q
+  behind : {k n : ℕ} {p q : Place} → FloorWalk sheet k p q → StandsAfter sheet n p → (m : ℕ) × (n ≡ k + m) × StandsAfter sheet m q
   behind {n} stays s = (n, omega arith, s)
   behind (goes f w) s =
       let l = later sheet f s in
