@@ -17,9 +17,9 @@ use Rattle.flow_byte.specs.Look.{Look, Looking, Taken, Ended, look_at}
 
 -- its key: 0 taken, 1 ended, else two more than the value that is to be bettered
 abbrev pub look_key : Look → ℕ
-look_key (Looking best value) = value + 2
+look_key (Looking _ value) = value + 2
 look_key (Taken d) = 0
-look_key (Ended best) = 1
+look_key (Ended _) = 1
 
 -- the direction that it has come to
 abbrev pub look_dir : Look → CompassDir
