@@ -1,0 +1,13 @@
+-- `leg::has_goal` meets its contract. The loop's invariant: the steps from place k on decide.
+-- Assumes nothing.
+use Rattle.std.proofs.Common.{◌≡◌, ◌-◌, ◌/◌, ◌≤◌, length}
+use Rattle.step_list.specs.Steps.{steps_of}
+use Rattle.step_list.proofs.Steps.{steps_from}
+use Rattle.leg_plan.specs.Leg.{some_goal}
+use Rattle.leg.proofs.has_goal.Given as goal
+
+abbrev pub invariant-loop-k : goal.invariant-loop-k
+invariant-loop-k l = (l.k ≤ length l.steps / 8) × (some_goal (steps_of l.steps) ≡ some_goal (steps_from l.steps l.k))
+
+abbrev pub decreases-loop-k : goal.decreases-loop-k
+decreases-loop-k l = length l.steps / 8 - l.k
