@@ -9,7 +9,8 @@ use Rattle.flow_bits.specs.Byte.{dir_of}
 use Rattle.flow_following.proofs.first_trail.Goals as goal
 
 -- the index of the next cell
-next_index : (byte index led : ℕ) (to : FieldCell) → stepped (cell_at index) (dir_of byte) ≡ Cell to → led ≡ index_or 100 to → (led ≡ index_of to) × (led < 100)
+next_index : (byte index led : ℕ) (to : FieldCell) → stepped (cell_at index) (dir_of byte) ≡ Cell to → led ≡ index_or 100 to
+    → (led ≡ index_of to) × (led < 100)
 next_index byte index led to leads e = index_told (stepped_cell _ _ _ leads).within e
 
 pub overflow_cast-next : goal.overflow_cast-next
