@@ -186,13 +186,13 @@ module _ (step previous : List ℕ) (good : step_number step ≡ 0) (on : is_win
       go : {b : ℕ} → let seen = seen_values (portal_of step) previous x in Chosen side seen.lower seen.straight seen.higher b → Landing previous s t x b
       go (by_straight e v) = into x v (rw e ahead)
       go (by_lower e v) =
-          let i = seen_inner _ _ v in
-          let k : first_of step < x = omega (arith, c.from, eqb-false x (first_of step) i.0) in
-          into (x - stride side) i.1 (rw e (lower s t x c.inside side on_side next (first_of step) w.first_on k))
+          let off : eqb x (first_of step) ≡ false = (seen_inner _ _ v).0 in
+          let k : first_of step < x = omega (arith, c.from, eqb-false x (first_of step) off) in
+          into (x - stride side) (seen_inner _ _ v).1 (rw e (lower s t x c.inside side on_side next (first_of step) w.first_on k))
       go (by_higher e v) =
-          let i = seen_inner _ _ v in
-          let k : x < last_of step = omega (arith, c.to, eqb-false x (last_of step) i.0) in
-          into (x + stride side) i.1 (rw e (higher s t x c.inside side on_side next (last_of step) w.last_in w.last_on k))
+          let off : eqb x (last_of step) ≡ false = (seen_inner _ _ v).0 in
+          let k : x < last_of step = omega (arith, c.to, eqb-false x (last_of step) off) in
+          into (x + stride side) (seen_inner _ _ v).1 (rw e (higher s t x c.inside side on_side next (last_of step) w.last_in w.last_on k))
 
   pub crossing : Landing previous s t x (window_bits (portal_of step) true previous x)
   unfolding window_bits
