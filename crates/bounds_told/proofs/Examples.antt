@@ -60,8 +60,8 @@ pub corridor_bounds :
     map (λ x. get_or (bounds_answer (corridor 1) (corridor 5) one_cell).least x 7) (0 ∷ 1 ∷ 3 ∷ 4 ∷ 99 ∷ [])
     ++ map (λ x. get_or (bounds_answer (corridor 1) (corridor 5) one_cell).greatest x 7) (0 ∷ 1 ∷ 3 ∷ 4 ∷ 99 ∷ [])
     ≡ 0 ∷ 1 ∷ 3 ∷ 65535 ∷ 65535 ∷ 0 ∷ 5 ∷ 15 ∷ 65535 ∷ 65535 ∷ []
-unfolding bounds_number step_number_on on_edge edge cells_between stepped target_of relaxed offered_around offered_by changed_from next total is_empty settle build
-    walls with_portals started_at started
+unfolding bounds_number step_number_on on_edge edge cells_between stepped target_of relaxed offered_around offered_by changed_from next total is_empty settle
+    build walls with_portals started_at started
 corridor_bounds = refl
 
 -- the marks of some cells, 1 for sure
@@ -75,6 +75,6 @@ pub corridor_sure :
     ++ marks (corridor 1) (corridor 3) one_cell (1 ∷ 2 ∷ 3 ∷ [])
     ++ marks (corridor 0) (corridor 0) two_cells (0 ∷ 1 ∷ 2 ∷ 3 ∷ [])
     ≡ 0 ∷ 1 ∷ 1 ∷ 1 ∷ 0 ∷ 0 ∷ 0 ∷ 1 ∷ 0 ∷ 1 ∷ 0 ∷ 0 ∷ 1 ∷ 1 ∷ []
-unfolding bounds_number step_number_on on_edge edge cells_between stepped target_of relaxed offered_around offered_by changed_from next total is_empty settle build
-    walls with_portals started_at started passes_wall permitted_along is_sure
+unfolding bounds_number step_number_on on_edge edge cells_between stepped target_of relaxed offered_around offered_by changed_from next total is_empty settle
+    build walls with_portals started_at started passes_wall permitted_along is_sure
 corridor_sure = refl

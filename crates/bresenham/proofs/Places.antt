@@ -40,7 +40,15 @@ module _ (m : ℕ) (f : ℕ → ℕ) (room : m < 10) where
   before_last k h =
       let e : m + 1 - k ≡ m - k + 1 = omega arith in
       let g : m + 1 - (k + 1) ≡ m - k = omega arith in
-      rw (e, g, add-one k, table_suc k f, reverse-append (table k f) (f k ∷ []), ← replicate-append-replicate {A = ℕ} (m - k) 1 0, append_assoc)
+      rw (
+        e,
+        g,
+        add-one k,
+        table_suc k f,
+        reverse-append (table k f) (f k ∷ []),
+        ← replicate-append-replicate {A = ℕ} (m - k) 1 0,
+        append_assoc (zeros (m - k)) (zeros 1) (reverse (table k f) ++ zeros (9 - m)),
+      )
       (set_at (zeros (m - k)) 0 (reverse (table k f) ++ zeros (9 - m)) (f k) (m - k) (length-replicate (m - k) 0))
 
   pub one_written : (back : Bool) (k : ℕ) → k ≤ m → set (written back m k f) (list_place back m k) (f k) ≡ written back m (k + 1) f

@@ -65,7 +65,8 @@ module _ (byte : ℕ) (p : Place) where
       let north = le-leb (northward a + southward a) 1 w.not_north_south in
       let east = le-leb (eastward a + westward a) 1 w.not_east_west in
       let is : is_arrow a ≡ true = rw (lt-ltb 0 a w.somewhere, north, east) in
-      true≢false (sym (unless (is_arrow a) (points (dir_with all a)) is (holds_at 16 (λ a. not (is_arrow a) || points (dir_with all a)) refl a (omega arith))) ∙ e)
+      let each = holds_at 16 (λ a. not (is_arrow a) || points (dir_with all a)) refl a (omega arith) in
+      true≢false (sym (unless (is_arrow a) (points (dir_with all a)) is each) ∙ e)
 
   abbrev pub column_sum : ℤ
   column_sum = pos p.column +ℤ (differences (dir_of byte)).column
