@@ -91,7 +91,8 @@ module _ (sight : Bool) (floor step : List ℕ) (has : Bool) (previous : List �
 
 module _ (sight : Bool) (floor steps : List ℕ) where
   -- before the first step, whatever stands in the place of a previous field
-  pub from_first : (previous sheet : List ℕ) → planned sight floor (steps_of steps) sheet ≡ planned_from sight floor (steps_from steps 0) (ltb 0 0) previous sheet
+  pub from_first : (previous sheet : List ℕ) → planned sight floor (steps_of steps) sheet
+      ≡ planned_from sight floor (steps_from steps 0) (ltb 0 0) previous sheet
   unfolding planned
   from_first previous sheet = rw (from_start steps) (from_none sight floor (steps_of steps) [] previous sheet)
 
@@ -103,7 +104,8 @@ module _ (sight : Bool) (floor steps : List ℕ) where
   module _ {k : ℕ} (h : k < length steps / 8) {step : List ℕ} (e : step ≡ step_at steps k) (previous : List ℕ) where
     pub from_more : {cells : List ℕ} (sheet : List ℕ) {after : List ℕ} → cells ≡ step_field sight floor (ltb 0 k) previous step
         → after ≡ with_part sheet (sector_of step) (step_bytes sight floor (ltb 0 k) previous step)
-        → planned_from sight floor (steps_from steps k) (ltb 0 k) previous sheet ≡ planned_from sight floor (steps_from steps (k + 1)) (ltb 0 (k + 1)) cells after
+        → planned_from sight floor (steps_from steps k) (ltb 0 k) previous sheet
+        ≡ planned_from sight floor (steps_from steps (k + 1)) (ltb 0 (k + 1)) cells after
     unfolding planned_from
     from_more sheet p q = rw (from_here steps k h, p, q, e, lt-ltb 0 (k + 1) (omega arith))
 

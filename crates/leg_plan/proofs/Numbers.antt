@@ -44,12 +44,14 @@ module _ (floor : List ℕ) where
     where
       go : (b : Bool) → eqb (cond (not b) (floor_number floor s) (first_number (each_rows floor ss))) 0 ≡ false
           → (eqb (first_number (each_rows floor ss)) 0 ≡ false → first_number (each_rows floor ss ++ rest) ≡ first_number (each_rows floor ss))
-          → cond (not b) (floor_number floor s) (first_number (each_rows floor ss ++ rest)) ≡ cond (not b) (floor_number floor s) (first_number (each_rows floor ss))
+          → cond (not b) (floor_number floor s) (first_number (each_rows floor ss ++ rest))
+          ≡ cond (not b) (floor_number floor s) (first_number (each_rows floor ss))
       go true k ih = ih k
       go false k ih = refl
 
   -- a list of steps of which none is refused, step by step
-  each_head : (s : List ℕ) (ss : List (List ℕ)) → first_number (each_rows floor (s ∷ ss)) ≡ 0 → (floor_number floor s ≡ 0) × (first_number (each_rows floor ss) ≡ 0)
+  each_head : (s : List ℕ) (ss : List (List ℕ)) → first_number (each_rows floor (s ∷ ss)) ≡ 0
+      → (floor_number floor s ≡ 0) × (first_number (each_rows floor ss) ≡ 0)
   each_head s ss = go (eqb (floor_number floor s) 0) refl
     where
       go : (b : Bool) → eqb (floor_number floor s) 0 ≡ b → cond (not b) (floor_number floor s) (first_number (each_rows floor ss)) ≡ 0
@@ -124,7 +126,8 @@ module _ (floor steps sheet : List ℕ) where
 
 module _ (sight : Bool) (floor steps sheet : List ℕ) where
   -- a number that is judged before a step is planned is the leg's
-  pub judged_first : (first_number (judged_rows floor steps sheet) ≡ 0 → ⊥) → leg_number_by sight floor steps sheet ≡ first_number (judged_rows floor steps sheet)
+  pub judged_first : (first_number (judged_rows floor steps sheet) ≡ 0 → ⊥)
+      → leg_number_by sight floor steps sheet ≡ first_number (judged_rows floor steps sheet)
   unfolding leg_number_by
   judged_first h = rows_first (judged_rows floor steps sheet) (row 15 (some_closed sight floor (steps_of steps)) ∷ []) h
 
@@ -161,7 +164,8 @@ ordered_once (s ∷ ss) e = (neither (is_window s || some_goal ss) (names_twice 
 pub ready : {floor steps sheet : List ℕ} → Judged floor steps sheet → LegReady floor steps
 ready {floor} {steps} j = record {
   floor_full = j.floor_full;
-  accepted = λ k h. accepted_on _ (step_at steps k) (each_step_on_law _ (step_at steps k) (step_long steps k h) ∙ ap (floor_number floor) (sym (step_of_law steps k h))
+  accepted = λ k h. accepted_on _ (step_at steps k)
+      (each_step_on_law _ (step_at steps k) (step_long steps k h) ∙ ap (floor_number floor) (sym (step_of_law steps k h))
       ∙ each_good floor (steps_of steps) j.each k (omega (arith, steps_count steps)));
   named_once = ordered_once (steps_of steps) j.ordered;
 }

@@ -57,7 +57,8 @@ module _ (sight : Bool) (floor steps sheet : List ℕ) (ready : LegReady floor s
 
   -- the window cells that a later step starts from are those that count
   pub counting_at : out_of_order (steps_of steps) ≡ false → (k : ℕ) → suc k < length (steps_of steps) → (x : ℕ)
-      → WindowCell (target_at sight floor (steps_of steps) (suc k)) x ↔ CountingCell (step_of (steps_of steps) (suc k)) (built_at sight floor (steps_of steps) k) x
+      → WindowCell (target_at sight floor (steps_of steps) (suc k)) x
+      ↔ CountingCell (step_of (steps_of steps) (suc k)) (built_at sight floor (steps_of steps) k) x
   counting_at ordered k h =
       counting_told (step_of (steps_of steps) (suc k)) (built_at sight floor (steps_of steps) k) (good (suc k) h) (later_window (steps_of steps) ordered k h)
 

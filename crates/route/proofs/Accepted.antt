@@ -14,7 +14,8 @@ use lib.Dec.{ltb, eqb}
 use lib.ListN.{length, get_or}
 use borrow.Author.Tests.{ltb-false, eqb-true, eqb-false, eq-eqb, not-false}
 use Rattle.route.specs.Window.{on_edge}
-use Rattle.route.specs.Step.{sector_of, goal_of, mark_of, first_of, last_of, boundary_byte, boundary_of, is_goal, is_window, each_step, step_number, no_step_list}
+use Rattle.route.specs.Step.{sector_of, goal_of, mark_of, first_of, last_of, boundary_byte, boundary_of}
+use Rattle.route.specs.Step.{is_goal, is_window, each_step, step_number, no_step_list}
 
 pub each_step_law : (s : List ℕ) → length s ≡ 8 → step_number s ≡ each_step s
 unfolding step_number each_step

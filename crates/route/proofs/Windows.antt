@@ -56,7 +56,8 @@ module _ (f l : ℕ) (fi : f < 100) (li : l < 100) (o : f ≤ l) where
   unfolding cells_between
   from_places side a d i j n e t h k m ef el en = rw (e, ef, el, en) (pair_at a d t i j h k m)
 
-  pub window_run : (side : CompassDir) → on_edge side f ≡ true → on_edge side l ≡ true → cells_between side f l ≡ run ((l - f) / stride side + 1) f (stride side)
+  pub window_run : (side : CompassDir) → on_edge side f ≡ true → on_edge side l ≡ true
+      → cells_between side f l ≡ run ((l - f) / stride side + 1) f (stride side)
   unfolding on_edge pair same
   window_run side p =
       by_edge (λ s. on_edge s l ≡ true → cells_between s f l ≡ run ((l - f) / stride s + 1) f (stride s)) side f p

@@ -72,8 +72,8 @@ corridor_square = refl
 -- Nothing reaches cell 5 from cell 0. The windows 0 to 1 and 1 to 2 share a cell.
 pub cut_off :
     window_cost corridor (north 0 0 0) (north 0 5 5) ∷ window_cost corridor (north 0 0 1) (north 0 1 2) ∷ [] ≡ 65535 ∷ 0 ∷ []
-unfolding window_cost on_edge edge cells_between stepped target_of relaxed offered_around offered_by changed_from next total is_empty settle build walls with_portals
-    started_at started
+unfolding window_cost on_edge edge cells_between stepped target_of relaxed offered_around offered_by changed_from next total is_empty settle build
+    walls with_portals started_at started
 cut_off = refl
 
 pub refused_square : square_in (window_costs_answer corridor (north 0 0 1)).rows ≡ replicate 8 (replicate 8 0)

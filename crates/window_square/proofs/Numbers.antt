@@ -40,7 +40,8 @@ lines false false false false false true rest = refl
 lines false false false false false false rest = refl
 
 module _ (costs : List ℕ) (sector : ℕ) where
-  pub step_number_law : (s : List ℕ) → window_step_number costs sector s ≡ cond (eqb (each_step_on costs s) 0) (cond (no_window_of sector s) 20 0) (each_step_on costs s)
+  pub step_number_law : (s : List ℕ)
+      → window_step_number costs sector s ≡ cond (eqb (each_step_on costs s) 0) (cond (no_window_of sector s) 20 0) (each_step_on costs s)
   unfolding window_step_number each_step_on ladder
   step_number_law s =
       lines (ltb 63 (sector_of s) || ltb 1 (mark_of s) || not (eqb (get_or s 6 0) 0) || not (eqb (get_or s 7 0) 0))
@@ -84,7 +85,8 @@ module _ (costs steps : List ℕ) where
     where
       go : (a b c d : Bool) → eqb (length costs) 100 ≡ a → eqb (length steps % 8) 0 ≡ b → ltb (length (steps_of steps)) 2 ≡ c
           → ltb 8 (length (steps_of steps)) ≡ d
-          → cond (not a) 1 (cond (not b) 3 (cond (c || d) 19 (first_number (window_step_rows costs (sector_of (step_of (steps_of steps) 0)) (steps_of steps))))) ≡ 0
+          → cond (not a) 1 (cond (not b) 3 (cond (c || d) 19 (first_number (window_step_rows costs (sector_of (step_of (steps_of steps) 0)) (steps_of steps)))))
+          ≡ 0
           → WindowsReady costs steps
       go false b c d p q r s e = absurd (omega arith)
       go true false c d p q r s e = absurd (omega arith)
@@ -93,7 +95,8 @@ module _ (costs steps : List ℕ) where
       go true true false false p q r s e =
           let n = steps_count steps in
           let good : (k : ℕ) → k < length steps / 8 → (each_step_on costs (step_at steps k) ≡ 0) × (is_window (step_at steps k) ≡ true)
-          = λ k h. accepted_among costs _ (step_at steps k) (ap (window_step_number costs (sector_of (step_of (steps_of steps) 0))) (sym (step_of_law steps k h))
+          = λ k h. accepted_among costs _ (step_at steps k)
+          (ap (window_step_number costs (sector_of (step_of (steps_of steps) 0))) (sym (step_of_law steps k h))
           ∙ each_good costs _ (steps_of steps) e k (omega arith)) in
           record {
             costs_hundred = eqb-true (length costs) 100 p;

@@ -8,7 +8,8 @@ use Rattle.leg_plan.specs.Leg.{floor_number}
 use Rattle.leg.proofs.each_step.Goals as goal
 
 -- the step, as it is lent, is the one at its place
-number : (floor steps : List ℕ) (k : ℕ) {n : ℕ} → n ≡ floor_number floor (take (k * 8 + 8 - k * 8) (drop (k * 8) steps)) → n ≡ floor_number floor (step_at steps k)
+number : (floor steps : List ℕ) (k : ℕ) {n : ℕ} → n ≡ floor_number floor (take (k * 8 + 8 - k * 8) (drop (k * 8) steps))
+    → n ≡ floor_number floor (step_at steps k)
 number floor steps k e = e ∙ ap (floor_number floor) (lent_step steps k)
 
 pub returns-then-number-ne0 : goal.returns-then-number-ne0

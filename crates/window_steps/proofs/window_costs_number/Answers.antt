@@ -55,4 +55,5 @@ returns-then-count-gt8 c =
 
 pub returns : goal.returns
 returns c =
-    each_step c.args.costs.now c.args.steps.now c.if-costs-ne100.false c.if-length-ne0.false c.if-count-lt2.false c.if-count-gt8.false c.each_window_step.ensures
+    each_step c.args.costs.now c.args.steps.now c.if-costs-ne100.false c.if-length-ne0.false c.if-count-lt2.false c.if-count-gt8.false
+    c.each_window_step.ensures
