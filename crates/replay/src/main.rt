@@ -14,7 +14,6 @@ mod refusals;
 mod seeds;
 mod windows;
 
-use std::alloc::Global;
 use std::io::Read;
 use std::rt::Files;
 use std::{fs, io};
@@ -57,14 +56,25 @@ fn agrees(section: u8, record: &[u8]) -> bool {
     }
 }
 
-// Compares record after record, each of this length. No file has a million, and a proved loop has to end.
-fn compare<R: Read>(alloc: Global, section: u8, file: &mut R, length: u64) -> io::Result<Tally> {
-    let mut record = Vec::new(alloc);
+// Reads until the record is full or the file ends, and returns how many bytes it put at the record's start.
+fn read_full<R: Read>(file: &mut R, record: &mut [u8]) -> io::Result<usize> {
+    let mut done = 0;
+    while done < record.len() {
+        let read = file.read(&mut record[done..])?;
+        if read == 0 {
+            break;
+        }
+        done += read;
+    }
+    Ok(done)
+}
+
+// Compares record after record. No file has a million, and a proved loop has to end.
+fn compare<R: Read>(section: u8, file: &mut R, record: &mut [u8]) -> io::Result<Tally> {
     let mut agreed: u64 = 0;
     let mut sum: u64 = 0;
     while agreed < 1000000 {
-        record.clear();
-        let read = file.by_ref().take(length).read_to_end(&mut record)?;
+        let read = read_full(file, record)?;
         if read == 0 {
             return Ok(Tally {
                 agreed,
@@ -72,11 +82,11 @@ fn compare<R: Read>(alloc: Global, section: u8, file: &mut R, length: u64) -> io
                 differs: false,
             });
         }
-        if read as u64 != length {
+        if read != record.len() {
             break;
         }
-        sum = replay_records::summed(sum, &record);
-        if !agrees(section, &record) {
+        sum = replay_records::summed(sum, record);
+        if !agrees(section, record) {
             break;
         }
         agreed += 1;
@@ -100,14 +110,11 @@ fn print_tally(rt: &impl Print, name: &str, counted: Tally) -> io::Result<()> {
 }
 
 // Replays a section, whose records are this long.
-fn replay<R: Files + Print + AllocGlobal>(
-    rt: &R,
-    section: u8,
-    name: &str,
-    length: u64,
-) -> io::Result<()> {
+fn replay<R: Files + Print>(rt: &R, section: u8, name: &str, length: usize) -> io::Result<()> {
+    let mut longest = [0u8; 7171];
     let mut file = fs::open(rt, name)?;
-    let counted = compare(rt.alloc(), section, &mut file, length)?;
+    let record = replay_records::front(&mut longest, length);
+    let counted = compare(section, &mut file, record)?;
     print_tally(rt, name, counted)
 }
 
