@@ -1,4 +1,4 @@
--- `replay::legs::put_sectors` is safe and ends: its place counts up to 16, and the list keeps its length.
+-- `replay::legs::put_sectors` is safe and ends: its place counts up to 16.
 -- Assumes nothing.
 use Rattle.std.proofs.Common.{◌-◌, ◌≤◌}
 use Rattle.replay.proofs.legs.put_sectors.Given as goal
