@@ -1,6 +1,6 @@
 // Reads a seed of four bytes, low byte first, from standard input, and prints its practice floor, or `no`.
 // An input longer than four bytes prints `no` whatever follows, so five bytes decide what is printed.
-// Where standard output takes less than that, standard error says so: a Rattle program has no exit status to say it with.
+// Where standard output takes less than that, standard error says so; the exit status stays 0.
 #![tactic(auto)]
 
 fn main() {

@@ -1,7 +1,7 @@
 // Reads 100 cost bytes and a step from standard input, and prints the flow bytes, or `no` and the number of the refusal.
 // There is no previous field, so that a step with a window is refused: with 17, where no earlier number is due.
 // An input longer than 108 bytes is refused whatever follows, so 109 bytes decide what is printed.
-// Where standard output takes less than that, standard error says so: a Rattle program has no exit status to say it with.
+// Where standard output takes less than that, standard error says so; the exit status stays 0.
 #![tactic(auto)]
 
 fn main() {
