@@ -1,5 +1,5 @@
 -- What is promised of the call for bounds, by its run and its number.
---     some-so-far, some-found    a test of all cells, one after the other
+--     some_so_far, some_found    a test of all cells, one after the other
 --     runs                       what the run's calls leave
 --     refuses, accepts           all that is promised of a refused call, and of an accepted one by its run
 -- Assumes nothing.

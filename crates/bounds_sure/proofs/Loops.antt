@@ -1,10 +1,10 @@
 -- Laws of the loops here, and of what is found in one direction after the other.
---     some-here, some-over, every_here, every-over   a test of what is left of a list in an array
+--     some_here, some_over, every_here, every_over   a test of what is left of a list in an array
 --     some_same                                      tests that agree on cells
---     indexes-more                                   an index more in an array with a count
---     along-more                                     the neighbours in a list of directions, those in the first before the rest
---     along-outside, along-passed, along-found       and what is found in one direction
---     sure-flagged                                   the test of a cell, with window cells told by their flags
+--     indexes_more                                   an index more in an array with a count
+--     along_more                                     the neighbours in a list of directions, those in the first before the rest
+--     along_outside, along_passed, along_found       and what is found in one direction
+--     sure_flagged                                   the test of a cell, with window cells told by their flags
 -- Assumes nothing.
 use mathlib.Core.Path.{◌≡◌, refl, sym, ap, ◌∙◌}
 use mathlib.Core.Bool.{Bool, true, false, not, ◌&&◌, ◌||◌}

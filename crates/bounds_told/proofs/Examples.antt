@@ -1,7 +1,7 @@
 -- Small floors on which the call for bounds decides (02, "Job 9"), computed: a definition with one rule changed gives something else.
 --     numbers           the order of the numbers, and each condition of 18
---     corridor-bounds   least and greatest costs
---     corridor-sure     a cell is sure by its window cell or by one strictly least neighbour; equal bounds, walls, window cells and cells
+--     corridor_bounds   least and greatest costs
+--     corridor_sure     a cell is sure by its window cell or by one strictly least neighbour; equal bounds, walls, window cells and cells
 --                       that nothing reaches are not
 -- Assumes nothing.
 use mathlib.Core.Path.{◌≡◌, refl}

@@ -1,8 +1,8 @@
 -- Floors between two others: they have the same walls, so that they start the same field, and their built costs lie between.
---     started-same        the started field of a window is the same on floors with the same walls
---     not-dearer          where no cell costs more, none has a greater built cost
---     reached-too         what is reached on one such floor is reached on the other: the sum of a walk over at most 100 cells stays below 65535
---     wall-known, taken-known, portal-known   the flags of a built cell: a wall's, and a window cell's, whatever the costs
+--     started_same        the started field of a window is the same on floors with the same walls
+--     not_dearer          where no cell costs more, none has a greater built cost
+--     reached_too         what is reached on one such floor is reached on the other: the sum of a walk over at most 100 cells stays below 65535
+--     wall_known, taken_known, portal_known   the flags of a built cell: a wall's, and a window cell's, whatever the costs
 -- Assumes nothing.
 use mathlib.Core.Path.{◌≡◌, refl, sym, ap, ◌∙◌}
 use mathlib.Core.Bool.{Bool, true, false, cond, ◌||◌}

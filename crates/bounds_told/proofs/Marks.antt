@@ -1,7 +1,7 @@
 -- Which cells are marked as sure: the test of a cell, and the same told by its walls, its window cells and its permitted neighbours.
---     some-told, every-told    the tests of a list
---     sure-told                the test of a cell holds exactly of a sure cell
---     same-sure                floors with the same walls have the same sure cells
+--     some_told, every_told    the tests of a list
+--     sure_told                the test of a cell holds exactly of a sure cell
+--     same_sure                floors with the same walls have the same sure cells
 -- Assumes nothing.
 use mathlib.Core.Path.{◌≡◌, refl, sym, ap, ◌∙◌}
 use mathlib.Core.Bool.{Bool, true, false, true≢false, not, ◌&&◌, ◌||◌, and-eq-true_iff, or-true}

@@ -1,9 +1,9 @@
 -- The number of the call for bounds.
 --     accepted      what an accepted call is given
---     eighteen-told  it is refused with 18 exactly if nothing before is due, and the step has no window or some cell's costs are no from-to
+--     eighteen_told  it is refused with 18 exactly if nothing before is due, and the step has no window or some cell's costs are no from-to
 --     ranged        its two floors have a from-to in each cell
---     zero-bounds   a refused answer, part by part
---     by-window     its step's target is a window
+--     zero_bounds   a refused answer, part by part
+--     is_by_window     its step's target is a window
 -- Assumes nothing.
 use mathlib.Core.Path.{◌≡◌, refl, sym, ◌∙◌}
 use mathlib.Core.Bool.{Bool, true, false, true≢false, not, cond, ◌&&◌, ◌||◌}

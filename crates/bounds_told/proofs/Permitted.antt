@@ -1,7 +1,7 @@
 -- Permitted neighbours: the list of them, what a look sees, and what it does not pass over are the same.
---     permitted-sees, sees-permitted    a permitted neighbour is what a look sees in one of its directions
---     listed-told                       and the list has exactly these
---     same-sees                         fields with the same walls see the same
+--     permitted_sees, sees_permitted    a permitted neighbour is what a look sees in one of its directions
+--     listed_told                       and the list has exactly these
+--     same_sees                         fields with the same walls see the same
 -- Assumes nothing.
 use mathlib.Core.Path.{◌≡◌, refl, sym, ap, ◌∙◌}
 use mathlib.Core.Bool.{Bool, true, false, true≢false, not}

@@ -1,5 +1,5 @@
 -- Permitted neighbours by rows and columns: a cell that an arrow can point at, no wall, and no wall passed on the way to it.
---     permitted-told    they are those that the look does not pass over
+--     permitted_told    they are those that the look does not pass over
 -- Assumes nothing.
 use mathlib.Core.Path.{◌≡◌, refl, sym, subst, ◌∙◌}
 use mathlib.Core.Bool.{Bool, true, false, true≢false}

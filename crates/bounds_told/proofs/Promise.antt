@@ -1,5 +1,5 @@
 -- What is promised of bounds and of sure cells, of the definitions.
---     cost-bounds, sure-marks      all that is promised, for two floors with a from-to in each cell and a target that is a window
+--     cost_bounds, sure_marks      all that is promised, for two floors with a from-to in each cell and a target that is a window
 --     portals                      the window cells of a built field are those flagged as portals
 -- Assumes nothing.
 use mathlib.Core.Path.{◌≡◌, sym, subst, ◌∙◌}

@@ -1,5 +1,5 @@
 -- A sure cell's arrow is the same on all floors with the same walls whose costs keep within the bounds.
---     points-at     where a look has come to a cell, or takes it, the arrow of the byte points there
+--     points_at     where a look has come to a cell, or takes it, the arrow of the byte points there
 --     chosen        the neighbour of a sure cell that the look comes to on each of the floors: the first window cell that it sees, and where it
 --                   sees none the one of strictly least cost. No cell that nothing reaches ends the look before: where one permitted
 --                   neighbour is reached, all are

@@ -1,8 +1,8 @@
 -- Lines that are drawn as indexes.
---     walk-drawn      a walk whose cells are all written is drawn
---     drawn-list      the indexes before the count
---     drawn-full      there are ten places still
---     drawn-answer    the cells of these indexes are the line's again, where it stays in the sector
+--     walk_drawn      a walk whose cells are all written is drawn
+--     drawn_list      the indexes before the count
+--     drawn_full      there are ten places still
+--     drawn_answer    the cells of these indexes are the line's again, where it stays in the sector
 --     walk_inside     as a walk does
 -- Assumes nothing.
 use mathlib.Core.Path.{◌≡◌, refl, sym, ap, ap₂, ◌∙◌}

@@ -1,8 +1,8 @@
 -- Adjacency by rows and columns is what the four orthogonal steps give.
---     step-beside    an orthogonal step from a cell of the sector arrives beside it
---     beside-step    and at a cell beside it an orthogonal step arrives
---     beside-flip    adjacency goes both ways
---     beside-below   indexes beside each other are indexes of cells
+--     step_beside    an orthogonal step from a cell of the sector arrives beside it
+--     beside_step    and at a cell beside it an orthogonal step arrives
+--     beside_flip    adjacency goes both ways
+--     beside_below   indexes beside each other are indexes of cells
 -- Assumes nothing.
 use mathlib.Core.Path.{◌≡◌, refl, sym}
 use mathlib.Core.Logic.{◌⊎◌, inl, inr}

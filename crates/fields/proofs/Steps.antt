@@ -1,18 +1,18 @@
 -- Laws of cells and steps that later layers cite.
---     inside-true, true-inside      what the test of a cell says
---     index-told                    what `as_1d_index` answers of a cell of the sector
---     index-known                   and of the cell at an index
---     near-made                     a step may be made from the cell at any index
---     cell-of-index, index-of-cell  a cell of the sector and its index
---     stepped-cell, steps-to        where a step arrives: at the two sums, inside
---     told, steps-by                the same by what the differences add and take away
---     steps-out                     else it leaves the sector
---     summed-in, summed-out         a step worked out by two sums and their range
---     step-told, step_stays         where a step from an index arrives, by what its calls answer; so it stays inside
---     arrived-once                  it arrives at one cell
---     index-arrived                 the index of where it arrives, by the index that it was made from
+--     inside_true, true_inside      what the test of a cell says
+--     index_told                    what `as_1d_index` answers of a cell of the sector
+--     index_known                   and of the cell at an index
+--     near_made                     a step may be made from the cell at any index
+--     cell_of_index, index_of_cell  a cell of the sector and its index
+--     stepped_cell, steps_to        where a step arrives: at the two sums, inside
+--     told, steps_by                the same by what the differences add and take away
+--     steps_out                     else it leaves the sector
+--     summed_in, summed_out         a step worked out by two sums and their range
+--     step_told, step_stays         where a step from an index arrives, by what its calls answer; so it stays inside
+--     arrived_once                  it arrives at one cell
+--     index_arrived                 the index of where it arrives, by the index that it was made from
 --     step_back                     a step is undone by the opposite step
---     by-sums, undone, promised     what is promised of a step
+--     by_sums, undone, promised     what is promised of a step
 --     pointless                     Zero leads nowhere
 -- Assumes nothing.
 use mathlib.Core.Path.{◌≡◌, refl, sym, subst, ap, ◌∙◌}

@@ -1,8 +1,8 @@
 -- Small sheets, computed from the definition.
---     arrives-after                how many moves
---     in-a-circle                  two cells that point at each other
---     out-of-the-sector            arrows over each edge, and bytes with no direction
---     refuses-99, refuses-101      another length
+--     arrives_after                how many moves
+--     in_a_circle                  two cells that point at each other
+--     out_of_the_sector            arrows over each edge, and bytes with no direction
+--     refuses_99, refuses_101      another length
 -- Assumes nothing.
 use mathlib.Core.Path.{◌≡◌, refl}
 use mathlib.Core.List.{List, [], ◌∷◌, map}

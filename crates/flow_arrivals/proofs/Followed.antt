@@ -1,12 +1,12 @@
 -- Following by the direction that a byte reads as comes where its bits point, and its moves are those that are defined.
---     read-follows      where the direction steps to, the bits point at
---     follows-read      and the other way round
+--     read_follows      where the direction steps to, the bits point at
+--     follows_read      and the other way round
 --     stays, goes       one move, by the byte of its cell
---     one-made          of n moves, one
---     after-inside      n moves lead to a cell of the sector
---     moves-most        at most n are made
---     cell-further, moves_further     m moves more are made from where n have led
---     made-first        where j moves and no fewer arrive, and n are enough, j are made
+--     one_made          of n moves, one
+--     after_inside      n moves lead to a cell of the sector
+--     moves_most        at most n are made
+--     cell_further, moves_further     m moves more are made from where n have led
+--     made_first        where j moves and no fewer arrive, and n are enough, j are made
 --     made_all          where fewer than n do not arrive, all are made
 -- Assumes nothing.
 use mathlib.Core.Path.{◌≡◌, refl, sym, ap, subst, ◌∙◌}

@@ -1,7 +1,7 @@
 -- What is promised of the numbers of moves: they are told by the relation of following alone.
---     moves-any      the number does not depend on how it was decided
+--     moves_any      the number does not depend on how it was decided
 --     told           the promise
---     moves-few      where so many moves arrive, at most as many are answered
+--     moves_few      where so many moves arrive, at most as many are answered
 -- Assumes nothing.
 use mathlib.Core.Path.{◌≡◌, refl, sym, ap, subst, ◌∙◌}
 use mathlib.Core.Logic.{◌⊎◌, inl, inr}

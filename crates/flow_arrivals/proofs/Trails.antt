@@ -1,10 +1,10 @@
 -- Trails tell the number of moves that is defined, once their moves decide.
 --     first_made        the trail of one move is told by the cell's own byte
---     round-made        a round makes as many moves again, from all cells
---     short-made        a round may start from the trails of fewer than 100 moves
---     moves-followed    what a trail tells is the number of moves that is defined, where its moves decide
---     told-all          so do those of all cells
---     all-decide        where none of the trails has made all of its moves, they decide
+--     round_made        a round makes as many moves again, from all cells
+--     short_made        a round may start from the trails of fewer than 100 moves
+--     moves_followed    what a trail tells is the number of moves that is defined, where its moves decide
+--     told_all          so do those of all cells
+--     all_decide        where none of the trails has made all of its moves, they decide
 -- Assumes nothing.
 use mathlib.Core.Path.{◌≡◌, refl, ap, ◌∙◌}
 use mathlib.Core.Bool.{Bool, true, false}

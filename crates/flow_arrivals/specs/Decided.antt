@@ -4,7 +4,7 @@
 -- that arrows which have not arrived after 99 moves never do.
 --     searched      whether fewer than n moves arrive
 --     few           different numbers below n are at most n
---     first-few     the first number of moves is at most 99
+--     first_few     the first number of moves is at most 99
 --     arrival       the decision
 -- Assumes nothing.
 use Rattle.std.specs.Prelude.{◌≡◌, refl, Bool, true, false, cond, ◌&&◌, ◌⊎◌, List, ltb, leb, eqb, get_or}

@@ -1,7 +1,7 @@
 -- From every reached cell of a leg's later sector the arrows come into the goal's sector (`LegArrives`), and that sector's numbers of moves tell the rest.
 --     entered         the cell where a journey comes into the goal's sector, and the walk there
---     inside-walk     moves inside a sector are moves on the floor
---     leg-told        the theorem
+--     inside_walk     moves inside a sector are moves on the floor
+--     leg_told        the theorem
 -- Assumes nothing.
 use mathlib.Core.Path.{◌≡◌, refl, sym, ap, subst, ◌∙◌}
 use mathlib.Core.Bool.{true}

@@ -1,10 +1,10 @@
 -- In a sector planned without sight, with no cost 0, the arrows of every reached cell arrive: they lead to a window cell or to the goal (`arrows_led`),
 -- whose byte reads as portal goal or as goal; and no byte on the way there does.
---     end-arrival         the byte of such a cell
---     leads-comes         where the arrows lead they come
---     no-fewer            and after no fewer moves
---     sightless-arrives   the theorem
---     window-arrives      the same of a sector left by a window
+--     end_arrival         the byte of such a cell
+--     leads_comes         where the arrows lead they come
+--     no_fewer            and after no fewer moves
+--     sightless_arrives   the theorem
+--     window_arrives      the same of a sector left by a window
 -- Assumes nothing.
 use mathlib.Core.Path.{◌≡◌, refl, sym, ap, ◌∙◌}
 use mathlib.Core.Bool.{Bool, true, false, true≢false}

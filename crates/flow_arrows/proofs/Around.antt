@@ -1,8 +1,8 @@
 -- The neighbours that a look does not pass over: no walls, and no diagonals that pass one.
 --     Near                          a neighbour by rows and columns: beside the cell, or one row and one column away
 --     Sees                          a neighbour that a look does not pass over
---     reached-there, reached-back   it is reached if and only if the cell is: a permitted diagonal has a side cell that is no wall
---     sees, open-sees, sees-open    what a step arrives at is seen exactly where the two tests of a look fail
+--     reached_there, reached_back   it is reached if and only if the cell is: a permitted diagonal has a side cell that is no wall
+--     sees, open_sees, sees_open    what a step arrives at is seen exactly where the two tests of a look fail
 --     sees_beside                   a cell beside that is no wall is seen in some direction
 -- Assumes nothing.
 use mathlib.Core.Path.{◌≡◌, refl, sym}

@@ -1,9 +1,9 @@
 -- The bytes of a flow field, cell by cell.
---     built-byte, new-byte      the byte at an index
---     new-length                100 bytes
---     pointed-is                a byte made of a direction: its arrow has that direction's bits, and it has not all of 0xE0
---     portal-kept, window-bits  a window cell's byte, whatever the step's window: 0x10 is set, and not all of 0xE0
---     made-byte, portal-byte    the byte that building makes of a new one, and of a window cell's: it can be walked, so that it does not look
+--     built_byte_law, new_byte_law      the byte at an index
+--     new_length                100 bytes
+--     pointed_is                a byte made of a direction: its arrow has that direction's bits, and it has not all of 0xE0
+--     portal_kept, window_bits_law  a window cell's byte, whatever the step's window: 0x10 is set, and not all of 0xE0
+--     made_byte, portal_byte    the byte that building makes of a new one, and of a window cell's: it can be walked, so that it does not look
 -- Assumes nothing.
 use mathlib.Core.Path.{◌≡◌, refl, sym, ap, ◌∙◌}
 use mathlib.Core.Bool.{Bool, true, false, true≢false, cond, not, ◌&&◌, ◌||◌}

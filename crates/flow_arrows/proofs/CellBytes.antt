@@ -1,11 +1,11 @@
 -- A sector without sight, started and built, and the flow byte of each kind of its cells; costs of 0 are taken too.
---     end-sector        what is known of its built field, for every target without sight; `window_sector`: of a window
---     window-listed     the window cells are among those where arrows end
---     window-byte       a window cell's byte: its flags, and the bits of its window
---     end-byte, end_kept    the byte of a cell where arrows end: its flags and bits below 0x20; 0x10 is set, and not all of 0xE0
---     wall-byte         a wall's byte
+--     end_sector        what is known of its built field, for every target without sight; `window_sector`: of a window
+--     window_listed     the window cells are among those where arrows end
+--     window_byte       a window cell's byte: its flags, and the bits of its window
+--     end_byte, end_kept    the byte of a cell where arrows end: its flags and bits below 0x20; 0x10 is set, and not all of 0xE0
+--     wall_byte         a wall's byte
 --     plain_byte        any other cell's byte: what its look has come to
---     corner-byte       the byte of a goal that is planned without sight: 0x70
+--     corner_byte       the byte of a goal that is planned without sight: 0x70
 -- Assumes nothing.
 use mathlib.Core.Path.{◌≡◌, refl, sym, ap, ◌∙◌}
 use mathlib.Core.Bool.{Bool, true, false, true≢false, cond, ◌||◌}

@@ -1,12 +1,12 @@
 -- Arrows pass no wall diagonally, in every sector (02, "Job 7").
 -- A look comes to no direction, or to that of a cell that it sees, and it passes over whatever the diagonal rule bars. Goals, cells in sight and
 -- walls have no direction. The arrow of a window cell goes over the edge that the window lies on, so that it leads to no cell of the sector.
---     walls-told      the walls of the built field are those of document 01
---     passes-told     and the diagonal rule on it is document 02's, told by rows and columns
---     cuts-pass       what cuts between two walls passes one
---     window-leaves   the bits of a window cell point out of the sector
---     arrows-clear    every arrow that leads to a cell of the sector is a look's, and so clear of walls
---     target-on       a step's window cells lie on the edge of its boundary
+--     walls_told      the walls of the built field are those of document 01
+--     passes_told     and the diagonal rule on it is document 02's, told by rows and columns
+--     cuts_pass       what cuts between two walls passes one
+--     window_leaves   the bits of a window cell point out of the sector
+--     arrows_clear    every arrow that leads to a cell of the sector is a look's, and so clear of walls
+--     target_on       a step's window cells lie on the edge of its boundary
 -- Assumes nothing.
 use mathlib.Core.Path.{◌≡◌, refl, sym, ap, subst, ◌∙◌}
 use mathlib.Core.Bool.{Bool, true, false, true≢false, cond, not, ◌&&◌, ◌||◌, or-true}

@@ -1,7 +1,7 @@
 -- The built costs of a sector without sight, whose listed corners start at 0, be they window cells or the goal: they fall from every reached cell
 -- to these, where arrows end, and spread to every cell beside a reached one.
---     zero-stays  a cell of value 0 keeps its word when a field is built
---     window-ends, corner-ends    a field started with a window, and one started with a goal without sight, are such a sector's
+--     zero_stays  a cell of value 0 keeps its word when a field is built
+--     window_ends, corner_ends    a field started with a window, and one started with a goal without sight, are such a sector's
 --     by_kind     a cell's built word is that of a cell where arrows end, a wall's, or a cost alone
 --     falls       beside a reached cell that is none of these lies one of lower cost, from which its own cost is made
 --     entered_from_law    with costs of 0 too, one of no higher cost

@@ -1,14 +1,14 @@
 -- Followed arrows end in the window, or without sight in the goal.
---     arrows-led       from every reached cell, after at most 99 moves, each to a lower cell and none between two walls; and all of 0xE0
+--     arrows_led       from every reached cell, after at most 99 moves, each to a lower cell and none between two walls; and all of 0xE0
 --                      stands exactly on walls and unreached cells
---     marked-told      the latter with costs of 0 too
---     arrows-lead      the same of a sector left by a window
---     build-arrows     the same as it is promised of `FlowField::build`
---     made-arrows, once-built-arrows, started-arrows    and of `init` and of building a field
---     window-flow      a window cell's byte: its flags, and the bits of its window
---     points-flow      the byte of a reached cell where arrows do not end: a direction
---     end-flow         the byte of a cell where arrows end: its flags, and bits below 0x20
---     leads-once       following is determined: two ways to follow the arrows from a cell make as many moves
+--     marked_told      the latter with costs of 0 too
+--     arrows_lead      the same of a sector left by a window
+--     build_arrows     the same as it is promised of `FlowField::build`
+--     made_arrows, once_built_arrows, started_arrows    and of `init` and of building a field
+--     window_flow      a window cell's byte: its flags, and the bits of its window
+--     points_flow      the byte of a reached cell where arrows do not end: a direction
+--     end_flow         the byte of a cell where arrows end: its flags, and bits below 0x20
+--     leads_once       following is determined: two ways to follow the arrows from a cell make as many moves
 --     move_read        and is the same by the direction that a byte reads as
 -- Assumes nothing.
 use mathlib.Core.Path.{◌≡◌, refl, sym, ap, subst, ◌∙◌}

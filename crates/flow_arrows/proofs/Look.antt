@@ -2,8 +2,8 @@
 -- A direction leaves a look as it was, takes what is seen there, ends the look, or makes the direction the best so far. `Kept` asks of a fact that it
 -- holds after each of these four; `came` then gives it after one more direction, and `along` after all of them.
 --     aims              a look comes to no direction, or to that of a cell that it sees
---     is-taking         whether a goal or a portal is seen in a direction
---     passes, sees-on   a look passes over a direction, whatever it has found so far, exactly where it sees nothing there
+--     is_taking         whether a goal or a portal is seen in a direction
+--     passes, sees_on   a look passes over a direction, whatever it has found so far, exactly where it sees nothing there
 --     nothing           where nothing that it sees is reached: it comes to no direction
 -- Assumes nothing.
 use mathlib.Core.Path.{◌≡◌, refl, sym, ap, ◌∙◌}

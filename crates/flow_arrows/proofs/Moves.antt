@@ -1,8 +1,8 @@
 -- Moves by the bits of an arrow.
 --     away         where a step in a direction arrives, by that direction's bits
 --     reads_so     the direction that a byte reads as goes where its bits point
---     away-once    an arrow points at one cell
---     away-bits    one arrow points at a cell
+--     away_once    an arrow points at one cell
+--     away_bits    one arrow points at a cell
 -- Assumes nothing.
 use mathlib.Core.Path.{◌≡◌, refl, sym, subst, ◌∙◌}
 use mathlib.Core.Bool.{Bool, true, false, not, ◌&&◌, ◌||◌}

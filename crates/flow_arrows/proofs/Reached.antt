@@ -1,7 +1,7 @@
 -- A look of which all that is seen is reached never ends early, so that it has gone through all eight directions, or has taken a goal or a portal.
 --     found         one cell that it sees is lower: it comes to a lower cell, or takes one
 --     takes_first   some of what it sees is a goal or a portal: it takes the first
---     ends-least    none of it is, and one cell is strictly the least: it comes to that cell
+--     ends_least    none of it is, and one cell is strictly the least: it comes to that cell
 -- Two facts carry them, each kept by one more direction: what the look has found so far is a cell that it sees, at its value (`sound`), and of no
 -- higher value than each cell that it has seen (`noted`).
 -- Assumes nothing.

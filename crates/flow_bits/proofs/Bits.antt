@@ -1,5 +1,5 @@
 -- What a direction's bits say.
---     points_none, points-some    they are 0 where the direction points nowhere, and nowhere else
+--     points_none, points_some    they are 0 where the direction points nowhere, and nowhere else
 --     bits_small                  they are the low four
 -- Assumes nothing.
 use mathlib.Core.Path.{◌≡◌, refl, ◌∙◌}

@@ -1,7 +1,7 @@
 -- Masks of a flow byte.
---     and-taken, and_left    two tests, one after the other
---     all-mask               `byte & 0xE0 == 0xE0`
---     dir-mask, dir-none     the direction of the low half
+--     and_taken, and_left    two tests, one after the other
+--     all_mask               `byte & 0xE0 == 0xE0`
+--     dir_mask, dir_none     the direction of the low half
 -- Assumes nothing.
 use mathlib.Core.Path.{◌≡◌, refl, sym, ap, ◌∙◌}
 use mathlib.Core.Bool.{Bool, true, false, ◌&&◌}

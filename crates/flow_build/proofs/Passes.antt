@@ -1,12 +1,12 @@
 -- The look in passes is the look of the definition.
---     noted-not, noted-yes             when a look goes by what it sees
---     after-not, after-noted, after-ended   what it comes to, by its key and bits
---     seen-held                        what a look makes of a neighbour, by the neighbour's key: one step, by the definition's cases
+--     noted_not, noted_yes             when a look goes by what it sees
+--     after_not, after_noted, after_ended   what it comes to, by its key and bits
+--     seen_held                        what a look makes of a neighbour, by the neighbour's key: one step, by the definition's cases
 --     goes_on, stays                   the same of any look, where the step arrives and where it leaves the sector
---     on-cell, on-outside              the looks of all cells, of which one goes on
+--     on_cell, on_outside              the looks of all cells, of which one goes on
 --     pass_on                          and of which all have gone on
---     new-looks                        before the first direction
---     held-byte, held_bytes_law, none-looks     the bytes
+--     new_looks                        before the first direction
+--     held_byte_law, held_bytes_law, none_looks     the bytes
 -- Assumes nothing.
 use mathlib.Core.Path.{◌≡◌, refl, sym, subst, ap, ◌∙◌}
 use mathlib.Core.Bool.{Bool, true, false, not, cond, ◌&&◌, ◌||◌}

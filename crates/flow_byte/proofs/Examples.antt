@@ -1,9 +1,9 @@
 -- Small inputs on which the rules of a flow byte decide (01, "Flow byte"), computed: a definition with one rule changed gives something else.
---     start-portal                   the flags that a window cell starts with
---     lower-side, end-sees-two       the facing choice, and what an end cell sees of it
+--     start_portal                   the flags that a window cell starts with
+--     lower_side_law, end_sees_two       the facing choice, and what an end cell sees of it
 --     earliest, ended                a look: of equals the earliest, an end at a cell that nothing reaches
---     unbarred, barred-in-row, ..    a diagonal past no wall, and past one
---     ended-byte                     what becomes of a byte where a look has ended
+--     unbarred, barred_in_row, ..    a diagonal past no wall, and past one
+--     ended_byte                     what becomes of a byte where a look has ended
 -- Assumes nothing.
 use mathlib.Core.Path.{◌≡◌, refl}
 use mathlib.Core.List.{List}

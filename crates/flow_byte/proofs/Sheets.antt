@@ -1,6 +1,6 @@
 -- A sheet that is filled cell by cell, each byte by a rule.
---     fill_none, fill_more, fill-all  nothing is written yet; one byte more; all are written
---     still-old                       what is not written yet is as it was
+--     fill_none, fill_more, fill_all  nothing is written yet; one byte more; all are written
+--     still_old                       what is not written yet is as it was
 -- Assumes nothing.
 use mathlib.Core.Path.{◌≡◌, refl, sym, ap, ap₂, ◌∙◌}
 use mathlib.Core.List.{List, [], ◌∷◌, ◌++◌, map, map-append}

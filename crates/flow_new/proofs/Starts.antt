@@ -1,7 +1,7 @@
 -- The first bytes of a flow field, as the program makes them.
---     bits-length          or-ing bits on keeps the length
---     bits-step, bits-end  window cell by window cell
---     new-made             flags, then each window cell's bits: the bytes of a new flow field, where no window cell comes twice
+--     bits_length          or-ing bits on keeps the length
+--     bits_step, bits_end  window cell by window cell
+--     new_made             flags, then each window cell's bits: the bytes of a new flow field, where no window cell comes twice
 -- Assumes nothing.
 use mathlib.Core.Path.{◌≡◌, refl, sym, ap, ◌∙◌}
 use mathlib.Core.Bool.{Bool, true, false, cond, ◌||◌}

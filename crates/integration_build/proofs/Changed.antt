@@ -1,12 +1,12 @@
 -- The cells that a wave's offers change, listed as they change.
---     changed-none                     before the first offer none is listed
---     not-below-more                   what is no lower than a value that is not below all is neither
---     changed-few                      at most 99 are listed, since a cell with the least value stays as it was: there is a place behind them
---     changed-behind                   what stands in the place behind the list does not count
---     changed-first, changed-again     a cell that an offer lowers for the first time, and one that an offer lowered already
---     changed-offer                    one offer
---     changed-first-member             the first listed cell is in the list of the definition
---     changed-member, member-changed   the listed cells are those of that list
+--     changed_none                     before the first offer none is listed
+--     not_below_more                   what is no lower than a value that is not below all is neither
+--     changed_few                      at most 99 are listed, since a cell with the least value stays as it was: there is a place behind them
+--     changed_behind                   what stands in the place behind the list does not count
+--     changed_first, changed_again     a cell that an offer lowers for the first time, and one that an offer lowered already
+--     changed_offer                    one offer
+--     changed_first_member             the first listed cell is in the list of the definition
+--     changed_member, member_changed   the listed cells are those of that list
 -- Assumes nothing.
 use mathlib.Core.Path.{◌≡◌, refl, sym, ap, subst, ◌∙◌}
 use mathlib.Core.Bool.{Bool, true, false, cond, ◌&&◌, and-eq-true_iff}

@@ -1,9 +1,9 @@
 -- Laws of the definitions, one turn of a loop at a time.
---     wave-step, wave-end          the offers of the cells from place i on: those of the cell at i, then those from i + 1 on; none past the last
---     corners-step, corners-end    the same for the test of the corners
---     corner-more                  a corner more
---     clear_first .. clear-end     the places beyond the list, cleared
---     copy_more, copy-all          a list copied into another of its length
+--     wave_step, wave_end          the offers of the cells from place i on: those of the cell at i, then those from i + 1 on; none past the last
+--     corners_step, corners_end    the same for the test of the corners
+--     corner_more                  a corner more
+--     clear_first .. clear_end     the places beyond the list, cleared
+--     copy_more, copy_all          a list copied into another of its length
 -- Assumes nothing.
 use mathlib.Core.Path.{◌≡◌, sym, ap, ap₂, ◌∙◌}
 use mathlib.Core.Bool.{true, false}

@@ -1,6 +1,6 @@
 -- It does not matter in which order a wave's cells are listed: where two lists have the same members, the waves from them are the same.
---     offers-same     the offers of both leave the same cells
---     settles-same    and the waves come to the same
+--     offers_same     the offers of both leave the same cells
+--     settles_same    and the waves come to the same
 -- Assumes nothing.
 use mathlib.Core.Path.{◌≡◌, refl, sym, ap, subst, ◌∙◌}
 use mathlib.Core.Bool.{Bool, true, false}

@@ -1,13 +1,13 @@
 -- One wave of the recursion, and all of them.
---     settles-none     no wave is left
---     settles-empty    a wave from no cell changes none
---     settles-still    a wave that changes no cell is the last
---     settles-more     a wave that changes a cell, and then the waves from those cells
+--     settles_none     no wave is left
+--     settles_empty    a wave from no cell changes none
+--     settles_still    a wave that changes no cell is the last
+--     settles_more     a wave that changes a cell, and then the waves from those cells
 --     settles_on       where no wave is left to run, the count stays
---     settles-all      where none was counted before, the count is of all
---     built-cells      any number of waves from 99 on gives the definition's cells and count
---     waves-leave      so do the waves from the first wave on
---     built-is         and the record with them is the built field
+--     settles_all      where none was counted before, the count is of all
+--     built_cells_law      any number of waves from 99 on gives the definition's cells and count
+--     waves_leave      so do the waves from the first wave on
+--     built_is         and the record with them is the built field
 -- Assumes nothing.
 use mathlib.Core.Path.{◌≡◌, refl, sym, ap, ap₂, subst, ◌∙◌}
 use mathlib.Core.Bool.{false}

@@ -1,14 +1,14 @@
 -- What building by hand answers.
---     all-cells, all-below    the test of the listed corners, as a fact of each
+--     all_cells_law, all_below    the test of the listed corners, as a fact of each
 --     accepted          what is known of a call that is not refused
---     number-costs, number-count, number-corners, number-accepted    the number, case by case
---     answer-least      least walks, of the answer
---     answer-counted    the count, of the answer
---     answer-positions  positions, of the answer
---     answer-promises   all three, of whatever equals the answer
+--     number_costs, number_count, number_corners, number_accepted    the number, case by case
+--     answer_least      least walks, of the answer
+--     answer_counted    the count, of the answer
+--     answer_positions  positions, of the answer
+--     answer_promises   all three, of whatever equals the answer
 --     zero_field_law        the field of a refused answer, part by part
---     build-refused     a refused answer, part by part
---     list-kept         the list of a built field
+--     build_refused     a refused answer, part by part
+--     list_kept         the list of a built field
 -- Assumes nothing.
 use mathlib.Core.Path.{◌≡◌, refl, sym, ap, ◌∙◌}
 use mathlib.Core.Bool.{Bool, true, false, not, cond, ◌||◌, and-eq-true_iff}

@@ -1,7 +1,7 @@
 -- The promises leave no choice.
---     walks-decide    two fields with the least walks of the same cells are equal
---     waves-decide    two counts of the same waves are equal
---     values-decide   whatever are waves of these cells leave what the counted ones leave
+--     walks_decide    two fields with the least walks of the same cells are equal
+--     waves_decide    two counts of the same waves are equal
+--     values_decide   whatever are waves of these cells leave what the counted ones leave
 -- Assumes nothing.
 use mathlib.Core.Path.{◌≡◌, sym, ap, ◌∙◌}
 use mathlib.Core.Logic.{◌⊎◌, inl, inr}

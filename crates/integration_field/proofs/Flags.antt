@@ -1,6 +1,6 @@
 -- A mask of one bit is the flag of that bit, whatever the bit.
---     mask-flag     `x & m == m` with m = 2 ^ k
---     small-flag    a number below 2 ^ k has no bit k
+--     mask_flag     `x & m == m` with m = 2 ^ k
+--     small_flag    a number below 2 ^ k has no bit k
 -- Assumes nothing.
 use mathlib.Core.Path.{◌≡◌, ap, ◌∙◌}
 use mathlib.Core.Bool.{false}

@@ -1,7 +1,7 @@
 -- Building finds the least walks, and counts its waves.
---     least-walks       what is promised of the built cells
---     waves-counted     what is promised of the count
---     rests-within      any number of waves from 99 on is enough
+--     least_walks       what is promised of the built cells
+--     waves_counted     what is promised of the count
+--     rests_within      any number of waves from 99 on is enough
 -- Assumes nothing.
 use mathlib.Core.Path.{◌≡◌, refl, sym, ap, ◌∙◌}
 use mathlib.Core.Bool.{true, false, not, true≢false, and-eq-true_iff}

@@ -1,12 +1,12 @@
 -- Laws of lists in arrays of 100 places.
---     padded-length     100 places
---     padded-list       the list is what stands before its count
---     padded-at         a place of the list
---     padded-beyond     0 at every other place
---     padded-push       a place more, while there is room
---     no-position       no cell has a position before building
---     corners-listed    the corners of a field that is made of them
---     corners-length    a field's corners are as many as its count
+--     padded_length     100 places
+--     padded_list       the list is what stands before its count
+--     padded_at         a place of the list
+--     padded_beyond     0 at every other place
+--     padded_push       a place more, while there is room
+--     no_position       no cell has a position before building
+--     corners_listed    the corners of a field that is made of them
+--     corners_length    a field's corners are as many as its count
 -- Assumes nothing.
 use mathlib.Core.Path.{◌≡◌}
 use mathlib.Core.List.{List, [], ◌∷◌, ◌++◌}

@@ -1,8 +1,8 @@
 -- What offers do to the cells, cell by cell.
 --     Held                    a word after offers: as it was, or a lower one that was offered, without flags
---     offers-made             all that the offers of a wave may do
---     offers-taken            an open cell ends at or below each offer made to it
---     changed-differs, differs-changed    the cells that a wave changed are those whose word differs
+--     offers_made             all that the offers of a wave may do
+--     offers_taken            an open cell ends at or below each offer made to it
+--     changed_differs, differs_changed    the cells that a wave changed are those whose word differs
 -- Assumes nothing.
 use mathlib.Core.Path.{◌≡◌, refl, sym, ap, ◌∙◌}
 use mathlib.Core.Bool.{Bool, true, false, not, cond, ◌&&◌, true≢false}

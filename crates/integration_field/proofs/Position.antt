@@ -1,8 +1,8 @@
 -- Positions are those of the earliest corners (02, "Job 10").
---     walk-on           a walk from one corner is a walk from a list that has it
---     arrives-walk      building from a corner alone comes to a cell's built cost exactly where a walk from that corner does
---     positions-told    what is promised of the positions that the definition gives
---     position-one      a cell has no two positions
+--     walk_on           a walk from one corner is a walk from a list that has it
+--     arrives_walk      building from a corner alone comes to a cell's built cost exactly where a walk from that corner does
+--     positions_told    what is promised of the positions that the definition gives
+--     position_one      a cell has no two positions
 -- Assumes nothing.
 use mathlib.Core.Path.{◌≡◌, refl, sym, ap, ◌∙◌}
 use mathlib.Core.Bool.{Bool, true, false, true≢false, cond, ◌||◌}

@@ -1,5 +1,5 @@
 -- What `init` answers, by its numbers.
---     costs-refused, step-refused, accepts    each way to answer
+--     costs_refused, step_refused, accepts    each way to answer
 --     promised                                with each answer goes what an accepted field is, what it is once built, the arrows made of it, and a refused one
 -- Assumes nothing.
 use mathlib.Core.Path.{◌≡◌}

@@ -1,11 +1,11 @@
 -- Laws of arrays that hold a sight.
---     held-sight       the sight that they hold, with any queue
+--     held_sight       the sight that they hold, with any queue
 --     held_all         and with the queue that they hold
---     applied-sight    what arrays hold when a definition is applied to them
---     applied-ready    they are ready again
---     applied-then     one definition after another
---     applied-still    arrays that are left as they are
---     all-ready        arrays that hold a sight with its queue are ready
+--     applied_sight    what arrays hold when a definition is applied to them
+--     applied_ready    they are ready again
+--     applied_then     one definition after another
+--     applied_still    arrays that are left as they are
+--     all_ready        arrays that hold a sight with its queue are ready
 -- Assumes nothing.
 use mathlib.Core.Path.{◌≡◌, refl, sym, ap, ap₂, subst, ◌∙◌}
 use mathlib.Core.List.{List, []}

@@ -1,7 +1,7 @@
 -- The cells of a corner's line, marked one after another in arrays.
 --     Walking                                            what holds before the line's i-th cell
---     walk-starts, walk-goes, walk-stops, walk_ends      from one cell to the next
---     line-drawn                                         a line as it is drawn, in indexes
+--     walk_starts, walk_goes, walk_stops, walk_ends      from one cell to the next
+--     line_drawn                                         a line as it is drawn, in indexes
 -- Assumes nothing.
 use mathlib.Core.Path.{◌≡◌, refl, sym, ap, ap₂, subst, ◌∙◌}
 use mathlib.Core.Bool.{true, false}

@@ -1,6 +1,6 @@
 -- A cell of a line, marked in arrays.
---     kept-mark    one that is BLOCKED already is left as it is
---     new-mark     any other is marked and listed
+--     kept_mark    one that is BLOCKED already is left as it is
+--     new_mark     any other is marked and listed
 -- Assumes nothing.
 use mathlib.Core.Path.{◌≡◌, refl, ap, ap₂, ◌∙◌}
 use mathlib.Core.Bool.{true, false}

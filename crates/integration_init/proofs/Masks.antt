@@ -1,6 +1,6 @@
 -- One mask of three flags: LOS, GOAL and BLOCKED (bits 16, 17, 18).
---     three-mask    the mask finds something in a word exactly where one of the three is set
---     none-set      of three flags of which none is set, each is false
+--     three_mask    the mask finds something in a word exactly where one of the three is set
+--     none_set      of three flags of which none is set, each is false
 --     one_set       a word with one of them set is left as it is by sight: BLOCKED or GOAL, or in sight and no wall
 -- Assumes nothing.
 use mathlib.Core.Path.{◌≡◌, refl, sym, ap, ◌∙◌}

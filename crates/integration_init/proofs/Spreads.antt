@@ -1,10 +1,10 @@
 -- Sight that comes to one neighbour, in arrays, and the waves that are made of such steps.
---     all-begins              the arrays without their queue
---     wall-held               a wall met
---     seen-room, seen-held    a cell that comes into sight
---     Spreading               what holds in a loop that spreads sight place by place, with spread-on and spread-ends
---     wave-step, wave-end     a wave, from the cell at place i on
---     open-cell               a cell that is no wall is the cell stepped to
+--     all_begins              the arrays without their queue
+--     wall_held               a wall met
+--     seen_room, seen_held    a cell that comes into sight
+--     Spreading               what holds in a loop that spreads sight place by place, with spread_on and spread_ends
+--     wave_step, wave_end     a wave, from the cell at place i on
+--     open_cell               a cell that is no wall is the cell stepped to
 -- Assumes nothing.
 use mathlib.Core.Path.{◌≡◌, refl, sym, ap, ◌∙◌}
 use mathlib.Core.Bool.{Bool, true, false, cond}

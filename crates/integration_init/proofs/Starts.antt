@@ -1,7 +1,7 @@
 -- What sight starts with.
---     wall-step, wall-end            walls, cell by cell
---     portal-step .. portal-put      a window's cells, marked and listed one after another
---     goal-sight .. goal-wavefront   the goal and the first wave
+--     wall_step, wall_end            walls, cell by cell
+--     portal_step .. portal_put      a window's cells, marked and listed one after another
+--     goal_sight .. goal_wavefront   the goal and the first wave
 -- Assumes nothing.
 use mathlib.Core.Path.{◌≡◌, refl, sym, ap, ap₂, ◌∙◌}
 use mathlib.Core.List.{List, [], ◌∷◌, ◌++◌}

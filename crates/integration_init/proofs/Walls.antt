@@ -1,6 +1,6 @@
 -- Where no cell is a wall, sight draws no line and makes no wall: the ends of the goal's lines are lent wherever they are read.
---     lent-towards, lent-around, lent-wave     they stay lent, over one direction, over all four, over a wave
---     ends-met                                at a wall they are there
+--     lent_towards, lent_around, lent_wave     they stay lent, over one direction, over all four, over a wave
+--     ends_met                                at a wall they are there
 -- Assumes nothing.
 use mathlib.Core.Path.{◌≡◌, sym, ◌∙◌}
 use mathlib.Core.Bool.{Bool, true, false, cond, ◌||◌, true≢false}

@@ -1,9 +1,9 @@
 -- Waves of sight, one after another.
---     wave-next                  one wave more
---     held-as, held_same         arrays hold a sight that is theirs, or equal to it
---     held-field                 the record that such arrays are put into
---     held-wavefront             the wave that they hold
---     around-step, around-end    the neighbours of a cell, from the k-th on
+--     wave_next                  one wave more
+--     held_as, held_same         arrays hold a sight that is theirs, or equal to it
+--     held_field                 the record that such arrays are put into
+--     held_wavefront             the wave that they hold
+--     around_step, around_end    the neighbours of a cell, from the k-th on
 -- Assumes nothing.
 use mathlib.Core.Path.{◌≡◌, refl, sym, ap, ap₂, subst, ◌∙◌}
 use mathlib.Core.List.{List}

@@ -1,9 +1,9 @@
 -- How positions are handed on: from a queued cell each neighbour into which a move keeps the built costs exact takes its position, unless it has one.
 -- What holds meanwhile (`Flood`) is kept by each cell that is tried, hence by all neighbours of a cell, hence by a turn of the queue.
---     move-mine     what a move that keeps the built costs exact makes of a walk
---     flood-at      one cell tried: it takes the position, and then `each_cell` and `each_queued` go by "this cell, or another"; or nothing changes
+--     move_mine     what a move that keeps the built costs exact makes of a walk
+--     flood_at      one cell tried: it takes the position, and then `each_cell` and `each_queued` go by "this cell, or another"; or nothing changes
 --     around        the neighbours of a cell tried, one direction after the other
---     gone-more     one cell of the queue gone around from
+--     gone_more     one cell of the queue gone around from
 -- Assumes nothing.
 use mathlib.Core.Path.{◌≡◌, refl, sym, ap, ◌∙◌}
 use mathlib.Core.Logic.{◌⊎◌, inl, inr, ⊎_elim}

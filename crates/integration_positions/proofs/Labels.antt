@@ -1,9 +1,9 @@
 -- Three facts decide the positions: each is that of a corner with a walk arriving at the cell's built cost; they are closed under moves that
 -- keep the built costs exact; and each corner that building left alone has at most its own.
---     walk-least      no corner before a cell's position has a walk arriving at its built cost
---     keeps-all       the positions that are kept are those of the definition
+--     walk_least      no corner before a cell's position has a walk arriving at its built cost
+--     keeps_all       the positions that are kept are those of the definition
 --     paid_for        where building changed a cell, a walk paid its cost
---     no-corners      an empty list of corners gives no cell a position
+--     no_corners      an empty list of corners gives no cell a position
 -- Assumes nothing.
 use mathlib.Core.Path.{◌≡◌, refl, sym, ap, ◌∙◌}
 use mathlib.Core.Bool.{Bool, true, false, true≢false, cond, ◌||◌}

@@ -1,9 +1,9 @@
 -- There is room in the queue for every cell that has no position: as many are queued as have one.
 --     tried                          what becomes of a cell that is tried
---     grown-none .. grown-around     what was queued and placed stays so
---     kept-least                     a cell keeps its position, or the earlier one that it has
---     queued-few, has_room           no more are queued than there are cells
---     room_at, room-to               there is room behind a cell that was tried
+--     grown_none .. grown_around     what was queued and placed stays so
+--     kept_least                     a cell keeps its position, or the earlier one that it has
+--     queued_few, has_room           no more are queued than there are cells
+--     room_at, room_to               there is room behind a cell that was tried
 -- Assumes nothing.
 use mathlib.Core.Path.{◌≡◌, refl, sym, ap, ◌∙◌}
 use mathlib.Core.List.{List, [], ◌∷◌}

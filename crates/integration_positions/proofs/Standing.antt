@@ -1,9 +1,9 @@
 -- The code's arrays: its entries and its queue stand for the positions so far, and the positions are written as the cells of the queue come up.
---     stands-taken, stands-left    one cell tried: it takes the position exactly where its entry is the value
---     stands-none                  before the first corner
---     has-few, has_cells           no more are queued than there are cells, and they are cells
---     has-next, has_more           there is room behind a step, and no fewer are queued
---     written_same, written_next, written-grown, written_all    the positions that are written
+--     stands_taken, stands_left    one cell tried: it takes the position exactly where its entry is the value
+--     stands_none                  before the first corner
+--     has_few, has_cells           no more are queued than there are cells, and they are cells
+--     has_next, has_more           there is room behind a step, and no fewer are queued
+--     written_same, written_next, written_grown, written_all    the positions that are written
 -- Assumes nothing.
 use mathlib.Core.Path.{◌≡◌, refl, sym, ap, ap₂, ◌∙◌}
 use mathlib.Core.List.{List}

@@ -1,7 +1,7 @@
 -- The corners, in list order: one that building left alone takes its own position, unless it has an earlier one, and the position is handed on.
---     gone-none        before the first corner
---     corner-flood    a corner tried, before its position is handed on
---     gone-next        after its position was handed on
+--     gone_none        before the first corner
+--     corner_flood    a corner tried, before its position is handed on
+--     gone_next        after its position was handed on
 --     decided          after the last
 -- Assumes nothing.
 use mathlib.Core.Path.{◌≡◌, refl, sym, ap, ◌∙◌}

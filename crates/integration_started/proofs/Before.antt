@@ -1,9 +1,9 @@
 -- What a cell is before sight: one that was chosen, as the goal or a window cell, or else what its cost says.
 --     unchosen                              a cell that is not chosen
---     chosen-word, wall-word, other_word    its word, by what it is
---     only-wall                             only walls have the flag
+--     chosen_word, wall_word, other_word    its word, by what it is
+--     only_wall                             only walls have the flag
 --     fails                                 a flag that none of the three words has
---     only-chosen                           a flag that neither of the other two has
+--     only_chosen                           a flag that neither of the other two has
 -- Assumes nothing.
 use mathlib.Core.Path.{◌≡◌, refl, sym, ap, ◌∙◌}
 use mathlib.Core.Bool.{Bool, true, false, cond, true≢false}

@@ -1,8 +1,8 @@
 -- The first wave meets three cells: the goal, a neighbour in its row and one in its column. Every later wave meets one more, or queues nothing: so
 -- there are fewer than 100 waves.
 --     three            three different places that pass a test
---     neighbour-met    each neighbour of the goal is met
---     first-meets      so three cells are met
+--     neighbour_met    each neighbour of the goal is met
+--     first_meets      so three cells are met
 -- Assumes nothing.
 use mathlib.Core.Path.{◌≡◌, refl, sym, ◌∙◌, ap, subst}
 use mathlib.Core.Bool.{Bool, true, false, cond, ◌||◌}

@@ -8,10 +8,10 @@
 -- But H is never a wave cell. In the first wave sight from G meets the same wall # and tries the side of f and H. Since f is free, H becomes a corner,
 -- unless it is a wall itself. A corner is BLOCKED, stays so, and is never queued. And the one cell of the first wave is G, which is no such H.
 --     Hides           a cell H, with the directions from H to # and from # to G
---     hides-even      H is an even number of steps from G: the cells that the first wave queues are an odd number away
---     first-keeps     what holds throughout the first wave
+--     hides_even      H is an even number of steps from G: the cells that the first wave queues are an odd number away
+--     first_keeps     what holds throughout the first wave
 --     around          what one of its four directions brings about holds at its end
---     first-blocks    the first wave leaves H BLOCKED
+--     first_blocks    the first wave leaves H BLOCKED
 -- How many cells the first wave meets stands in FirstMet.
 -- Assumes nothing.
 use mathlib.Core.Path.{◌≡◌, refl, sym, ◌∙◌, ap, subst}

@@ -1,9 +1,9 @@
 -- There is always room in the lists of sight.
---     room-corners, room-corner    at most 100 corners, and fewer while a cell is not BLOCKED
---     room-queued, room-queue      at most 100 queued cells, and fewer while a cell is neither LOS nor BLOCKED
---     room-listed, room-seen       a cell that is listed, or seen, keeps room
---     room-begins                  and so does the beginning of a wave
---     walls-stay                   a word that is no wall's, written over one that is none
+--     room_corners, room_corner    at most 100 corners, and fewer while a cell is not BLOCKED
+--     room_queued, room_queue      at most 100 queued cells, and fewer while a cell is neither LOS nor BLOCKED
+--     room_listed, room_seen       a cell that is listed, or seen, keeps room
+--     room_begins                  and so does the beginning of a wave
+--     walls_stay                   a word that is no wall's, written over one that is none
 -- Assumes nothing.
 use mathlib.Core.Path.{◌≡◌, refl, sym, ◌∙◌, ap}
 use mathlib.Core.Bool.{Bool, true, false, ◌||◌, or-true, true≢false}

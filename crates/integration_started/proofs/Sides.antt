@@ -2,7 +2,7 @@
 --     by_side                     what holds of the four sides holds of each
 --     square                      two steps in either order arrive at the same cell
 --     odd                         a step changes the parity of column plus row
---     sideways-away               a step and a step sideways do not come back
+--     sideways_away               a step and a step sideways do not come back
 -- Assumes nothing.
 use mathlib.Core.Path.{◌≡◌, refl, sym, subst}
 use mathlib.Core.Bool.{Bool, true, false, true≢false}

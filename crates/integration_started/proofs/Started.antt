@@ -1,9 +1,9 @@
 -- The started field of costs and a target.
---     started-sizes, any-number    100 places and any falling number of at least 100 give the sight that is defined without either
---     started-field                what it is, for every target inside the sector
---     accepted, accepted-target    what an accepted `init` is given
---     answered, answer-told        the same of what `init` answers
---     init-refused                 a refused answer, part by part
+--     started_sizes, any_number    100 places and any falling number of at least 100 give the sight that is defined without either
+--     started_field                what it is, for every target inside the sector
+--     accepted, accepted_target    what an accepted `init` is given
+--     answered, answer_told        the same of what `init` answers
+--     init_refused_law                 a refused answer, part by part
 -- Assumes nothing.
 use mathlib.Core.Path.{◌≡◌, refl, sym, ◌∙◌, ap}
 use mathlib.Core.Bool.{Bool, true, false, cond, not, true≢false}

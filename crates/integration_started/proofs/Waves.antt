@@ -1,8 +1,8 @@
 -- Sight, wave by wave, over costs and a goal.
 --     ended           an empty queue changes nothing more
---     sight-room      every wave begins with room
+--     sight_room      every wave begins with room
 --     sizes           its lists fit 100 places, and it ends before its 100th wave
---     goal-started    what each cell of a field started with a goal is
+--     goal_started    what each cell of a field started with a goal is
 -- Assumes nothing.
 use mathlib.Core.Path.{◌≡◌, refl, sym, ◌∙◌, ap, subst}
 use mathlib.Core.Bool.{Bool, true, false, true≢false}

@@ -1,8 +1,8 @@
 -- A field started with a goal and without sight, once built, tells the goal's costs and positions.
 -- A walk by hand is a walk from the goal. Conversely each cell into which a walk from the goal leads has a walk by hand of at most 99 moves, which
 -- comes to 99 times 254 at most: so one more move stays below 65535, and the next cell has one too.
---     goal-costs        the costs are the least walks from the goal
---     goal-positions    and every reached cell but the goal has position 0
+--     goal_costs        the costs are the least walks from the goal
+--     goal_positions    and every reached cell but the goal has position 0
 -- Assumes nothing.
 use mathlib.Core.Path.{◌≡◌, refl, sym, ap, ◌∙◌}
 use mathlib.Core.Bool.{true, true≢false, false≢true}

@@ -1,5 +1,5 @@
 -- What a started cell is, as far as walks go.
---     goal-ground, window-ground, corner-ground    of a field started with a goal, with a window, and with a goal without sight
+--     goal_ground, window_ground, corner_ground    of a field started with a goal, with a window, and with a goal without sight
 -- Assumes nothing.
 use mathlib.Core.Path.{◌≡◌}
 use mathlib.Core.Logic.{◌⊎◌, inl, inr, ⊎_elim}

@@ -1,13 +1,13 @@
 -- Demand 3 for every target inside the sector, of the started field as it is defined.
---     accepts-started    the started field is one that `build` takes
---     started-ground     what its cells are, as far as walks go
---     started-walks      its least walks, once built
---     started-positions  its positions, once built
+--     accepts_started    the started field is one that `build` takes
+--     started_ground     what its cells are, as far as walks go
+--     started_walks      its least walks, once built
+--     started_positions  its positions, once built
 --     demand3            the same in demand 3's words, and the exact count
---     goal-told          of a goal without sight: its costs are least walks from the goal, and its positions
+--     goal_told          of a goal without sight: its costs are least walks from the goal, and its positions
 --     built, builds      what `build` answers for it, and the same of that answer
---     builds-started     as it is promised of `build`
---     once-built         as it is promised of `init`
+--     builds_started     as it is promised of `build`
+--     once_built         as it is promised of `init`
 -- Assumes nothing.
 use mathlib.Core.Path.{◌≡◌, refl, subst, ◌∙◌}
 use mathlib.Core.Bool.{true}

@@ -1,5 +1,5 @@
 -- What waves are leaves no choice.
---     waves-decide-values    two runs of waves over the same grid leave the same in every cell, wave after wave
+--     waves_decide_values    two runs of waves over the same grid leave the same in every cell, wave after wave
 -- Assumes nothing.
 use mathlib.Core.Path.{◌≡◌, sym}
 use Prim.Native.Nat.{ℕ, zero, suc, ◌≤◌, ◌<◌}

@@ -1,5 +1,5 @@
 -- The waves end.
---     waves-end       no wave after as many as there are cells: the cells that hold at most what a changed one does grow with each wave
+--     waves_end       no wave after as many as there are cells: the cells that hold at most what a changed one does grow with each wave
 --     few             the count of waves is below the number of cells
 --     rests           running on changes nothing
 --     least           no walk comes to less than what the last wave leaves

@@ -1,8 +1,8 @@
 -- Waves find the least walks.
---     changed-walk    what wave k changes is the sum of a walk of k moves (tight)
---     fallen-walk     what wave k leaves below its value before is the sum of a walk of at most k moves
---     walk-above      no walk of at most k moves comes to less than what wave k leaves
---     walk-into       a walk read under another rule of entering
+--     changed_walk    what wave k changes is the sum of a walk of k moves (tight)
+--     fallen_walk     what wave k leaves below its value before is the sum of a walk of at most k moves
+--     walk_above      no walk of at most k moves comes to less than what wave k leaves
+--     walk_into       a walk read under another rule of entering
 -- Assumes nothing.
 use mathlib.Core.Path.{◌≡◌}
 use mathlib.Core.Logic.{◌⊎◌, inl, inr}

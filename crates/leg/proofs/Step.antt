@@ -1,10 +1,10 @@
 -- One step of a leg, and step after step.
---     made-target              the target that the program makes of a parsed step is the step's, is inside the sector, and is closed where it is
+--     made_target              the target that the program makes of a parsed step is the step's, is inside the sector, and is closed where it is
 --     made_at                  so of a step of a leg, as it is lent out of the leg's bytes
---     built-step               the field that the program builds of it is the step's
---     wrote-step               what writing the step leaves, where its sector's part is lent
+--     built_step               the field that the program builds of it is the step's
+--     wrote_step               what writing the step leaves, where its sector's part is lent
 --     from_first, from_more, from_last    planning step after step: before the first, a step more, and behind the last
---     shut-first, shut-here, shut-more, shut-last    whether a window from a place on is closed: before the first step, at a closed one, behind an
+--     shut_first, shut_here, shut_more, shut_last    whether a window from a place on is closed: before the first step, at a closed one, behind an
 --                              open one, and behind the last
 -- Assumes nothing.
 use mathlib.Core.Path.{◌≡◌, sym, ap, ap₂, subst, ◌∙◌}

@@ -1,9 +1,9 @@
 -- A step's target in a leg.
---     counting-in      the cells of its window that count are cells of the sector, no cell twice, at most 10
---     leg-target-in    so the target of a step that is not refused is inside the sector
---     leg-target-on    and its window cells lie on the edge of the step's boundary
---     made-is          and it is what the program makes of the parsed step
---     closed-listed    in the program: a window is closed exactly if it has no cells
+--     counting_in      the cells of its window that count are cells of the sector, no cell twice, at most 10
+--     leg_target_in    so the target of a step that is not refused is inside the sector
+--     leg_target_on    and its window cells lie on the edge of the step's boundary
+--     made_is          and it is what the program makes of the parsed step
+--     closed_listed    in the program: a window is closed exactly if it has no cells
 -- Assumes nothing.
 use mathlib.Core.Path.{◌≡◌, refl, ap, ◌∙◌}
 use mathlib.Core.Bool.{Bool, true, false, ◌&&◌}

@@ -1,7 +1,7 @@
 -- Windows on which the rule of counting decides (02, "Job 2"), computed: a definition with the rule changed gives something else.
 --     gaps         cells that count need not lie side by side
 --     one_cell     a window of one cell sees straight alone
---     end-cells    the cells beside the window's ends are not compared
+--     end_cells    the cells beside the window's ends are not compared
 -- Assumes nothing.
 use mathlib.Core.Path.{◌≡◌, refl}
 use mathlib.Core.List.{List, [], ◌∷◌}

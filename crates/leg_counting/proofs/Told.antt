@@ -1,9 +1,9 @@
 -- The counting cells of a step that is not refused are those that its bytes, rows and columns say.
---     straight-facing, facing-straight    the cell that faces an edge cell is the one straight across
+--     straight_facing, facing_straight    the cell that faces an edge cell is the one straight across
 --     pairs                               two cells of one edge: what is next to what
 --     told, so                            a window cell counts exactly if a value that it compares is below 65535
---     counting-told                       the list has the cells that count
---     one-straight                        of a window of one cell, straight alone decides
+--     counting_told                       the list has the cells that count
+--     one_straight                        of a window of one cell, straight alone decides
 -- Assumes nothing.
 use mathlib.Core.Path.{◌≡◌, refl, sym, subst, ◌∙◌}
 use mathlib.Core.Bool.{Bool, true, false, true≢false, ◌||◌}

@@ -1,6 +1,6 @@
 -- The step at a place of a leg, with the built cells of the step before.
 --     target_is       what it starts from, with what the step before hands it, is what the leg says
---     handed-on       so its built cells, the leg's, are what it hands on
+--     handed_on       so its built cells, the leg's, are what it hands on
 --     answer_at       and its field, with positions, is that of its sector's costs and its target
 -- Assumes nothing.
 use mathlib.Core.Path.{◌≡◌, refl, sym, ap, ap₂, ◌∙◌}

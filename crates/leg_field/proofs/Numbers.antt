@@ -1,8 +1,8 @@
 -- The number of the field behind a leg, and all that is promised of an answer.
 --     same_rows, same_number    for a place in the list it is the leg's
---     beyond-told               21 comes exactly where the place is beyond the list, and neither 1 nor 3 is due
---     place_in, judged-so       what is known where nothing is refused before a step is planned
---     judged-0, none-closed     and where nothing is refused at all
+--     beyond_told               21 comes exactly where the place is beyond the list, and neither 1 nor 3 is due
+--     place_in, judged_so       what is known where nothing is refused before a step is planned
+--     judged_0, none_closed     and where nothing is refused at all
 --     refuses, accepts          all that is promised of a refused call, and of an accepted one
 -- Assumes nothing.
 use mathlib.Core.Path.{◌≡◌, refl, sym, ap, subst, ◌∙◌}

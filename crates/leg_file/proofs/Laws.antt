@@ -1,8 +1,8 @@
 -- Writer and reader.
---     is-list       1 to 16 steps are a list that is not refused
+--     is_list       1 to 16 steps are a list that is not refused
 --     good, right   a file is taken exactly where mark, version, count and length are right
 --     shape         such a file is the file of its steps
---     read-back     the file of a list is taken, and its steps are the list
+--     read_back     the file of a list is taken, and its steps are the list
 --     written_same  so the writer gives that file for them
 --     part_of       the part is empty exactly where the number is 14
 --     refuses, writes   what the writer promises, by its number

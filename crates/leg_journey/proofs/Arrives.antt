@@ -1,11 +1,11 @@
 -- From every reached cell of a leg's later sector the arrows lead into the goal's sector.
 -- In each sector they lead to a counting cell of its window, in at most 99 moves (demand 3 for the leg, `ArrowsLead.leads`). There one more move
 -- crosses into a reached cell of the sector before (`crossing`), and so on: at most 100 moves a step, and at most 15 steps have a window.
---     window-sector    a later step's sector, with no cost 0, is one that demand 3 speaks of
+--     window_sector    a later step's sector, with no cost 0, is one that demand 3 speaks of
 --     crossed          the arrow of a counting cell, as the sheet has it, crosses into a reached cell of the sector before
 --     followed         from a cell of the sector to the window, across it, and on
---     leg-arrives      the theorem
---     goal-arrives     planned without sight they lead to the goal itself
+--     leg_arrives      the theorem
+--     goal_arrives     planned without sight they lead to the goal itself
 -- Assumes nothing.
 use mathlib.Core.Path.{◌≡◌, refl, sym, ap, subst, ◌∙◌}
 use mathlib.Core.Bool.{Bool, true, false}

@@ -1,8 +1,8 @@
 -- Following over the floor is determined by the sheet's bytes and the place.
---     points-once         an arrow points at one place
---     journey-once        two ways to follow the arrows from a place make as many moves
+--     points_once         an arrow points at one place
+--     journey_once        two ways to follow the arrows from a place make as many moves
 --     moved, followed     the same worked out, move by move
---     journey-followed    so many moves, worked out, end in a reached cell of the goal's sector
+--     journey_followed    so many moves, worked out, end in a reached cell of the goal's sector
 -- Assumes nothing.
 use mathlib.Core.Path.{◌≡◌, refl, sym, ap, ap₂, subst}
 use mathlib.Core.Bool.{Bool}

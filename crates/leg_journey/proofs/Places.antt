@@ -1,8 +1,8 @@
 -- Places on the floor.
---     sector-in, cell_in    a sector's cell, by its place
---     on-floor, landed      a sector's cell lies on the floor, and so does where a move leads
---     whole-place           a place of the floor is that of its own sector and cell
---     arrow-is              the arrow of a place is that of its sector's part of the sheet
+--     sector_in, cell_in    a sector's cell, by its place
+--     on_floor, landed      a sector's cell lies on the floor, and so does where a move leads
+--     whole_place           a place of the floor is that of its own sector and cell
+--     arrow_is              the arrow of a place is that of its sector's part of the sheet
 --     points                an arrow points from a place to another, by its bits
 --     inside                a move inside a sector is one on the floor
 -- Assumes nothing.

@@ -1,8 +1,8 @@
 -- A cart that never stands still comes again to a place where it was, and one that does never stands still.
 -- Its moves lead on for ever; of the places at 6,401 numbers of moves two are the same, since a floor has 6,400.
 --     repeated        of some numbers two are the same, or all differ
---     comes-again     the place, and the moves round
---     round-never     and the other way
+--     comes_again     the place, and the moves round
+--     round_never     and the other way
 -- Assumes nothing.
 use mathlib.Core.Path.{◌≡◌, refl, sym, ap, subst, ◌∙◌}
 use mathlib.Core.Logic.{◌⊎◌, inl, inr}

@@ -1,7 +1,7 @@
 -- All that is promised of a cart's calls.
 --     refuses                  a refused move
 --     moves, stays             a move that leads on, and one that leads nowhere
---     refuses-way, takes-way   a refused way, and an accepted one
+--     refuses_way, takes_way   a refused way, and an accepted one
 -- Assumes nothing.
 use mathlib.Core.Path.{◌≡◌, refl, sym, ap, subst, ◌∙◌}
 use mathlib.Core.List.{List}

@@ -1,8 +1,8 @@
 -- On the sheet of a planned leg a cart's moves are those of its journey (`LegArrives`, `LegArrivesAtGoal`).
---     walk-drives          moves by the sheet, one after the other, are what the calls answer
+--     walk_drives          moves by the sheet, one after the other, are what the calls answer
 --     ended                where a journey ends, and the walk there
---     leg-driven           so many moves come into the goal's sector, and without sight to the goal
---     way-to-goal          and the way from there is answered with arrived, at the goal
+--     leg_driven           so many moves come into the goal's sector, and without sight to the goal
+--     way_to_goal          and the way from there is answered with arrived, at the goal
 -- Assumes nothing.
 use mathlib.Core.Path.{◌≡◌, sym, ap, ap₂, subst, ◌∙◌}
 use mathlib.Core.Bool.{Bool, true, false}

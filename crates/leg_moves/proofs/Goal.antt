@@ -1,6 +1,6 @@
 -- The goal of a leg that is planned without sight: its byte on the sheet reads as goal and has no arrow.
---     goal-in, goal-sector-in     it lies on the floor
---     goal-byte                   the byte of its place on the sheet is 0x70
+--     goal_in, goal_sector_in     it lies on the floor
+--     goal_byte                   the byte of its place on the sheet is 0x70
 -- Assumes nothing.
 use mathlib.Core.Path.{◌≡◌, sym, ap, ◌∙◌}
 use mathlib.Core.Bool.{false}

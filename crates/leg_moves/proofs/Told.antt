@@ -1,8 +1,8 @@
 -- What is promised of a move and of a way: they are told by the relation of moves alone.
---     moved-is, still-is      the answer where a move leads on, and where none does
---     stood-is, never-is      the answer where so many moves come to a stand, and where none do
---     way-number              its number is 0 in both
---     move-told, way-told     the promises
+--     moved_is, still_is      the answer where a move leads on, and where none does
+--     stood_is, never_is      the answer where so many moves come to a stand, and where none do
+--     way_number              its number is 0 in both
+--     move_told, way_told     the promises
 -- Assumes nothing.
 use mathlib.Core.Path.{◌≡◌, refl, sym, ap, subst, ◌∙◌}
 use mathlib.Core.Bool.{Bool, true, false, true≢false, cond}

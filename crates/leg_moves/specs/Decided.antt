@@ -3,8 +3,8 @@
 -- Two moves from a place lead to the same place, so that a way has one end. The places on it are all different, since each has another number of moves left,
 -- and a floor has 6,400: a way that has not ended after 6,400 moves never does.
 --     next          the move from a place, or none
---     stands-once   a way ends after one number of moves alone
---     few-moves     and from a place of the floor after at most 6,399
+--     stands_once   a way ends after one number of moves alone
+--     few_moves     and from a place of the floor after at most 6,399
 --     way           the decision
 -- Assumes nothing.
 use Rattle.std.specs.Prelude.{◌≡◌, refl, Bool, true, false, ◌&&◌, ◌⊎◌, List, ltb, leb}

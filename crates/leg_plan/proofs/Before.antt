@@ -1,7 +1,7 @@
 -- The step before, in a list of steps that is not refused with 9 or 10.
---     first-goal       the first step has a goal
---     later-window     a later step has a window
---     sector-before    and across its boundary lies the sector of the step before
+--     first_goal       the first step has a goal
+--     later_window     a later step has a window
+--     sector_before    and across its boundary lies the sector of the step before
 -- Assumes nothing.
 use mathlib.Core.Path.{◌≡◌, sym, ap}
 use mathlib.Core.Bool.{true, false, true≢false, not, ◌||◌}

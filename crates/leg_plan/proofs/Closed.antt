@@ -1,9 +1,9 @@
 -- Number 15 of a leg is told by the cells that count. Planning goes over the steps in order, and the definition looks for a closed window the same way; both
 -- are said here by a step's place in the list.
---     each-is          a number that is none of a step's is none of a leg's steps
---     never-15         no number that is judged before a step is planned is 15
---     found, so-from   a closed window on the way is one at some place
---     fifteen-told     a leg is refused with 15 exactly if nothing is judged before, and a step's window has no cell that counts
+--     each_is          a number that is none of a step's is none of a leg's steps
+--     never_15         no number that is judged before a step is planned is 15
+--     found, so_from   a closed window on the way is one at some place
+--     fifteen_told     a leg is refused with 15 exactly if nothing is judged before, and a step's window has no cell that counts
 -- Assumes nothing.
 use mathlib.Core.Path.{◌≡◌, refl, sym, ap, ◌∙◌}
 use mathlib.Core.Bool.{Bool, true, false, true≢false, cond, not, ◌&&◌, ◌||◌}

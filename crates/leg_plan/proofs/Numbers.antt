@@ -1,9 +1,9 @@
 -- The number of a leg, down the table.
 --     each_first, each_none    numbers 4 to 8 and 16: a step that is refused decides, else what comes below
---     nine-then-ten            where no step is refused: 9 decides before 10, and 10 before none
+--     nine_then_ten            where no step is refused: 9 decides before 10, and 10 before none
 --     Judged, judged           what is known where nothing is refused before a step is planned
---     judged-first             a number that is judged before then is the leg's
---     closed-15, open-0        else 15 where a window is closed, and 0 where none is
+--     judged_first             a number that is judged before then is the leg's
+--     closed_15, open_0        else 15 where a window is closed, and 0 where none is
 --     ready                    what planning is given
 -- Assumes nothing.
 use mathlib.Core.Path.{◌≡◌, refl, sym, ap, ◌∙◌}

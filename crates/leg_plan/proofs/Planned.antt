@@ -1,9 +1,9 @@
 -- What is promised of a leg, of whatever equals the definitions.
 --     fits             its steps and its sheet fit each other
---     part-hundred     a sector's part of a floor has 100 bytes
+--     part_hundred     a sector's part of a floor has 100 bytes
 --     part_bytes       and they are bytes
---     counting-at      a later step starts from the cells that count
---     leg-planned      each part of the sheet, and demand 3 and arrows clear of walls for every sector that is written
+--     counting_at      a later step starts from the cells that count
+--     leg_planned      each part of the sheet, and demand 3 and arrows clear of walls for every sector that is written
 --     refuses, plans   all that is promised of a number and a sheet
 -- Assumes nothing.
 use mathlib.Core.Path.{◌≡◌, sym, ap, subst, ◌∙◌}

@@ -1,8 +1,8 @@
 -- The sheet of a leg, sector by sector.
---     part_same, part-other    a sheet with other bytes as a sector's part: that part, and every other one
---     from-none                what stands in the place of a previous field before the first step plays no part
---     full-after, kept         the sheet keeps its length, and a sector that no step names its bytes
---     written, built-is        the sector of the step at a place, and its built costs
+--     part_same, part_other    a sheet with other bytes as a sector's part: that part, and every other one
+--     from_none                what stands in the place of a previous field before the first step plays no part
+--     full_after, kept         the sheet keeps its length, and a sector that no step names its bytes
+--     written, built_is        the sector of the step at a place, and its built costs
 -- Assumes nothing.
 use mathlib.Core.Path.{◌≡◌, refl, sym, ap, ◌∙◌}
 use mathlib.Core.Bool.{Bool, true, false}

@@ -1,7 +1,7 @@
 -- Number 16 of a leg and of its step is told by places of the floor.
 --     part_at       a cost of a sector, by its place on the floor
---     floor-told    a step of a leg is refused with 16 exactly if 4 to 8 are not due and its goal or a window cell has cost 255 on the floor
---     leg-told      a leg is refused with 16 exactly if a step is, none before it is refused, and 1, 2 and 3 are not due
+--     floor_told    a step of a leg is refused with 16 exactly if 4 to 8 are not due and its goal or a window cell has cost 255 on the floor
+--     leg_told      a leg is refused with 16 exactly if a step is, none before it is refused, and 1, 2 and 3 are not due
 -- Assumes nothing.
 use mathlib.Core.Path.{◌≡◌, refl, sym, ap, ◌∙◌}
 use mathlib.Core.Bool.{Bool, true, false, cond, not}

@@ -1,7 +1,7 @@
 -- Off the goal's column and row a line ends in the first column whose row leaves 0 to 9, or else in the last (02, "Job 11").
 --     SlantedBy       what `Slanted` says (specs/Away.antt), by the helpers of the definition: the edge, what is behind, what is further
---     slanted-first   the end is so
---     slanted-once    and no other cell is
+--     slanted_first   the end is so
+--     slanted_once    and no other cell is
 -- Assumes nothing.
 use mathlib.Core.Path.{◌≡◌, refl, sym, ap, ◌∙◌}
 use mathlib.Core.Bool.{Bool, true, false}

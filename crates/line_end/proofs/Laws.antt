@@ -1,9 +1,9 @@
 -- Where a corner's line ends, as later layers cite it. None of this leans on which row is the nearest: the columns are tried away from the goal.
---     end-answered    the call never refuses a corner and a goal of the sector: it answers the end
---     end-inside      the end lies in the sector
---     end-away        the end lies at or beyond the corner, away from the goal
---     end-straight    in the goal's column and in its row the end is as `Straight` says
---     misses-goal     no cell between a corner other than the goal and its line's end is the goal
+--     end_answered    the call never refuses a corner and a goal of the sector: it answers the end
+--     end_inside      the end lies in the sector
+--     end_away        the end lies at or beyond the corner, away from the goal
+--     end_straight    in the goal's column and in its row the end is as `Straight` says
+--     misses_goal     no cell between a corner other than the goal and its line's end is the goal
 -- Assumes nothing.
 use mathlib.Core.Path.{◌≡◌, refl}
 use mathlib.Core.Bool.{Bool, true, false}

@@ -1,6 +1,6 @@
 -- Mirrored pairs with unequal column and row end mirrored, left to right and top to bottom: the end goes by distances and by two tests, of which
 -- a mirror keeps the distances and turns one test round.
---     mirrored-ends     both mirrors
+--     mirrored_ends     both mirrors
 -- Assumes nothing.
 use mathlib.Core.Path.{◌≡◌, refl, sym, ap, ◌∙◌}
 use mathlib.Core.Bool.{Bool, true, false, not}

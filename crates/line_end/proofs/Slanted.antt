@@ -1,7 +1,7 @@
 -- Off the goal's column and row the end is as `Slanted` says (specs/Away.antt), and no other cell is. The definition's helpers and the promise's relations
 -- say the same of a column or a row, by whether the corner's lies beyond the goal's; that is shown here once for both, and the rest is `First`'s.
---     end-slanted     the end is as `Slanted` says
---     slanted-only    and no other cell is
+--     end_slanted     the end is as `Slanted` says
+--     slanted_only    and no other cell is
 -- Assumes nothing.
 use mathlib.Core.Path.{◌≡◌, refl}
 use mathlib.Core.Bool.{Bool, true, false}

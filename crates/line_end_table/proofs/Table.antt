@@ -1,5 +1,5 @@
 -- A table that passes one test, which antt computes entry by entry, holds the line end of each pair.
---     every-end     the table
+--     every_end     the table
 --     in_row        and what it holds is read by row and place in the row
 --     read_more     a goal's ends, read corner by corner
 -- Assumes nothing.

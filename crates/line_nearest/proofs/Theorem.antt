@@ -1,11 +1,11 @@
 -- The line of the definition is Bresenham's line, for every two cells.
---     nearest-line     it is a NearestLine
+--     nearest_line     it is a NearestLine
 -- and what later layers cite of it:
 --     line_first       its first cell is s
---     line-some        it has a cell
---     line-room        between two cells of the sector it has ten at most
---     line-spanned     its columns and rows lie between those of its two ends
---     line-inside      between two cells of the sector it stays in the sector
+--     line_some        it has a cell
+--     line_room        between two cells of the sector it has ten at most
+--     line_spanned     its columns and rows lie between those of its two ends
+--     line_inside      between two cells of the sector it stays in the sector
 -- Assumes nothing.
 use mathlib.Core.Path.{◌≡◌, refl}
 use mathlib.Core.Bool.{Bool, true, false, cond}

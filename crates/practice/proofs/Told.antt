@@ -1,8 +1,8 @@
 -- A practice floor, told by any sequence of values.
 --     drawn                      the cost that a value's top byte gives
---     cell-step, cells-end       costs drawn cell by cell
+--     cell_step, cells_end       costs drawn cell by cell
 --     told                       the floor of a seed, by every sequence that keeps to the request's words
---     floor-made                 the same floor, made of an array of values
+--     floor_made                 the same floor, made of an array of values
 -- Assumes nothing.
 use Rattle.std.proofs.Common.{◌≡◌, ℕ, zero, suc, ◌+◌, ◌%◌, ◌<◌, Bool, true, false, cond, ltb, leb, List, [], ◌∷◌, map, length, get_or, take, drop, set, sym, refl, ap, ◌∙◌, add-one, arith, length-drop, length-set, length-take-le, get_or-drop, take_all, get_or-set_other, get_or-take, take-suc, get_or-set_same, take-suc-set, ltb-false, ltb-true, leb-false, leb-true}
 use Rattle.practice.specs.declared.PracticeFloor.{PracticeFloor}

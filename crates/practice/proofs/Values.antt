@@ -1,8 +1,8 @@
 -- The generator's values, place by place.
 --     values_length              the places 0 to n are n + 1
---     next-adds, next-sums       the value behind a list, by its two rules
---     behind-adds, behind-sums   the same of the first places of an array
---     one-place-more             an array filled by one value more
+--     next_adds, next_sums       the value behind a list, by its two rules
+--     behind_adds, behind_sums   the same of the first places of an array
+--     one_place_more             an array filled by one value more
 --     generates, follows         the values keep to the request's words, and no other sequence does
 -- Assumes nothing.
 use Rattle.std.proofs.Common.{◌≡◌, ℕ, zero, suc, ◌+◌, ◌-◌, ◌%◌, ◌<◌, ◌≤◌, Bool, true, false, ltb, leb, List, [], ◌∷◌, length, get_or, take, set, sym, refl, ap, ◌∙◌, ap₂, add-one, arith, length-append, length-take-le, get_or-take, take-suc-set, take_at, ltb-false, ltb-true, le-ltb, lt-ltb, leb-false, leb-true}

@@ -1,9 +1,9 @@
 -- What is known of a step, and of a list of steps, that is not refused.
 --     each_step_law         of 8 bytes, 3 does not come: numbers 4 to 8 alone decide
---     accepted-step     its 8 bytes, its sector and its mark
---     accepted-goal     without a window: its goal is a cell
---     accepted-window   with a window: both cells are cells of the named edge, in order
---     accepted-list     a list: 1 to 16 whole steps
+--     accepted_step     its 8 bytes, its sector and its mark
+--     accepted_goal     without a window: its goal is a cell
+--     accepted_window   with a window: both cells are cells of the named edge, in order
+--     accepted_list     a list: 1 to 16 whole steps
 -- Assumes nothing.
 use mathlib.Core.Path.{◌≡◌, refl}
 use mathlib.Core.Bool.{Bool, true, false, not, cond, ◌&&◌, ◌||◌}

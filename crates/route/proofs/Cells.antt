@@ -1,11 +1,11 @@
 -- The cells of an edge, and those of them that a loop has collected so far.
---     edge-run                  a side's edge is a run of ten cells; edge-length, edge_at and edge-at-most follow
---     stride-within             a stride is 1 to 10
---     by-edge                   what holds of each of the four sides holds of one on whose edge a cell lies
+--     edge_run                  a side's edge is a run of ten cells; edge_length, edge_at and edge_at_most follow
+--     stride_within             a stride is 1 to 10
+--     by_edge                   what holds of each of the four sides holds of one on whose edge a cell lies
 --     cells_in                  whatever its side, its first and its last: a window's cells are cells of the sector, no cell twice, at most 10
 --     listed_at                 a cell by its place in the array
 --     taken, passed             the loop goes on to the next cell
---     collected-all             and has them all in the end
+--     collected_all             and has them all in the end
 -- Assumes nothing.
 use mathlib.Core.Path.{◌≡◌, refl, ap}
 use mathlib.Core.Bool.{Bool, true, false, cond, false≢true}

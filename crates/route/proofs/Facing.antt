@@ -1,9 +1,9 @@
 -- Laws of the cell across a boundary.
---     facing-in       it is a cell
---     facing-north .. the four sides in 01's words: North, same column, row 9; East, column 0, same row; and so on
---     facing-on       it lies on the opposite edge
---     facing-back     and faces back
---     facing-along    along an edge it goes by the same stride
+--     facing_in       it is a cell
+--     facing_north .. the four sides in 01's words: North, same column, row 9; East, column 0, same row; and so on
+--     facing_on       it lies on the opposite edge
+--     facing_back     and faces back
+--     facing_along    along an edge it goes by the same stride
 -- Assumes nothing.
 use mathlib.Core.Path.{◌≡◌, refl, ◌∙◌}
 use mathlib.Core.Bool.{true}

@@ -1,7 +1,7 @@
 -- Those of a list that pass a test.
 --     place, at, rises             where what is selected stands in the list; in the same order
 --     select_in                    cells of the sector, no cell twice, at most 10: so is what is selected of them
---     selected, selected-from      a number is among them exactly if it is in the list and passes
+--     selected, selected_from      a number is among them exactly if it is in the list and passes
 -- Assumes nothing.
 use mathlib.Core.Path.{◌≡◌, refl, sym, ap, ◌∙◌}
 use mathlib.Core.Bool.{Bool, true, false}

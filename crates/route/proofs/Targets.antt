@@ -1,13 +1,13 @@
 -- Laws of targets.
 --     at_place, place_of            a list has an entry, and a place has it
---     target-goal, target-window    a step's target, by its kind
---     named-edge, edge-named        the named edge, by the boundary's byte, is the side's
---     target-in                     that of a step that is not refused lies inside the sector
---     goal-told, window-told        and its cells are those that the step's bytes say by rows and columns
---     held-listed, listed-held      in the program: what a target becomes there stands for that target
---     made-target .. made_held      and what a step's target becomes there
---     listed-sight .. goal-end      with sight or without
---     held_in .. held-inside        what the program holds stands for one inside the sector, cell by cell
+--     target_goal, target_window    a step's target, by its kind
+--     named_edge, edge_named        the named edge, by the boundary's byte, is the side's
+--     target_in                     that of a step that is not refused lies inside the sector
+--     goal_told, window_told        and its cells are those that the step's bytes say by rows and columns
+--     held_listed, listed_held      in the program: what a target becomes there stands for that target
+--     made_target .. made_held      and what a step's target becomes there
+--     listed_sight .. goal_end      with sight or without
+--     held_in .. held_inside        what the program holds stands for one inside the sector, cell by cell
 -- Assumes nothing.
 use mathlib.Core.Path.{◌≡◌, refl, sym, ap, subst, ◌∙◌}
 use mathlib.Core.Bool.{Bool, true, false, cond, true≢false}

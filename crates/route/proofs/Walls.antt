@@ -1,9 +1,9 @@
 -- A step on its sector's costs: number 16, after 3 to 8 (02, "Job 3").
---     number-on                    16 decides where 3 to 8 do not
---     each-step-on                 of 8 bytes, 3 does not come
---     accepted-on, refused-on      a step that is not refused on its costs is not refused with 3 to 8; one that is refused with 3 to 8 keeps its number
---     wall-target                  number 16's condition, by the step's target
---     sixteen-told                 a step is refused with 16 exactly if 3 to 8 are not due and its goal or a window cell, by rows and columns, has cost 255
+--     number_on_law                    16 decides where 3 to 8 do not
+--     each_step_on_law                 of 8 bytes, 3 does not come
+--     accepted_on, refused_on      a step that is not refused on its costs is not refused with 3 to 8; one that is refused with 3 to 8 keeps its number
+--     wall_target                  number 16's condition, by the step's target
+--     sixteen_told                 a step is refused with 16 exactly if 3 to 8 are not due and its goal or a window cell, by rows and columns, has cost 255
 -- Assumes nothing.
 use mathlib.Core.Path.{◌≡◌, refl, sym, ◌∙◌}
 use mathlib.Core.Bool.{Bool, true, false, true≢false, or-false, not, cond, ◌&&◌, ◌||◌}

@@ -1,8 +1,8 @@
 -- The cells of an accepted window: first, first + stride, .. to the last.
---     window-run        a window's cells are a run from the first cell to the last
---     window-count      how many there are, and that there are some
---     window-at         the k-th: first + k * stride, a cell of the named edge, at most the last
---     window-all        and every cell of the edge from the first to the last is one
+--     window_run        a window's cells are a run from the first cell to the last
+--     window_count      how many there are, and that there are some
+--     window_at         the k-th: first + k * stride, a cell of the named edge, at most the last
+--     window_all        and every cell of the edge from the first to the last is one
 -- Assumes nothing.
 use mathlib.Core.Path.{◌≡◌, refl, ap, ap₂, ◌∙◌}
 use mathlib.Core.Bool.{Bool, true, false, not, ◌&&◌, ◌||◌, false≢true, and-eq-true_iff}

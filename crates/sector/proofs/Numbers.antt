@@ -1,8 +1,8 @@
 -- The sector call's number.
 --     accepted           what is known of a call that is not refused
---     last-two           where 1, 2, 3 to 8 and 16 are not due, 17 decides, and then 12
---     seventeen-told     a call is refused with 17 exactly if 1, 2, 3 to 8 and 16 are not due, the mark is 1 and no previous field is lent
---     sixteen-due        and with 16 exactly if 1, 2 and 3 to 8 are not due, and its goal or a window cell has cost 255
+--     last_two           where 1, 2, 3 to 8 and 16 are not due, 17 decides, and then 12
+--     seventeen_told     a call is refused with 17 exactly if 1, 2, 3 to 8 and 16 are not due, the mark is 1 and no previous field is lent
+--     sixteen_due        and with 16 exactly if 1, 2 and 3 to 8 are not due, and its goal or a window cell has cost 255
 --     either_first       17 and 12 are never both due: the one or the other may stand first
 -- Assumes nothing.
 use mathlib.Core.Path.{◌≡◌, refl}

@@ -1,13 +1,13 @@
 -- What is promised of a sector's run, and of the sector call.
---     bytes-hundred      100 bytes are written
+--     bytes_hundred      100 bytes are written
 --     none_read          without a previous field, what is lent in its place plays no part
 --     written            what is written of a built field
---     run-bytes          the bytes that a run leaves, by its cells
+--     run_bytes          the bytes that a run leaves, by its cells
 --     runs               what the run's three parts leave
---     sector-planned     demand 3, and arrows clear of walls, of the definitions
+--     sector_planned     demand 3, and arrows clear of walls, of the definitions
 --     refuses, accepts   all that is promised of a refused call, and of an accepted one by its run
---     planned-without    what is promised besides of a sector planned without sight, of the definitions
---     told-without       and of the call
+--     planned_without    what is promised besides of a sector planned without sight, of the definitions
+--     told_without       and of the call
 --     window_same        which plans a step with a window as it is with sight
 -- Assumes nothing.
 use mathlib.Core.Path.{◌≡◌, refl, sym, ap, ◌∙◌}

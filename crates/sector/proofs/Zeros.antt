@@ -1,6 +1,6 @@
 -- A previous field of zeros gives the bytes that no previous field gives: each window cell points straight across (02, "Job 8").
 --     straight           the bits of a window cell
---     zeros-straight     the bytes of a sector
+--     zeros_straight     the bytes of a sector
 -- Assumes nothing.
 use mathlib.Core.Path.{◌≡◌, refl}
 use mathlib.Core.Bool.{Bool, true, false, cond}

@@ -1,7 +1,7 @@
 -- What is printed for an input, from what the sector call answers.
---     printed-short      an input of fewer than 100 bytes
---     printed-answer     the text of what the sector call answers for the parts of an input
---     printed-window     a step with a window, where no earlier number is due, prints `no 17` (02, "Job 8")
+--     printed_short      an input of fewer than 100 bytes
+--     printed_answer     the text of what the sector call answers for the parts of an input
+--     printed_window     a step with a window, where no earlier number is due, prints `no 17` (02, "Job 8")
 -- Assumes nothing.
 use mathlib.Core.Path.{◌≡◌, refl}
 use mathlib.Core.Bool.{Bool, true, false, cond}

@@ -1,7 +1,7 @@
 -- Laws of the sector across a boundary.
 --     nowhere                  Zero leads off the floor
---     summed-in, summed-out    a step worked out by its two sums
---     across-sector            where a step arrives: at the two sums, on the floor
+--     summed_in, summed_out    a step worked out by its two sums
+--     across_sector            where a step arrives: at the two sums, on the floor
 -- Assumes nothing.
 use mathlib.Core.Path.{◌≡◌, refl, sym}
 use mathlib.Core.Bool.{Bool, true, false, ◌&&◌, and-eq-true_iff}

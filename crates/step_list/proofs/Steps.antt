@@ -1,8 +1,8 @@
 -- The steps of a list of bytes, from a place on.
---     steps-count, step-of                how many there are, and each by its place
---     from_start, from-here, from-done    all of them; one, and the rest; none
---     lent-step, behind                   a step, and the steps behind it, by the bytes as they are lent
---     sector-at, mark-at, boundary-at     a byte of a step, by its place in the list; `before_at` the sector of the step before
+--     steps_count, step_of_law                how many there are, and each by its place
+--     from_start, from_here, from_done    all of them; one, and the rest; none
+--     lent_step, behind                   a step, and the steps behind it, by the bytes as they are lent
+--     sector_at_law, mark_at, boundary_at     a byte of a step, by its place in the list; `before_at` the sector of the step before
 -- Assumes nothing.
 use mathlib.Core.Path.{◌≡◌, refl, sym, ap, ◌∙◌}
 use mathlib.Core.Bool.{Bool, true, false, true≢false, ◌||◌}

@@ -1,5 +1,5 @@
 -- The least figure, by the windows from one on.
---     figure-starts, figure-goes    from the second window on, and one window further
+--     figure_starts, figure_goes    from the second window on, and one window further
 -- Assumes nothing.
 use mathlib.Core.Path.{◌≡◌, refl}
 use mathlib.Core.List.{List}

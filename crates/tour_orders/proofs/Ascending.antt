@@ -1,7 +1,7 @@
 -- The orders of numbers that rise stand strictly in dictionary order.
 --     number_at         the numbers from a on, by place
---     numbers-rise      they rise
---     without-rises     and so do rising numbers without one of them
+--     numbers_rise      they rise
+--     without_rises     and so do rising numbers without one of them
 --     ascends           an order at an earlier place is earlier in the dictionary
 -- Assumes nothing.
 use mathlib.Core.Path.{◌≡◌, refl, ap}

@@ -1,8 +1,8 @@
 -- The orders of the numbers left, by the first number and the place of what follows among the orders of the others.
---     orders-length    k numbers stand in factorial k orders
+--     orders_length    k numbers stand in factorial k orders
 --     unranked         the order at a place, by quotient and remainder
 --     placed           the order at a place: its first number, and the rest, an order of the others
---     same-occurrences    in an order of the numbers left each of them stands as often as among them
+--     same_occurrences    in an order of the numbers left each of them stands as often as among them
 --     complete         every such list is an order of them
 -- Assumes nothing.
 use mathlib.Core.Path.{◌≡◌, refl, sym, ap, ◌∙◌}

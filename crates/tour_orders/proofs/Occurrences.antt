@@ -1,7 +1,7 @@
 -- How often a number stands in a list.
 --     here, other      in a list with one more in front
 --     stands           a number that stands in a list stands at some place
---     occurrences-without    a list without what stands at a place
+--     occurrences_without    a list without what stands at a place
 --     occurrences-numbers    each of the numbers from a on stands once, and no other
 -- Assumes nothing.
 use mathlib.Core.Path.{◌≡◌, refl, sym, ap, ◌∙◌}

@@ -1,7 +1,7 @@
 -- The orders of n windows are all lists that hold each window number once, 0 first, and no other; strictly in dictionary order.
 --     others-told     the windows but the first: each number from 1 on below n once
---     all-orders      the theorem
---     order-long, order-inside   an order's length, and its numbers
+--     all_orders      the theorem
+--     order_long, order_inside   an order's length, and its numbers
 -- Assumes nothing.
 use mathlib.Core.Path.{◌≡◌, refl, ap, ◌∙◌}
 use mathlib.Core.List.{List, [], ◌∷◌, head-eq_of_cons-eq}

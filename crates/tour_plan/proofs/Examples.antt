@@ -1,6 +1,6 @@
 -- A small floor on which the call for a tour decides (02, "Job 14"), computed: a definition with one rule changed gives something else.
---     corridor-tours    the better of two orders; the first alone; none tried; and none that counts
---     refused-tour      all parts zero
+--     corridor_tours    the better of two orders; the first alone; none tried; and none that counts
+--     refused_tour_law      all parts zero
 -- Assumes nothing.
 use mathlib.Core.Path.{◌≡◌, refl}
 use mathlib.Core.Bool.{true, false}

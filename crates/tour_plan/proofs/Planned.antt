@@ -1,6 +1,6 @@
 -- What is promised of the call for a tour, by its number, its square and its tour.
---     square-small      no entry of the square is above 65535
---     tour-square       so that it is one that a tour goes over
+--     square_small      no entry of the square is above 65535
+--     tour_square       so that it is one that a tour goes over
 --     refuses, accepts  all that is promised of a refused call, and of an accepted one
 -- Assumes nothing.
 use mathlib.Core.Path.{◌≡◌, refl, sym, ap, subst, ◌∙◌}

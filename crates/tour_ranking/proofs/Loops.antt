@@ -1,8 +1,8 @@
 -- Laws of this crate's loops.
---     factorial-more, factorial-few    the product with one number more, and that it stays small
---     counted-more                     the first order, with one number more
---     rise-found, rise-earlier         the last rise is at a place where a search from behind meets one, else before it
---     above-found, above_earlier       the same of the last number above one
+--     factorial_more, factorial_few    the product with one number more, and that it stays small
+--     counted_more                     the first order, with one number more
+--     rise_found, rise_earlier         the last rise is at a place where a search from behind meets one, else before it
+--     above_found, above_earlier       the same of the last number above one
 -- Assumes nothing.
 use mathlib.Core.Path.{◌≡◌, ◌∙◌}
 use mathlib.Core.List.{List}

@@ -1,6 +1,6 @@
 -- The orders of windows, made in an array.
---     next-made          the two places found in an order's array, exchanged, and the numbers behind reversed: the next order
---     first-order-is     the window numbers at their own places: the first order
+--     next_made          the two places found in an order's array, exchanged, and the numbers behind reversed: the next order
+--     first_order_is     the window numbers at their own places: the first order
 -- Assumes nothing.
 use mathlib.Core.Path.{◌≡◌, refl, sym, ap, subst, ◌∙◌}
 use mathlib.Core.List.{List, [], ◌∷◌}

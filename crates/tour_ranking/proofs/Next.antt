@@ -1,8 +1,8 @@
 -- The next order of the dictionary, by the order before it.
---     first-is, last-is   the first order of numbers is themselves, the last is them backwards
+--     first_is, last_is   the first order of numbers is themselves, the last is them backwards
 --     changes             from an order to the next: a front stays, and the number behind it gives way to the next of those left, which stand
 --                         backwards behind it before, and as they rise then
---     order-changes       the same of the orders of windows, in which 0 stays
+--     order_changes       the same of the orders of windows, in which 0 stays
 -- Assumes nothing.
 use mathlib.Core.Path.{◌≡◌, refl, ap, ◌∙◌}
 use mathlib.Core.List.{List, [], ◌∷◌, ◌++◌}

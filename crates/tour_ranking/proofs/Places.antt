@@ -1,8 +1,8 @@
 -- An order and the next, place by place, in arrays.
---     padded-at             an order in an array reads as the order
---     last-rise, last-above the places of the number that gives way, and of the one that it gives way to
---     next-is               these two exchanged, and the numbers behind reversed: the next order
---     front-stays           the places before these two are as they were
+--     padded_at             an order in an array reads as the order
+--     last_rise, last_above the places of the number that gives way, and of the one that it gives way to
+--     next_is               these two exchanged, and the numbers behind reversed: the next order
+--     front_stays           the places before these two are as they were
 -- Assumes nothing.
 use mathlib.Core.Path.{◌≡◌, refl, sym, ap, ◌∙◌}
 use mathlib.Core.List.{List, [], ◌∷◌, ◌++◌, append_assoc}

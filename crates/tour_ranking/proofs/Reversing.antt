@@ -1,7 +1,7 @@
 -- Two numbers of an array exchanged, and numbers reversed from both ends by exchanging them.
---     exchanged-first, -second, -other                what stands where after two numbers are exchanged
---     ends-start, ends_more                           the two ends, as they go towards each other
---     reversed-start, reversed-more, reversed-all     the numbers outside them are reversed: none at first, one more on each side, all
+--     exchanged_first, -second, -other                what stands where after two numbers are exchanged
+--     ends_start, ends_more                           the two ends, as they go towards each other
+--     reversed_start, reversed_more, reversed_all     the numbers outside them are reversed: none at first, one more on each side, all
 -- Assumes nothing.
 use mathlib.Core.Path.{◌≡◌, refl, ◌∙◌}
 use mathlib.Core.List.{List}

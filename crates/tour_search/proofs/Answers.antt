@@ -1,5 +1,5 @@
 -- What this crate's functions answer.
---     tried-taken, tried-kept     one order more is tried, and is lower than all before or not
+--     tried_taken, tried_kept     one order more is tried, and is lower than all before or not
 --     held_same                   the best so far, by its parts
 --     answered      the answer is the definition's, made of the number tried, the best order tried and the least figure
 --     promised      and so everything promised of the definition is promised of it

@@ -1,8 +1,8 @@
 -- Laws of this crate's loops.
---     weighed-more, weighed-small, weighed-same     the weight of an order, place by place
---     weighed-counts, weighed-dear                  it is the order's sum where it counts, else more than that of any that counts
---     sums-start, sums-more, sums-front             the sums that are kept, place by place, and for the next order
---     order-numbers                                 the numbers of an order in an array
+--     weighed_more, weighed_small, weighed_same     the weight of an order, place by place
+--     weighed_counts, weighed_dear                  it is the order's sum where it counts, else more than that of any that counts
+--     sums_start, sums_more, sums_front             the sums that are kept, place by place, and for the next order
+--     order_numbers                                 the numbers of an order in an array
 -- Assumes nothing.
 use mathlib.Core.Path.{◌≡◌, refl, sym, ap, ◌∙◌}
 use mathlib.Core.Bool.{Bool, true, false, not, and-eq-true_iff}

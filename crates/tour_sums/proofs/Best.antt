@@ -1,7 +1,7 @@
 -- The best of the first orders of a list.
---     passed_over, first_found, not_lower, lower-taken   an order beside the best so far
---     best-more      one order more is tried
---     best-first     among the first m orders: none counts, or the best stands at a place
+--     passed_over, first_found, not_lower, lower_taken   an order beside the best so far
+--     best_more      one order more is tried
+--     best_first     among the first m orders: none counts, or the best stands at a place
 -- Assumes nothing.
 use mathlib.Core.Path.{◌≡◌, refl, sym, ap, ◌∙◌}
 use mathlib.Core.Bool.{Bool, true, false, cond}

@@ -1,6 +1,6 @@
 -- Which orders count, told by places.
---     counts-told     an order that counts has no move of 65535
---     told-counts     and one that has none counts
+--     counts_told     an order that counts has no move of 65535
+--     told_counts     and one that has none counts
 -- Assumes nothing.
 use mathlib.Core.Path.{◌≡◌, refl}
 use mathlib.Core.Bool.{true, false, not, and-eq-true_iff}

@@ -1,8 +1,8 @@
 -- The least figure.
---     entry-small      no cheapest entry is above 65535
---     cheapest-entry   the cheapest entry into a window from another is at most each, and one of them
+--     entry_small      no cheapest entry is above 65535
+--     cheapest_entry_law   the cheapest entry into a window from another is at most each, and one of them
 --     summed_same      a sum over windows does not depend on their order
---     sum-under        moves between different windows cost no less than the cheapest entry into each
+--     sum_under        moves between different windows cost no less than the cheapest entry into each
 --     under            so no order's sum goes under the least figure
 -- Assumes nothing.
 use mathlib.Core.Path.{◌≡◌, refl, sym, ap, ◌∙◌}

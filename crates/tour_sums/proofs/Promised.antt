@@ -1,7 +1,7 @@
 -- What is promised of a tour of windows, of its definition.
---     tried-is        the number tried is the limit or factorial n - 1, the smaller
---     best-answer     the best order tried, or no order; and the best there is, if all were tried
---     least-answer    the least figure is the sum of the cheapest entries, and no order's sum goes under it
+--     tried_is        the number tried is the limit or factorial n - 1, the smaller
+--     best_answer     the best order tried, or no order; and the best there is, if all were tried
+--     least_answer    the least figure is the sum of the cheapest entries, and no order's sum goes under it
 -- Assumes nothing.
 use mathlib.Core.Path.{◌≡◌, refl, sym, ap, ◌∙◌}
 use mathlib.Core.Bool.{true, false}

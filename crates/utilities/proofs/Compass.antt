@@ -1,8 +1,8 @@
 -- Laws of directions.
 --     small                   a direction moves by one at most in each coordinate, and by one in some unless it is Zero
---     opposite-differences    the opposite direction's differences are as far, the other way
---     opposite-points         and it is a direction where the other is one
---     numbers-in-order        the numbers of the directions, by computation
+--     opposite_differences    the opposite direction's differences are as far, the other way
+--     opposite_points         and it is a direction where the other is one
+--     numbers_in_order        the numbers of the directions, by computation
 -- Assumes nothing.
 use mathlib.Core.Path.{◌≡◌, refl}
 use mathlib.Core.List.{[], ◌∷◌, ◌++◌, map}

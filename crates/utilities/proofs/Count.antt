@@ -1,9 +1,9 @@
 -- Counting: how many entries of a list pass a test, and how long a list without repeats can be.
 --     count_set      what setting a place does to the count
 --     count_room     a list with an entry that fails the test has fewer that pass than places
---     once-room      distinct places that all pass are no more than the count
+--     once_room      distinct places that all pass are no more than the count
 --     each_more      what holds of each entry of a list, and of one more
---     each-one       what holds of an entry alone
+--     each_one       what holds of an entry alone
 --     once_more      a list without repeats, and one more entry that it does not have
 --     at_set         an entry after a place was set
 -- Assumes nothing.

@@ -1,8 +1,8 @@
 -- Tables: a rule's value for each number below n.
 --     below_length, below_at    the numbers themselves
---     table-length, table_at    a rule's values
+--     table_length, table_at    a rule's values
 --     table_same, table_of      tables of values that agree, and of a list's own entries
---     filled_more, filled-all   an array that is filled from the first place on
+--     filled_more, filled_all   an array that is filled from the first place on
 -- Assumes nothing.
 use mathlib.Core.Path.{◌≡◌, refl, sym, ap, ◌∙◌}
 use mathlib.Core.List.{List, [], ◌∷◌, ◌++◌, map, map-append}

@@ -1,8 +1,8 @@
 -- Laws of lists in arrays.
---     padded-push      the next place is written: the list has one more
---     padded-length    an array of n places
---     all-zero         an array of zeros, place by place
---     padded-beyond    the places beyond a list hold the zero
+--     padded_push      the next place is written: the list has one more
+--     padded_length    an array of n places
+--     all_zero         an array of zeros, place by place
+--     padded_beyond    the places beyond a list hold the zero
 -- Assumes nothing.
 use mathlib.Core.Path.{◌≡◌, refl, sym, ◌∙◌}
 use mathlib.Core.List.{List, [], ◌∷◌, ◌++◌, append_assoc}

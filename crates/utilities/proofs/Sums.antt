@@ -1,14 +1,14 @@
 -- Sums of a number and a difference.
---     sum_told, sum-made           a sum in ℤ, told by what the difference adds and takes away
---     within-true, true-within     what the test of a sum says
---     both-in, low-out, high-out   and what its two halves make of it
+--     sum_told, sum_made           a sum in ℤ, told by what the difference adds and takes away
+--     within_true, true_within     what the test of a sum says
+--     both_in, low_out, high_out   and what its two halves make of it
 --     back                         the difference turned round takes the sum back
---     ten-rises, ten-falls         ten times a difference
---     single-read, rises-read      what is read back from a difference's 64 bits
+--     ten_rises, ten_falls         ten times a difference
+--     single_read, rises_read      what is read back from a difference's 64 bits
 --     Made, added, tenfold         a number that the machine makes of others, and what is read back from its bits
---     cast-back                    and casts to one that has no sign
+--     cast_back                    and casts to one that has no sign
 --     sum                          the sum of a number and a difference
---     still-true, still_false      what the test of a difference says, of its bits
+--     still_true, still_false      what the test of a difference says, of its bits
 -- Assumes nothing.
 use mathlib.Core.Path.{◌≡◌, refl, sym, subst, ap, ◌∙◌}
 use mathlib.Core.Bool.{Bool, true, false, ◌&&◌, and-eq-true_iff, false≢true}

@@ -1,7 +1,7 @@
 -- A square filled column by column, and its rows in their records.
---     column-unused, column-used    a column, by the field that is built for its window
+--     column_unused, column_used    a column, by the field that is built for its window
 --     turned                        what stands at one place of each column is a row of the square
---     rows-held, rows_back          a square's rows in their records, and back
+--     rows_held, rows_back          a square's rows in their records, and back
 -- Assumes nothing.
 use mathlib.Core.Path.{◌≡◌, refl, sym, ap, ◌∙◌}
 use mathlib.Core.Bool.{Bool, true, false, cond, ◌&&◌}

@@ -1,8 +1,8 @@
 -- Small floors on which the call for window costs decides (02, "Job 13"), computed: a definition with one rule changed gives something else.
 --     numbers          the order of the numbers, and each condition of 3, 19 and 20
---     corridor-square  row and place, the least of two cells, and unused places
+--     corridor_square  row and place, the least of two cells, and unused places
 --     cut_off          unreached windows, and windows that share a cell
---     refused-square   0 throughout
+--     refused_square   0 throughout
 -- Assumes nothing.
 use mathlib.Core.Path.{◌≡◌, refl}
 use mathlib.Core.List.{List, [], ◌∷◌, ◌++◌}

@@ -1,7 +1,7 @@
 -- The least built cost of the cells of a list.
---     least-small    it is never above 65535
---     least-most     it is at most each of theirs
---     least-met      and one of them, where there is a cell
+--     least_small    it is never above 65535
+--     least_most     it is at most each of theirs
+--     least_met      and one of them, where there is a cell
 -- Assumes nothing.
 use mathlib.Core.Path.{◌≡◌, refl}
 use mathlib.Core.Logic.{◌⊎◌, inl, inr}

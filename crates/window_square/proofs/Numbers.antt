@@ -1,6 +1,6 @@
 -- The number of the call for window costs, down the table.
---     step-number     of a step: 20 decides where 4 to 8 and 16 do not
---     accepted-among  a step that is not refused among the windows of a sector
+--     step_number_law     of a step: 20 decides where 4 to 8 and 16 do not
+--     accepted_among  a step that is not refused among the windows of a sector
 --     ready           what an accepted call is given
 -- Assumes nothing.
 use mathlib.Core.Path.{◌≡◌, refl, sym, ap, ◌∙◌}

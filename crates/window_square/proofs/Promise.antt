@@ -1,7 +1,7 @@
 -- What is promised of a square of window costs.
---     least-cost       from one window to another: the least walk
+--     least_cost       from one window to another: the least walk
 --     entry_at         the square's entry at row i, place j
---     square-told      all that is promised of the square
+--     square_told      all that is promised of the square
 -- Assumes nothing.
 use mathlib.Core.Path.{◌≡◌, refl, ap, subst, ◌∙◌}
 use mathlib.Core.Bool.{Bool, true, false, cond, ◌&&◌}

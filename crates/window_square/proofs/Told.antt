@@ -1,8 +1,8 @@
 -- Numbers 19 and 20 of the call for window costs are told by bytes, and by each step's mark and sector.
---     among, among-back    a step is not refused among the windows of a sector exactly if it is `AmongWindows`
---     twenty-step          and is refused with 20 exactly if 4 to 8 and 16 are not due, and it has no window or another sector
---     nineteen-told        19, of the call
---     twenty-told          20, of the call
+--     among, among_back    a step is not refused among the windows of a sector exactly if it is `AmongWindows`
+--     twenty_step          and is refused with 20 exactly if 4 to 8 and 16 are not due, and it has no window or another sector
+--     nineteen_told        19, of the call
+--     twenty_told          20, of the call
 -- Assumes nothing.
 use mathlib.Core.Path.{◌≡◌, refl, sym, ap, ◌∙◌}
 use mathlib.Core.Bool.{Bool, true, false, cond, not, ◌||◌}

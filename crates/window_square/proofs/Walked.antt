@@ -1,6 +1,6 @@
 -- The walks of demand 3 from a window alone: where one ends, the cell is reached; and a reached cell has one that comes to its built cost.
---     walked-reached    beside a reached cell every cell but a wall is reached, so that a walk's end is
---     reached-walked    the least walk into a reached cell comes to what it holds
+--     walked_reached    beside a reached cell every cell but a wall is reached, so that a walk's end is
+--     reached_walked    the least walk into a reached cell comes to what it holds
 -- Assumes nothing.
 use mathlib.Core.Path.{◌≡◌, sym, ap, ◌∙◌}
 use mathlib.Core.Bool.{false, true≢false}

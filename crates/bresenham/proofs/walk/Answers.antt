@@ -1,4 +1,4 @@
--- The invariant of `walk`: the indexes of the first k steps' cells are written, and the offset and the difference are those of step k.
+-- `bresenham::walk` meets its contract: a step writes one cell more, and after the last of them the cells of the walk are written.
 -- The difference grows by less than 20 at each of at most ten steps, so that no sum wraps.
 -- Assumes nothing.
 use Rattle.std.proofs.Common.{◌≡◌, ℕ, ◌+◌, ◌-◌, ◌<◌, ◌≤◌, Bool, List, sym, ap, ◌∙◌, arith}

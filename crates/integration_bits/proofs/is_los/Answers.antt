@@ -1,4 +1,5 @@
 -- `integration_bits::is_los` meets its contract: a mask of one bit is a flag, whatever the bit (`integration_field/proofs/Flags.antt`).
+-- Assumes nothing.
 use Rattle.integration_field.proofs.Flags.{mask_flag}
 use Rattle.integration_bits.proofs.is_los.Goals as goal
 

@@ -1,4 +1,5 @@
 -- `integration_build::propagate_integrated_wavefront` meets its contract: no wave is left, or none changes a cell, or one does and the others go on.
+-- Assumes nothing.
 use Prim.Native.Nat.{◌+◌}
 use native.Mathlib.Omega.{arith}
 use Rattle.integration_build.proofs.Recursion.{settles_none, settles_empty, settles_still, settles_more, settles_on}

@@ -1,4 +1,5 @@
 -- `integration_build::build` meets its contract. Each return is a line of the table.
+-- Assumes nothing.
 use mathlib.Core.Path.{sym, ◌∙◌}
 use native.Mathlib.Omega.{arith}
 use borrow.Author.Rules.{rules}

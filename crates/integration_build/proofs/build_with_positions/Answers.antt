@@ -1,4 +1,5 @@
 -- `integration_build::build_with_positions` meets its contract: the waves run as they do without positions, and positions are sought in what they leave.
+-- Assumes nothing.
 use mathlib.Core.Path.{◌≡◌, refl, ap, ap₂, ◌∙◌}
 use Prim.Native.Nat.{ℕ}
 use lib.ListN.{length}

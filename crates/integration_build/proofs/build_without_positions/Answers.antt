@@ -1,4 +1,5 @@
 -- `integration_build::build_without_positions` meets its contract: the places beyond the list are cleared, and the waves from the list run.
+-- Assumes nothing.
 use mathlib.Core.Path.{◌≡◌, refl}
 use borrow.Author.Rules.{rules}
 use lib.ListN.{length}

@@ -1,4 +1,5 @@
--- The loop's invariant: the first i places are those of the list with 0 beyond it.
+-- `integration_build::clear_beyond`, the loop's invariant: the first i places are those of the list with 0 beyond it.
+-- Assumes nothing.
 use mathlib.Core.Path.{◌≡◌}
 use Prim.Native.Nat.{◌-◌, ◌≤◌}
 use lib.ListN.{length, take}

@@ -1,4 +1,5 @@
--- The loop's invariant: the places hold the first i corners.
+-- `integration_build::corner_wave`, the loop's invariant: the places hold the first i corners.
+-- Assumes nothing.
 use mathlib.Core.Path.{◌≡◌}
 use Prim.Native.Nat.{◌-◌, ◌≤◌}
 use lib.ListN.{take}

@@ -1,4 +1,5 @@
 -- `integration_build::corners_inside` meets its contract: a corner outside ends the loop, and one inside leaves the others to decide.
+-- Assumes nothing.
 use mathlib.Core.Path.{sym, ap, ◌∙◌, ◌≡◌}
 use Prim.Native.Nat.{ℕ, ◌≤◌}
 use native.Mathlib.Omega.{arith}

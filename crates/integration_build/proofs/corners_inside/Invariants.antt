@@ -1,4 +1,5 @@
--- The loop's invariant: the corners that are left decide.
+-- `integration_build::corners_inside`, the loop's invariant: the corners that are left decide.
+-- Assumes nothing.
 use mathlib.Core.Path.{◌≡◌}
 use Prim.Native.Nat.{◌-◌, ◌≤◌}
 use lib.ListN.{take}

@@ -1,4 +1,5 @@
--- The loop's invariant: the costs before place i are held.
+-- `integration_build::held_costs`, the loop's invariant: the costs before place i are held.
+-- Assumes nothing.
 use mathlib.Core.Path.{◌≡◌}
 use Prim.Native.Nat.{◌-◌, ◌≤◌}
 use lib.ListN.{length, take}

@@ -1,4 +1,5 @@
 -- `integration_build::offer_around` meets its contract. Four offers, in the definition's order.
+-- Assumes nothing.
 use mathlib.Core.Path.{ap, ◌∙◌}
 use mathlib.Core.List.{List}
 use Prim.Native.Nat.{ℕ}

@@ -1,4 +1,5 @@
 -- `integration_build::offer_wave` meets its contract: a turn makes the offers of one cell, and after the last none are left.
+-- Assumes nothing.
 use mathlib.Core.Path.{◌≡◌, sym, ◌∙◌}
 use Prim.Native.Nat.{◌≤◌}
 use native.Mathlib.Omega.{arith}

@@ -1,4 +1,5 @@
--- The loop's invariant: the offers that are left give the same cells, and the cells that changed so far are listed.
+-- `integration_build::offer_wave`, the loop's invariant: the offers that are left give the same cells, and the cells that changed so far are listed.
+-- Assumes nothing.
 use mathlib.Core.Path.{◌≡◌}
 use mathlib.Core.List.{List}
 use Prim.Native.Nat.{ℕ, ◌-◌, ◌≤◌}

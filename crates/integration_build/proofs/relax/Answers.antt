@@ -1,4 +1,5 @@
 -- `integration_build::relax` meets its contract. What it writes where the definition does not is the cell's own value.
+-- Assumes nothing.
 use mathlib.Core.Path.{sym, ◌∙◌}
 use native.Mathlib.Omega.{arith}
 use lib.Seq.{set-get_or}

@@ -1,5 +1,6 @@
 -- `integration_positions::corner_positions` meets its contract: without corners no cell has a position; else three facts decide the positions, and
 -- what is kept of them is the definition's.
+-- Assumes nothing.
 use mathlib.Core.Path.{refl, ◌∙◌}
 use Rattle.integration_positions.proofs.Labels.{no_corners, given, paid_for, keeps_all}
 use Rattle.integration_positions.proofs.corner_positions.Goals as goal

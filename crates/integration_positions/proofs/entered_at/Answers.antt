@@ -1,4 +1,5 @@
 -- `integration_positions::entered_at` meets its contract: one test.
+-- Assumes nothing.
 use borrow.Author.Tests.{eq-eqb, ne_eqb}
 use Rattle.integration_positions.specs.Inner.{entered_from}
 use Rattle.integration_positions.proofs.entered_at.Goals as goal

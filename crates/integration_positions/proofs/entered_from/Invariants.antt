@@ -1,4 +1,5 @@
--- The loop's invariant: the values of the first i cells are in their places.
+-- `integration_positions::entered_from`, the loop's invariant: the values of the first i cells are in their places.
+-- Assumes nothing.
 use mathlib.Core.List.{List}
 use Prim.Native.Nat.{ℕ, ◌≤◌, ◌-◌}
 use lib.ListN.{get_or}

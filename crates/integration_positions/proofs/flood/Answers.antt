@@ -1,4 +1,5 @@
 -- `integration_positions::flood` meets its contract: a turn goes around from one cell more, and after the last the positions are those that are sought.
+-- Assumes nothing.
 use mathlib.Core.Path.{◌≡◌, ap, ◌∙◌}
 use mathlib.Core.List.{List}
 use Prim.Native.Nat.{ℕ, suc, ◌<◌}

@@ -1,4 +1,5 @@
 -- `integration_positions::keep` meets its contract: when the loop ends, what all hundred cells keep is in its place.
+-- Assumes nothing.
 use mathlib.Core.Path.{◌≡◌}
 use native.Mathlib.Omega.{arith}
 use Rattle.utilities.proofs.Lists.{filled_all}

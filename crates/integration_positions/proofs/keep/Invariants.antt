@@ -1,4 +1,5 @@
--- The loop's invariant: what the first i cells keep is in their places.
+-- `integration_positions::keep`, the loop's invariant: what the first i cells keep is in their places.
+-- Assumes nothing.
 use mathlib.Core.List.{List}
 use Prim.Native.Nat.{ℕ, ◌≤◌, ◌-◌}
 use lib.ListN.{get_or}

@@ -1,4 +1,5 @@
 -- `integration_positions::place_around` meets its contract. Four directions, in the definition's order; each leaves room for the next.
+-- Assumes nothing.
 use mathlib.Core.List.{List}
 use Prim.Native.Nat.{ℕ}
 use Rattle.utilities.specs.declared.CompassDir.{CompassDir}

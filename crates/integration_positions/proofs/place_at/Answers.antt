@@ -1,4 +1,5 @@
 -- `integration_positions::place_at` meets its contract. What it writes where the cell takes nothing is the cell's own value.
+-- Assumes nothing.
 use native.Mathlib.Numerals.{add-one}
 use native.Mathlib.Nat.{add-zero}
 use native.Mathlib.Omega.{arith}

@@ -1,4 +1,5 @@
 -- `integration_positions::place_corner` meets its contract: the corner is tried, and its position is handed on from what was queued.
+-- Assumes nothing.
 use mathlib.Core.Path.{◌≡◌}
 use mathlib.Core.List.{List}
 use Prim.Native.Nat.{ℕ, ◌<◌, ◌+◌}

@@ -1,4 +1,5 @@
 -- `integration_positions::place_corners` meets its contract: each turn hands on the position of one corner more.
+-- Assumes nothing.
 use mathlib.Core.Path.{◌≡◌, refl}
 use mathlib.Core.List.{List}
 use Prim.Native.Nat.{ℕ, ◌<◌, ◌+◌}

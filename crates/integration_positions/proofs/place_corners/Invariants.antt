@@ -1,4 +1,5 @@
--- The loop's invariant: there is room, and the positions of the corners before i were handed on.
+-- `integration_positions::place_corners`, the loop's invariant: there is room, and the positions of the corners before i were handed on.
+-- Assumes nothing.
 use mathlib.Core.List.{List}
 use Prim.Native.Nat.{ℕ, ◌≤◌, ◌-◌}
 use lib.ListN.{take}

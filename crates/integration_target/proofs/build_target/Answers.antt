@@ -1,6 +1,7 @@
 -- How a target's built field is proved: it is started, and then built without positions; both contracts say what they answer, and a started field's
 -- corners are cells (`accepts_started`), so that it may be built. `build_window` starts from a window's cells by another call, and goes the same way.
 -- `integration_target::build_target` meets its contract: the started field is one that is built.
+-- Assumes nothing.
 use mathlib.Core.Path.{ap, ◌∙◌}
 use Rattle.route.specs.Inner.{held_target}
 use Rattle.route.proofs.Targets.{held_in}

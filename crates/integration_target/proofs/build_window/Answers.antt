@@ -1,4 +1,5 @@
 -- `integration_target::build_window` meets its contract: the field that starts at the window's cells is the one that the target starts.
+-- Assumes nothing.
 use mathlib.Core.Path.{◌≡◌, refl, sym, ap, ◌∙◌}
 use mathlib.Core.Bool.{Bool, true, false, cond, true≢false}
 use mathlib.Core.List.{List}
