@@ -30,8 +30,9 @@ use Rattle.flow_bits.specs.Byte.{bits_of, dir_with, dir_of}
 use Rattle.flow_arrows.specs.Arrows.{Away}
 use Rattle.flow_arrows.proofs.Moves.{away, reads_so}
 use Rattle.flow_arrivals.specs.Following.{is_arrival, Follows, Comes, there, further, ComesFirst}
-use Rattle.flow_arrivals.specs.Decided.{Begun, here, moved, begun, first_once, first_there}
+use Rattle.flow_arrivals.specs.Decided.{Begun, here, moved, begun}
 use Rattle.flow_arrivals.specs.Inner.{read_step, stepped_to, next_of, move_of, cell_after, moves_in}
+use Rattle.flow_arrivals.proofs.First.{first_once, first_there}
 
 -- a direction that bits read as has those bits: computed once, for all sixteen
 bits_back : (a : ℕ) → a < 16 → points (dir_with all a) ≡ true → bits_of (dir_with all a) ≡ a

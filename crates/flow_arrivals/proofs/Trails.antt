@@ -18,9 +18,10 @@ use borrow.Author.Tests.{lt-ltb, le-ltb}
 use Rattle.utilities.specs.Lists.{below}
 use Rattle.utilities.proofs.Lists.{table_at, table_same}
 use Rattle.flow_arrivals.specs.Following.{is_arrival, ComesFirst, Arrival, arrives_after, arrives_never}
-use Rattle.flow_arrivals.specs.Decided.{first_few, arrival}
+use Rattle.flow_arrivals.specs.Decided.{arrival}
 use Rattle.flow_arrivals.specs.Arrivals.{moves_of, moves_from}
 use Rattle.flow_arrivals.specs.Inner.{read_step, stepped_to, cell_after, moves_in, trail_after, first_trail, doubled_trail, ShortTrails, AllArrived, told_moves}
+use Rattle.flow_arrivals.proofs.First.{first_few}
 use Rattle.flow_arrivals.proofs.Followed.{stays, goes, one_made, after_inside, moves_most, cell_further, moves_further, made_first, made_all}
 
 module _ (bytes : List ℕ) where
@@ -89,7 +90,8 @@ module _ (bytes : List ℕ) where
       arrived j v (yes s) (inr t) = absurd (omega (arith, first_few bytes v))
 
       pick : (a : Arrival bytes x) → Decides n x → told_moves (trail_after bytes n x) ≡ moves_of a
-      pick (arrives_after j v) d =
+      pick (arrives_after j c o) d =
+          let v : ComesFirst bytes j x = record { comes = c; no_fewer = o } in
           let e : trail_after bytes n x / 256 ≡ j = trail_moves n x h ∙ arrived j v (dec_lt n j) d in
           rw (le-ltb 99 (trail_after bytes n x / 256) (omega (arith, first_few bytes v))) e
       pick (arrives_never o) (inl t) = absurd (omega (arith, made_all bytes n x h (λ m l c. o m c)))

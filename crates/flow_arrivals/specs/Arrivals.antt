@@ -9,7 +9,7 @@ use Rattle.flow_arrivals.specs.Decided.{arrival}
 
 -- the number of moves that is answered: 0 where the cell has such a byte itself, 255 where the arrows never come to one
 abbrev pub moves_of : {bytes : List ℕ} {x : ℕ} → Arrival bytes x → ℕ
-moves_of (arrives_after n first) = n
+moves_of (arrives_after n comes no_fewer) = n
 moves_of (arrives_never none) = 255
 
 -- the number of moves from a cell: whether its arrows arrive is decided (`Decided`), and the number does not depend on how (`moves_any`,

@@ -4,8 +4,10 @@
 -- that arrows which have not arrived after 99 moves never do.
 --     searched      whether fewer than n moves arrive
 --     few           different numbers below n are at most n
---     first_few     the first number of moves is at most 99
+--     few_first     the first number of moves is at most 99
 --     arrival       the decision
+-- That n moves arrive, and no fewer, is told here by these two facts (`AtFirst`), so that the decision does not lean on a word of the promise;
+-- `proofs/First.antt` has `there_first`, `further_first`, `once_first` and `few_first` in the promise's word, `ComesFirst`.
 -- Assumes nothing.
 use Rattle.std.specs.Prelude.{◌≡◌, refl, Bool, true, false, cond, ◌&&◌, ◌⊎◌, List, ltb, leb, eqb, get_or}
 use Rattle.std.proofs.Common.{sym, ap, ◌∙◌, true≢false, inl, inr, ltb-true, leb-true, lt-ltb, le-leb, eq-eqb, ne_eqb}
@@ -15,7 +17,7 @@ use Prim.Native.Nat.{ℕ, zero, suc, ◌+◌, ◌-◌, ◌*◌, ◌/◌, ◌%◌
 use native.Mathlib.Omega.{arith}
 use Rattle.std.proofs.Math.Decide.{ℕ_discrete, dec_lt}
 use Rattle.flow_arrows.specs.Arrows.{northward, eastward, southward, westward, arrow, Away}
-use Rattle.flow_arrivals.specs.Following.{is_arrival, Follows, Comes, there, further, ComesFirst, Arrival, arrives_after, arrives_never}
+use Rattle.flow_arrivals.specs.Following.{is_arrival, Follows, Comes, there, further, Arrival, arrives_after, arrives_never}
 
 -- ---- where an arrow points
 
@@ -172,26 +174,27 @@ module _ (bytes : List ℕ) where
       go (here t z) = true≢false (sym t ∙ e)
       go (moved m z g d q) = o z g
 
-  pub first_there : {x : ℕ} → is_arrival (get_or bytes x 0) ≡ true → ComesFirst bytes zero x
-  first_there e = record { comes = there e; no_fewer = λ m h c. absurd (omega arith) }
+  -- after n moves, and after no fewer
+  abbrev pub AtFirst : ℕ → ℕ → Type 0
+  AtFirst n x = Comes bytes n x × ((m : ℕ) → m < n → Comes bytes m x → ⊥)
 
-  pub first_further : {n x y : ℕ} → is_arrival (get_or bytes x 0) ≡ false → Follows bytes x y → ComesFirst bytes n y → ComesFirst bytes (suc n) x
-  first_further e f c = record {
-    comes = further f c.comes;
-    no_fewer = λ m h d. (let l = later e f d in c.no_fewer l.0 (omega (arith, l.1)) l.2);
-  }
+  pub there_first : {x : ℕ} → is_arrival (get_or bytes x 0) ≡ true → AtFirst zero x
+  there_first e = (there e, λ m h c. absurd (omega arith))
+
+  pub further_first : {n x y : ℕ} → is_arrival (get_or bytes x 0) ≡ false → Follows bytes x y → AtFirst n y → AtFirst (suc n) x
+  further_first e f c = (further f c.0, λ m h d. (let l = later e f d in c.1 l.0 (omega (arith, l.1)) l.2))
 
   -- ---- whether fewer than n moves arrive
 
   abbrev pub Within : ℕ → ℕ → Type 0
-  Within n x = ((k : ℕ) × ComesFirst bytes k x) ⊎ ((k : ℕ) → k < n → Comes bytes k x → ⊥)
+  Within n x = ((k : ℕ) × AtFirst k x) ⊎ ((k : ℕ) → k < n → Comes bytes k x → ⊥)
 
   unfoldable pub searched_on : {n x y : ℕ} → is_arrival (get_or bytes x 0) ≡ false → Follows bytes x y → Within n y → Within (suc n) x
-  searched_on e f (inl c) = inl (suc c.0, first_further e f c.1)
+  searched_on e f (inl c) = inl (suc c.0, further_first e f c.1)
   searched_on e f (inr o) = inr (λ k h c. (let l = later e f c in o l.0 (omega (arith, l.1)) l.2))
 
   unfoldable pub searched_from : {n x : ℕ} (b : Bool) → is_arrival (get_or bytes x 0) ≡ b → NextMove x → ((y : ℕ) → Within n y) → Within (suc n) x
-  searched_from true e move rest = inl (zero, first_there e)
+  searched_from true e move rest = inl (zero, there_first e)
   searched_from false e (moves_to y f) rest = searched_on e f (rest y)
   searched_from false e (no_move o) rest = inr (λ k h c. stuck e o c)
 
@@ -214,40 +217,40 @@ module _ (bytes : List ℕ) where
   passed_inside h (further f c) (suc i) = passed_inside f.enters c i
 
   -- it has the number that is left as its own first one
-  passed_first : {n x : ℕ} (c : Comes bytes n x) → ((m : ℕ) → m < n → Comes bytes m x → ⊥) → (i k : ℕ) → i + k ≡ n → ComesFirst bytes k (passed c i)
+  passed_first : {n x : ℕ} (c : Comes bytes n x) → ((m : ℕ) → m < n → Comes bytes m x → ⊥) → (i k : ℕ) → i + k ≡ n → AtFirst k (passed c i)
   unfolding passed
   passed_first {x = x} (there t) o i k e =
       let z : zero ≡ k = omega arith in
-      subst (λ (j : ℕ). ComesFirst bytes j x) z (first_there t)
+      subst (λ (j : ℕ). AtFirst j x) z (there_first t)
   passed_first {x = x} (further {n = m} f c) o zero k e =
       let z : suc m ≡ k = omega arith in
-      subst (λ (j : ℕ). ComesFirst bytes j x) z (record { comes = further f c; no_fewer = o })
+      subst (λ (j : ℕ). AtFirst j x) z (further f c, o)
   passed_first (further f c) o (suc i) k e = passed_first c (λ m h d. o (suc m) (omega arith) (further f d)) i k (omega arith)
 
-  pub first_once : {n m x : ℕ} → ComesFirst bytes n x → ComesFirst bytes m x → n ≡ m
-  first_once {n} {m} v w =
+  pub once_first : {n m x : ℕ} → AtFirst n x → AtFirst m x → n ≡ m
+  once_first {n} {m} v w =
       elim (dec_lt n m) [
-        | yes p ↦ absurd (w.no_fewer n p v.comes)
-        | no p ↦ elim (dec_lt m n) [ yes q ↦ absurd (v.no_fewer m q w.comes) | no q ↦ omega arith ]
+        | yes p ↦ absurd (w.1 n p v.0)
+        | no p ↦ elim (dec_lt m n) [ yes q ↦ absurd (v.1 m q w.0) | no q ↦ omega arith ]
       ]
 
-  pub first_few : {n x : ℕ} → ComesFirst bytes n x → n ≤ 99
-  first_few {n} {x} v = go (begun v.comes)
+  pub few_first : {n x : ℕ} → AtFirst n x → n ≤ 99
+  few_first {n} {x} v = go (begun v.0)
     where
       cell : ℕ → ℕ
-      cell = passed v.comes
+      cell = passed v.0
 
-      first : (i : ℕ) → i ≤ n → ComesFirst bytes (n - i) (cell i)
-      first i h = passed_first v.comes v.no_fewer i (n - i) (omega arith)
+      first : (i : ℕ) → i ≤ n → AtFirst (n - i) (cell i)
+      first i h = passed_first v.0 v.1 i (n - i) (omega arith)
 
       different : AllDifferent (suc n) cell
       different i j h k e =
-          let same : n - j ≡ n - i = first_once (first j (omega arith)) (subst (ComesFirst bytes (n - i)) e (first i (omega arith))) in
+          let same : n - j ≡ n - i = once_first (first j (omega arith)) (subst (AtFirst (n - i)) e (first i (omega arith))) in
           absurd (omega arith)
 
       go : Begun n x → n ≤ 99
       go (here t z) = omega arith
-      go (moved m y f c q) = omega (arith, few 100 (suc n) cell (λ i h. passed_inside f.leaves v.comes i) different)
+      go (moved m y f c q) = omega (arith, few 100 (suc n) cell (λ i h. passed_inside f.leaves v.0 i) different)
 
   -- ---- the decision
 
@@ -255,11 +258,11 @@ module _ (bytes : List ℕ) where
   never_later {x} o n c = go (searched (suc n) x)
     where
       go : Within (suc n) x → ⊥
-      go (inl d) = o d.0 (omega (arith, first_few d.1)) d.1.comes
+      go (inl d) = o d.0 (omega (arith, few_first d.1)) d.1.0
       go (inr q) = q n (omega arith) c
 
   unfoldable pub decided : {x : ℕ} → Within 100 x → Arrival bytes x
-  decided (inl c) = arrives_after c.0 c.1
+  decided (inl c) = arrives_after c.0 c.1.0 c.1.1
   decided (inr o) = arrives_never (never_later o)
 
   unfoldable pub arrival : (x : ℕ) → Arrival bytes x

@@ -28,5 +28,5 @@ module _ (bytes : List ℕ) where
 
   -- what following from a cell comes to: to such a byte, first after n moves, or never, whatever the number of moves
   pub data Arrival (x : ℕ) : Type 0 where
-    arrives_after : (n : ℕ) → ComesFirst n x → Arrival x
+    arrives_after : (n : ℕ) → Comes n x → ((m : ℕ) → m < n → Comes m x → ⊥) → Arrival x
     arrives_never : ((n : ℕ) → Comes n x → ⊥) → Arrival x
