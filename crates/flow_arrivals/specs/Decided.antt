@@ -7,7 +7,7 @@
 --     few_first     the first number of moves is at most 99
 --     arrival       the decision
 -- That n moves arrive, and no fewer, is told here by these two facts (`AtFirst`), so that the decision does not lean on a word of the promise;
--- `proofs/First.antt` has `there_first`, `further_first`, `once_first` and `few_first` in the promise's word, `ComesFirst`.
+-- `proofs/First.antt` says the same of the promise's own word, `ComesFirst`: `first_there`, `first_further`, `first_once` and `first_few`.
 -- Assumes nothing.
 use Rattle.std.specs.Prelude.{◌≡◌, refl, Bool, true, false, cond, ◌&&◌, ◌⊎◌, List, ltb, leb, eqb, get_or}
 use Rattle.std.proofs.Common.{sym, ap, ◌∙◌, true≢false, inl, inr, ltb-true, leb-true, lt-ltb, le-leb, eq-eqb, ne_eqb}
