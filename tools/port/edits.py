@@ -9,8 +9,8 @@ that docs/PORT.md names). From the files of both it learns how each word is spel
 the one in its place. Clauses lose their brackets, the answer of a function is `result`, what was lent is `x.now`, or `x.old` and `x.new`, projections
 are written tight. Each pair of an edit is then turned from what it was in BEFORE. Where the turned `old:` does not stand in the file of today exactly
 once, it is looked for again with parentheses left out of account, and what it replaces goes into the text that was found. An edit is written only if
-each of its pairs was turned so; the others are listed, and are for the hand. File names and comments stay as they are. Run it at the top of the
-repository.
+each of its pairs was turned so; the others are listed, and are for the hand. File names and comments stay as they are, and so do the edits of
+HAND below. Run it at the top of the repository.
 """
 import collections
 import difflib
@@ -18,6 +18,13 @@ import glob
 import os
 import re
 import sys
+
+# edits that say the same wrong in other words today, or take the proof with them, so that what is false alone refuses them: they were written by hand
+HAND = {
+    "fields/column_0_has_a_west", "integration_init/costs_of_101_taken", "leg_counting/gaps_filled", "leg_counting/straight_alone_tested",
+    "sector/previous_of_101_taken", "tour_plan/best_of_one_more", "tour_plan/orders_of_one_window_more", "tour_search/last_move_left_out",
+    "tour_search/limit_of_one_less", "window_square/twenty_before_sixteen", "window_steps/nine_steps_taken", "window_steps/one_step_taken",
+}
 
 TOKEN = re.compile(r"\"(?:[^\"\\]|\\.)*\"|[^\s(){}\[\],;.@`\"]+|[(){}\[\],;.@`\"]")
 OPERATOR = re.compile(r"^_([^_\s]+)_$")
@@ -262,10 +269,13 @@ def brought(old, new, text):
 def main():
     before, after = sys.argv[1:3]
     everywhere, by_file = learned(before, after)
-    done = same = 0
+    done = same = hand = 0
     left = []
     for file in sorted(glob.glob("crates/*/must-fail/*.edit")):
         crate = os.path.dirname(os.path.dirname(file))
+        if os.path.basename(crate) + "/" + os.path.basename(file)[:-len(".edit")] in HAND:
+            hand += 1
+            continue
         _, was = pairs(os.path.join(before, file))
         lines, here = pairs(file)
         texts, olds, widened, out, why = {}, {}, {}, list(lines), None
@@ -324,7 +334,7 @@ def main():
                     print("  " + line)
     for file, why in left:
         print(f"left: {file}: {why}")
-    print(f"{done} turned, {same} as they were, {len(left)} left")
+    print(f"{done} turned, {same} as they were, {hand} by hand, {len(left)} left")
 
 
 main()
