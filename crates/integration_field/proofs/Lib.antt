@@ -2,7 +2,7 @@
 -- walks of at most n moves; a least walk never needs a cell twice, so that no 100th wave changes a cell. This part is proved of any grid in
 -- `integration_waves`, and here of the 32-bit words and their flags.
 --     Offers, Neighbours             what the offers of a wave do, cell by cell, and which cells they reach
---     Settled, Least                 the waves stop; what they leave are the least walks, and their count is exact
+--     Rest, Settled, Least           the waves stop; what they leave are the least walks, and their count is exact
 --     Position                       positions are those of the earliest corners
 --     Answers                        the same of what the call answers, and its number
 --     Decided                        the promises leave no choice: what keeps them is the answer
@@ -13,6 +13,7 @@ pub mod Flags
 pub mod Lists
 pub mod Neighbours
 pub mod Offers
+pub mod Rest
 pub mod Settled
 pub mod Least
 pub mod Answers

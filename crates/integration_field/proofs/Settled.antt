@@ -9,7 +9,7 @@ use Prim.Native.Nat.{ℕ, zero, suc, ◌+◌, ◌<◌}
 use native.Mathlib.Nat.{zero-add, suc-add, add-suc, le_refl}
 use native.Mathlib.Omega.{arith}
 use Rattle.integration_field.specs.Wave.{Wave, next, wave_at}
-use Rattle.integration_field.specs.Rest.{Rests, total, rest}
+use Rattle.integration_field.specs.Rest.{Rests, sum_of_words, comes_to_rest}
 use Rattle.integration_field.specs.Build.{Built, is_empty, settle, build}
 
 module _ (costs : List ℕ) where
@@ -88,8 +88,8 @@ module _ (costs : List ℕ) where
     pub settle_build : (n : ℕ) (h : Rests costs n (record { cells = cells; changed = corners }))
         → settle costs n (record { cells = cells; changed = corners }) h ≡ build costs cells corners
     unfolding build
-    settle_build n h = settle_any n (total cells) (record { cells = cells; changed = corners }) h (rest costs (total cells) _ (le_refl (total cells)))
+    settle_build n h = settle_any n (sum_of_words cells) (record { cells = cells; changed = corners }) h (comes_to_rest costs (sum_of_words cells) _ (le_refl (sum_of_words cells)))
 
     pub settled : Settled 0 (build costs cells corners)
     unfolding build wave_at
-    settled = settled_from (total cells) 0 (record { cells = cells; changed = corners }) (rest costs (total cells) _ (le_refl (total cells))) refl
+    settled = settled_from (sum_of_words cells) 0 (record { cells = cells; changed = corners }) (comes_to_rest costs (sum_of_words cells) _ (le_refl (sum_of_words cells))) refl

@@ -3,7 +3,7 @@
 use Rattle.std.specs.Prelude.{Bool, true, false, List, [], ◌∷◌, ℕ, zero, suc}
 use Rattle.std.proofs.Common.{le_refl}
 use Rattle.integration_field.specs.Wave.{Wave, next}
-use Rattle.integration_field.specs.Rest.{Rests, total, rest}
+use Rattle.integration_field.specs.Rest.{Rests, sum_of_words, comes_to_rest}
 
 -- the cells that are left, and the number of waves that changed one
 pub record Built : Type 0 where
@@ -16,7 +16,7 @@ is_empty [] = true
 is_empty (x ∷ xs) = false
 
 -- One wave after the other, up to the first that changes no cell. What it takes beside a wave is no limit: it is a proof that some later
--- wave changes none, as `rest` has for every field, and the answer does not depend on it (`settle_any`, `proofs/Settled.antt`).
+-- wave changes none, as `comes_to_rest` has for every field, and the answer does not depend on it (`settle_any`, `proofs/Settled.antt`).
 unfoldable pub settle : (costs : List ℕ) (n : ℕ) (w : Wave) → Rests costs n w → Built
 settle costs zero w h = record { cells = w.cells; waves = 0 }
 settle costs (suc n) w h =
@@ -30,4 +30,4 @@ settle costs (suc n) w h =
 unfoldable pub build : List ℕ → List ℕ → List ℕ → Built
 build costs cells corners =
     let w : Wave = record { cells = cells; changed = corners } in
-    settle costs (total cells) w (rest costs (total cells) w (le_refl (total cells)))
+    settle costs (sum_of_words cells) w (comes_to_rest costs (sum_of_words cells) w (le_refl (sum_of_words cells)))

@@ -1,5 +1,6 @@
--- Waves come to rest: each wave that changes a cell lowers the total of the values, so that one changes none. The definition of the
--- built field leans on this, and on nothing else, to be a total function; how soon waves come to rest is `proofs/Least.antt`.
+-- Waves come to rest: each wave that changes a cell lowers the sum of the words, so that one changes none. The definition of the
+-- built field leans on this, and on nothing else, to be a total function. That the total of the values falls too is `proofs/Rest.antt`,
+-- and how soon waves come to rest `proofs/Least.antt`.
 -- Assumes nothing.
 use Rattle.std.specs.Prelude.{◌≡◌, Bool, true, false, cond, ◌⊎◌, get_or, set}
 use Rattle.std.proofs.Math.Path.{refl}
@@ -7,6 +8,7 @@ use Rattle.std.proofs.Common.{ap, ◌∙◌, inr, arith, ltb-true, eq-eqb}
 use Rattle.std.proofs.Math.Bool.{and-eq-true_iff}
 use Rattle.std.proofs.Math.Logic.{inl}
 use mathlib.Core.List.{List, [], ◌∷◌}
+use Rattle.std.proofs.Math.Decide.{dec_lt}
 use Prim.Native.Nat.{ℕ, zero, suc, ◌+◌, ◌≤◌, ◌<◌}
 use Rattle.utilities.specs.declared.CompassDir.{CompassDir}
 use Rattle.utilities.specs.Compass.{orthogonal}
@@ -27,31 +29,46 @@ unfoldable pub total : List ℕ → ℕ
 total [] = 0
 total (w ∷ ws) = low w + total ws
 
--- either no cell has changed, or the total is lower
+-- the sum of the words, flags and all
+abbrev pub sum_of_words : List ℕ → ℕ
+sum_of_words [] = 0
+sum_of_words (w ∷ ws) = w + sum_of_words ws
+
+-- either no cell has changed, or the sum is lower
 abbrev Lowered : List ℕ → List ℕ → Type 0
-Lowered a b = (b ≡ a) ⊎ (total b < total a)
+Lowered a b = (b ≡ a) ⊎ (sum_of_words b < sum_of_words a)
 
 then : {a b c : List ℕ} → Lowered a b → Lowered b c → Lowered a c
 then (inl p) (inl q) = inl (q ∙ p)
-then (inl p) (inr m) = inr (omega (arith, ap total p))
-then (inr l) (inl q) = inr (omega (arith, ap total q))
+then (inl p) (inr m) = inr (omega (arith, ap sum_of_words p))
+then (inr l) (inl q) = inr (omega (arith, ap sum_of_words q))
 then (inr l) (inr m) = inr (omega arith)
 
-set_lower : (cells : List ℕ) (x v : ℕ) → low v < low (get_or cells x 0) → total (set cells x v) < total cells
-unfolding total
+set_lower : (cells : List ℕ) (x v : ℕ) → v < get_or cells x 0 → sum_of_words (set cells x v) < sum_of_words cells
 set_lower [] x v h = absurd (omega arith)
 set_lower (w ∷ ws) zero v h = omega arith
 set_lower (w ∷ ws) (suc x) v h = omega (arith, set_lower ws x v h)
 
-lowered_if : (b : Bool) (cells r : List ℕ) → (b ≡ true → total r < total cells) → Lowered cells (cond b r cells)
-lowered_if true cells r h = inr (h refl)
+set_same : (cells : List ℕ) (x v : ℕ) → v ≡ get_or cells x 0 → set cells x v ≡ cells
+set_same [] x v e = refl
+set_same (w ∷ ws) zero v e = ap (λ (k : ℕ). k ∷ ws) e
+set_same (w ∷ ws) (suc x) v e = ap (λ (l : List ℕ). w ∷ l) (set_same ws x v e)
+
+-- a number that is no more than the word at a place is put there
+put_lowered : (cells : List ℕ) (x v : ℕ) → v ≤ get_or cells x 0 → Lowered cells (set cells x v)
+put_lowered cells x v h =
+    elim (dec_lt v (get_or cells x 0)) [ yes l ↦ inr (set_lower cells x v l) | no l ↦ inl (set_same cells x v (omega arith)) ]
+
+lowered_if : (b : Bool) (cells r : List ℕ) → (b ≡ true → Lowered cells r) → Lowered cells (cond b r cells)
+lowered_if true cells r h = h refl
 lowered_if false cells r h = inl refl
 
+-- a sum that is written is no more than the cell's value, and this no more than its word
 relaxed_lowered : (s x : ℕ) (cells : List ℕ) → Lowered cells (relaxed s x cells)
 unfolding relaxed
 relaxed_lowered s x cells =
     lowered_if (is_written (get_or cells x 0) s) cells _
-    (λ e. set_lower cells x _ (omega (arith, ltb-true s (low (get_or cells x 0)) ((and-eq-true_iff (is_open (get_or cells x 0)) _).0 e).1)))
+    (λ e. put_lowered cells x _ (omega (arith, ltb-true s _ ((and-eq-true_iff (is_open (get_or cells x 0)) _).0 e).1)))
 
 module _ (costs : List ℕ) where
   step_lowered : (v : ℕ) (t : Stepped) (cells : List ℕ) → Lowered cells (offered costs v t cells)
@@ -68,18 +85,18 @@ module _ (costs : List ℕ) where
   wave_lowered old [] cells = inl refl
   wave_lowered old (i ∷ is) cells = then (around_lowered _ (cell_at i) orthogonal cells) (wave_lowered old is _)
 
-  none_changed : (i : ℕ) (cells : List ℕ) → changed_from i cells cells ≡ []
+  pub none_changed : (i : ℕ) (cells : List ℕ) → changed_from i cells cells ≡ []
   unfolding changed_from
   none_changed i [] = refl
   none_changed i (a ∷ as') = rw (eq-eqb a a refl) (none_changed (suc i) as')
 
   -- a wave that changed no cell is followed by such waves
-  rests_on : (n : ℕ) (cells : List ℕ) → Rests costs n (record { cells = cells; changed = [] })
+  pub rests_on : (n : ℕ) (cells : List ℕ) → Rests costs n (record { cells = cells; changed = [] })
   unfolding next offered_by
   rests_on zero cells = none_changed 0 cells
   rests_on (suc n) cells = rw (none_changed 0 cells) (rests_on n cells)
 
-  same_next : (w : Wave) → (next costs w).cells ≡ w.cells → next costs w ≡ record { cells = w.cells; changed = [] }
+  pub same_next : (w : Wave) → (next costs w).cells ≡ w.cells → next costs w ≡ record { cells = w.cells; changed = [] }
   unfolding next
   same_next w e = rw (e, none_changed 0 w.cells)
 
@@ -88,14 +105,14 @@ module _ (costs : List ℕ) where
   next_lowered w = wave_lowered w.cells w.changed w.cells
 
   -- waves come to rest
-  pub rest : (n : ℕ) (w : Wave) → total w.cells ≤ n → Rests costs n w
-  rest zero w h = go (next_lowered w)
+  pub comes_to_rest : (n : ℕ) (w : Wave) → sum_of_words w.cells ≤ n → Rests costs n w
+  comes_to_rest zero w h = go (next_lowered w)
     where
       go : Lowered w.cells (next costs w).cells → (next costs w).changed ≡ []
       go (inl e) = ap (λ (u : Wave). u.changed) (same_next w e)
       go (inr l) = absurd (omega arith)
-  rest (suc n) w h = go (next_lowered w) (λ l. rest n (next costs w) l)
+  comes_to_rest (suc n) w h = go (next_lowered w) (λ l. comes_to_rest n (next costs w) l)
     where
-      go : Lowered w.cells (next costs w).cells → (total (next costs w).cells ≤ n → Rests costs n (next costs w)) → Rests costs n (next costs w)
+      go : Lowered w.cells (next costs w).cells → (sum_of_words (next costs w).cells ≤ n → Rests costs n (next costs w)) → Rests costs n (next costs w)
       go (inl e) ih = rw (same_next w e) (rests_on n w.cells)
       go (inr l) ih = ih (omega arith)
