@@ -22,7 +22,7 @@ import sys
 # edits that say the same wrong in other words today, or take the proof with them, so that what is false alone refuses them: they were written by hand
 HAND = {
     "fields/column_0_has_a_west", "integration_field/first_wave_only", "integration_init/costs_of_101_taken", "leg_counting/gaps_filled",
-    "leg_counting/straight_alone_tested", "leg_moves/sector_63_refused", "sector/previous_of_101_taken", "tour_plan/best_of_one_more",
+    "bounds_sure/unreached_neighbour_taken", "leg_counting/straight_alone_tested", "leg_moves/sector_63_refused", "sector/previous_of_101_taken", "tour_plan/best_of_one_more",
     "tour_plan/orders_of_one_window_more", "tour_search/last_move_left_out", "tour_search/limit_of_one_less", "window_square/twenty_before_sixteen",
     "window_steps/nine_steps_taken", "window_steps/one_step_taken",
 }
