@@ -71,14 +71,8 @@ def run(*words):
 
 
 def prove():
-    """Proves the library as its source stands: an earlier proof is taken only where rt says that nothing changed since."""
-    ran = run("rt", "check", NAME)
-    if ran.returncode != 0:
-        said = [line for line in ran.stdout.splitlines() if "NOT PROVED" in line] or ran.stdout.splitlines()[-1:] or ["rt said nothing"]
-        raise Wrong(f"the library is not proved as it stands: {said[0]}")
-    for name in crates():
-        if not re.search(rf"^rt: {name} proved\b", ran.stdout, flags=re.M):
-            raise Wrong(f"rt check did not say that {name} is proved")
+    """Nothing is printed from a MIR that the printer does not know."""
+    raise Wrong("the printer does not know the MIR of today's toolchain yet (docs/PORT.md); tools/portable/digest holds the file to the archive")
 
 
 def functions():
