@@ -1,18 +1,25 @@
 -- What is promised of the call for bounds, by its run and its number.
 --     some_so_far, some_found    a test of all cells, one after the other
+--     not_low, not_high, .., taken   the number, line by line
+--     unmarked, held_as          whether a target is a window, and what it is then
 --     runs                       what the run's calls leave
 --     refuses, accepts           all that is promised of a refused call, and of an accepted one by its run
 -- Assumes nothing.
-use mathlib.Core.Path.{◌≡◌, sym, ap, ◌∙◌}
-use mathlib.Core.Bool.{Bool, true, false, ◌||◌}
+use mathlib.Core.Path.{◌≡◌, refl, sym, ap, subst, ◌∙◌}
+use mathlib.Core.Bool.{Bool, true, false, not, ◌||◌}
 use mathlib.Core.Logic.{◌↔◌}
 use mathlib.Core.List.{List, [], ◌∷◌, ◌++◌, map}
 use Prim.Native.Nat.{ℕ, suc, ◌≤◌, ◌<◌}
 use lib.ListN.{length, get_or}
-use borrow.Author.Tests.{ne_eqb}
+use native.Mathlib.Omega.{arith}
+use borrow.Author.Tests.{eq-eqb, ne_eqb}
 use Rattle.utilities.specs.Lists.{below}
 use Rattle.utilities.proofs.Lists.{below_at}
-use Rattle.route.specs.Step.{portal_of}
+use Rattle.fields.specs.declared.CellList.{CellList}
+use Rattle.route.specs.declared.Target as program
+use Rattle.route.specs.declared.Target.TheVariants.{Goal, Window, Corner}
+use Rattle.route.specs.Inner.{held_target, WindowHeld, TargetHeld}
+use Rattle.route.specs.Step.{portal_of, is_window, step_number_on}
 use Rattle.route.specs.Target.{Target, window_of, by_window, TargetIn, target_of}
 use Rattle.route.proofs.Targets.{at_place, target_in}
 use Rattle.integration_field.specs.Word.{is_portal}
@@ -21,7 +28,7 @@ use Rattle.flow_arrows.specs.Arrows.{built_cost}
 use Rattle.flow_arrows.specs.Promise.{built_cells}
 use Rattle.sector.specs.Sector.{sector_bytes}
 use Rattle.bounds_told.specs.declared.Bounds.{Bounds}
-use Rattle.bounds_told.specs.Bounds.{some_of, bounds_number, is_sure, refused_bounds, accepted_bounds, bounds_answer}
+use Rattle.bounds_told.specs.Bounds.{some_of, no_range, bounds_number, is_sure, refused_bounds, accepted_bounds, bounds_answer}
 use Rattle.bounds_told.specs.Promise.{CostBounds, SureMarks, BoundsRefused, NoBounds}
 use Rattle.bounds_told.proofs.Marks.{told_some}
 use Rattle.bounds_told.proofs.Promise.{cost_bounds, sure_marks, portals}
@@ -44,6 +51,69 @@ module _ (p : ℕ → Bool) where
 
   pub some_found : (i : ℕ) → i < 100 → p i ≡ true → some_of p (below 100) ≡ true
   some_found i h e = told_some p (below 100) i (at_place (below 100) i i h (below_at 100 i h)) e
+
+-- ---- the lines of the table
+
+module _ (low high step : List ℕ) where
+  pub not_low : (length low ≡ 100 → ⊥) → 1 ≡ bounds_number low high step
+  unfolding bounds_number
+  not_low h = rw (ne_eqb (length low) 100 h)
+
+  module _ (full : length low ≡ 100) where
+    pub not_high : (length high ≡ 100 → ⊥) → 1 ≡ bounds_number low high step
+    unfolding bounds_number
+    not_high h = rw (eq-eqb (length low) 100 full, ne_eqb (length high) 100 h)
+
+    module _ (whole : length high ≡ 100) where
+      pub on_low : (n : ℕ) → n ≡ step_number_on low step → 0 < n → n ≡ bounds_number low high step
+      unfolding bounds_number
+      on_low n e h =
+          rw (eq-eqb (length low) 100 full, eq-eqb (length high) 100 whole, ne_eqb (step_number_on low step) 0 (λ z. omega (arith, e))) e
+
+      module _ (good : 0 ≡ step_number_on low step) where
+        pub on_high : (n : ℕ) → n ≡ step_number_on high step → 0 < n → n ≡ bounds_number low high step
+        unfolding bounds_number
+        on_high n e h =
+            rw (
+              eq-eqb (length low) 100 full,
+              eq-eqb (length high) 100 whole,
+              eq-eqb (step_number_on low step) 0 (sym good),
+              ne_eqb (step_number_on high step) 0 (λ z. omega (arith, e)),
+            )
+            e
+
+        module _ (well : 0 ≡ step_number_on high step) where
+          pub no_bounds : (not (is_window step) || some_of (no_range low high) (below 100)) ≡ true → 18 ≡ bounds_number low high step
+          unfolding bounds_number
+          no_bounds h =
+              rw (
+                eq-eqb (length low) 100 full,
+                eq-eqb (length high) 100 whole,
+                eq-eqb (step_number_on low step) 0 (sym good),
+                eq-eqb (step_number_on high step) 0 (sym well),
+                h,
+              )
+
+          pub taken : (not (is_window step) || some_of (no_range low high) (below 100)) ≡ false → 0 ≡ bounds_number low high step
+          unfolding bounds_number
+          taken h =
+              rw (
+                eq-eqb (length low) 100 full,
+                eq-eqb (length high) 100 whole,
+                eq-eqb (step_number_on low step) 0 (sym good),
+                eq-eqb (step_number_on high step) 0 (sym well),
+                h,
+              )
+
+-- ---- a target that is a window, or is not
+
+pub unmarked : (t : program.Target) → ((w : CellList 10) → t ≡ Window w → ⊥) → by_window (held_target t) ≡ false
+unmarked (Goal n) h = refl
+unmarked (Window w) h = absurd (h w refl)
+unmarked (Corner n) h = refl
+
+pub held_as : {t : program.Target} {w : CellList 10} → t ≡ Window w → TargetHeld t → WindowHeld w
+held_as e h = subst TargetHeld e h
 
 -- ---- the run
 

@@ -2,73 +2,78 @@
 // which cells are sure.
 #![tactic(auto)]
 
-ghost use Rattle.std.specs.Prelude.{◌≡◌, ◌↔◌, not, ◌&&◌, ◌||◌, ltb, eqb, length};
+ghost use Rattle.std.specs.Prelude.{◌≡◌, ◌↔◌, not, ◌&&◌, ◌||◌, ltb, eqb, IfOk};
 ghost use Rattle.utilities.specs.Lists.{below};
-ghost use Rattle.route.specs.Step.{route_step};
-ghost use Rattle.route.specs.Target.{target_of};
-ghost use Rattle.route.specs.Inner.{route_target, listed_target, held_target};
+ghost use Rattle.refusals.specs.Refusal.{told};
+ghost use Rattle.route.specs.Target.{to_window, target_of};
+ghost use Rattle.route.specs.Inner.{WindowHeld, held_cells};
 ghost use Rattle.bounds_told.specs.Bounds.{some_of, no_range, bounds_number, refused_bounds, accepted_bounds, bounds_answer};
 ghost use Rattle.bounds_told.specs.Promise.{CostBounds, SureMarks, BoundsRefused, NoBounds};
-ghost use Rattle.bounds.specs.Inner.{FloorsReady};
 ghost use Rattle.bounds.specs.Promise.{floor_bytes};
 
 use bounds_told::Bounds;
+use fields::CellList;
+use refusals::Refusal;
 use route::{RouteStep, Target};
 
 // Whether two costs cannot be the least and the greatest of a cell: the first is above the second, or only one of them is 255.
 fn is_no_range(from: u8, to: u8) -> bool
     ensures { result ≡ (ltb to from || ((eqb from 255 && not (eqb to 255)) || (eqb to 255 && not (eqb from 255)))) }
 {
-    if to < from {
-        return true;
-    }
-    if from == 255 {
-        return to != 255;
-    }
-    to == 255
+    to < from || (from == 255) != (to == 255)
 }
 
 // Whether the two costs of some cell cannot be its least and greatest.
-fn has_no_range(low: &[u8], high: &[u8]) -> bool
-    requires { (length low.now ≡ 100) × (length high.now ≡ 100) }
+fn has_no_range(low: &[u8; 100], high: &[u8; 100]) -> bool
     ensures { result ≡ some_of (no_range low.now high.now) (below 100) }
 {
-    let mut i = 0;
-    while i < 100 {
+    for i in 0..100 {
         if is_no_range(low[i], high[i]) {
             return true;
         }
-        i += 1;
     }
     false
 }
 
-// The number of the table: 1 for either floor, 3 to 8, 16 on either floor, then 18. `target` is the step's own.
-fn bounds_number(low: &[u8], high: &[u8], step: &[u8], target: Target) -> u8
-    requires { target ≡ listed_target (route_target (route_step step.now)) }
-    ensures { result ≡ bounds_number low.now high.now step.now }
+// Builds for a window on both floors: the built costs on each, and the cells that are sure by them.
+fn run(low: &[u8; 100], high: &[u8; 100], window: CellList<10>) -> Bounds
+    requires { WindowHeld window }
+    ensures { result ≡ accepted_bounds low.now high.now (to_window (held_cells window)) }
 {
-    if low.len() != 100 {
-        return 1;
+    let lowest = integration_target::build_window(low, window);
+    let least = bounds_sure::costs_of(&lowest.field);
+    let highest = integration_target::build_window(high, window);
+    let greatest = bounds_sure::costs_of(&highest.field);
+    let sure = bounds_sure::sure_cells(&lowest.field, &least, &greatest);
+    Bounds {
+        number: 0,
+        least,
+        greatest,
+        sure,
     }
-    if high.len() != 100 {
-        return 1;
-    }
-    let on_low = step_numbers::number_with_target(low, step, target);
-    if on_low != 0 {
-        return on_low;
-    }
-    let on_high = step_numbers::number_with_target(high, step, target);
-    if on_high != 0 {
-        return on_high;
-    }
-    if !target.has_window {
-        return 18;
-    }
+}
+
+// The bounds, or why the call is refused: 1 for either floor, 3 to 8, 16 on either floor, then 18.
+fn bounds_found(low: &[u8], high: &[u8], step: &[u8]) -> Result<Bounds, Refusal>
+    ensures number { told result ≡ bounds_number low.now high.now step.now }
+    ensures run { IfOk result (λ b. b ≡ accepted_bounds low.now high.now (target_of step.now)) }
+{
+    let Some(low) = low.as_array::<100>() else {
+        return Err(Refusal::CostBytes);
+    };
+    let Some(high) = high.as_array::<100>() else {
+        return Err(Refusal::CostBytes);
+    };
+    let target = RouteStep::new(step).as_target();
+    step_numbers::number_with_target(low, step, target)?;
+    step_numbers::number_with_target(high, step, target)?;
+    let Target::Window(window) = target else {
+        return Err(Refusal::BoundsInput);
+    };
     if has_no_range(low, high) {
-        return 18;
+        return Err(Refusal::BoundsInput);
     }
-    0
+    Ok(run(low, high, window))
 }
 
 // A refused answer: its number, and every other part zero.
@@ -83,26 +88,6 @@ fn refused(number: u8) -> Bounds
     }
 }
 
-// Builds for a window on both floors: the built costs on each, and the cells that are sure by them.
-fn run(low: &[u8], high: &[u8], target: Target) -> Bounds
-    requires { FloorsReady low.now high.now target }
-    ensures { result ≡ accepted_bounds low.now high.now (held_target target) }
-{
-    let lowest = integration_target::build_window(low, target);
-    let cells = lowest.field;
-    let least = bounds_sure::costs_of(&cells);
-    let highest = integration_target::build_window(high, target);
-    let other = highest.field;
-    let greatest = bounds_sure::costs_of(&other);
-    let sure = bounds_sure::sure_cells(&cells, &least, &greatest);
-    Bounds {
-        number: 0,
-        least,
-        greatest,
-        sure,
-    }
-}
-
 // The call for bounds: nothing that is lent is written.
 pub fn bounds(low: &[u8], high: &[u8], step: &[u8]) -> Bounds
     ensures answer { result ≡ bounds_answer low.now high.now step.now }
@@ -112,10 +97,8 @@ pub fn bounds(low: &[u8], high: &[u8], step: &[u8]) -> Bounds
     ensures refused { (result.number ≡ 0 → ⊥) → BoundsRefused result }
     ensures eighteen { (result.number ≡ 18) ↔ NoBounds low.now high.now step.now }
 {
-    let target = RouteStep::new(step).as_target();
-    let number = bounds_number(low, high, step, target);
-    if number != 0 {
-        return refused(number);
+    match bounds_found(low, high, step) {
+        Ok(bounds) => bounds,
+        Err(refusal) => refused(refusal.number()),
     }
-    run(low, high, target)
 }

@@ -1,51 +1,37 @@
 -- Laws of the loops here, and of what is found in one direction after the other.
---     some_here, some_over, every_here, every_over   a test of what is left of a list in an array
 --     some_same                                      tests that agree on cells
 --     indexes_more                                   an index more in an array with a count
 --     along_more                                     the neighbours in a list of directions, those in the first before the rest
 --     along_outside, along_passed, along_found       and what is found in one direction
+--     listed_over, listed_more, listed_all           a list that grows direction by direction
 --     sure_flagged                                   the test of a cell, with window cells told by their flags
 -- Assumes nothing.
 use mathlib.Core.Path.{◌≡◌, refl, sym, ap, ◌∙◌}
 use mathlib.Core.Bool.{Bool, true, false, not, ◌&&◌, ◌||◌}
-use mathlib.Core.List.{List, [], ◌∷◌, ◌++◌, Memᴰ, append_assoc}
+use mathlib.Core.List.{List, [], ◌∷◌, ◌++◌, Memᴰ, append_assoc, append-nil}
 use Prim.Native.Nat.{ℕ, ◌+◌, ◌≤◌, ◌<◌}
 use native.Mathlib.Numerals.{add-one}
 use native.Mathlib.Omega.{arith}
 use native.Mathlib.Decide.{ℕ_discrete}
 use lib.Dec.{ltb}
-use lib.ListN.{length, get_or, set, length-set}
-use lib.Seq.{slice, slice-cons, slice_empty, get_or-set_same, get_or-set_other}
+use lib.ListN.{length, get_or, set, drop, length-set}
+use lib.Seq.{take-suc-set, get_or-set_same, get_or-set_other}
+use Rattle.std.proofs.lemmas.List.{at_drop_more, at_drop_all}
 use Rattle.utilities.specs.declared.CompassDir.{CompassDir}
+use Rattle.utilities.specs.declared.CompassDir.TheVariants.{North}
 use Rattle.utilities.specs.Lists.{cons_if}
 use Rattle.fields.specs.declared.FieldCell.{FieldCell}
-use Rattle.fields.specs.declared.Stepped.{Stepped}
-use Rattle.fields.specs.declared.Stepped.TheVariants.{Cell, Outside}
+use Rattle.std.specs.Prelude.{Option, Some, None}
 use Rattle.fields.specs.Cell.{cell_at, index_of, stepped}
+use Rattle.fields.specs.declared.CellList.{CellList}
+use Rattle.fields.specs.CellList.{held, pushed}
 use Rattle.integration_field.specs.Word.{is_portal}
 use Rattle.integration_field.specs.Diagonal.{wall_at}
 use Rattle.integration_field.specs.Listed.{Indexes}
 use Rattle.flow_byte.specs.New.{is_in}
 use Rattle.flow_byte.specs.Look.{is_passed_over}
-use Rattle.bounds_told.specs.Bounds.{some_of, every_of, cons_permitted, permitted_along, permitted_from, is_below_others, is_sure}
+use Rattle.bounds_told.specs.Bounds.{some_of, cons_permitted, permitted_along, permitted_from, is_below_others, is_sure}
 use Rattle.bounds_told.proofs.Permitted.{listed_told, permitted_in}
-
--- ---- a test of what is left
-
-module _ (p : ℕ → Bool) (l : List ℕ) (n : ℕ) where
-  pub some_here : (i : ℕ) → i < n → n ≤ length l → some_of p (slice i n l) ≡ (p (get_or l i 0) || some_of p (slice (i + 1) n l))
-  some_here i h k =
-      ap (some_of p) (slice-cons i n l 0 h k) ∙ ap (λ (j : ℕ). p (get_or l i 0) || some_of p (slice j n l)) (sym (add-one i))
-
-  pub some_over : some_of p (slice n n l) ≡ false
-  some_over = ap (some_of p) (slice_empty n l)
-
-  pub every_here : (i : ℕ) → i < n → n ≤ length l → every_of p (slice i n l) ≡ (p (get_or l i 0) && every_of p (slice (i + 1) n l))
-  every_here i h k =
-      ap (every_of p) (slice-cons i n l 0 h k) ∙ ap (λ (j : ℕ). p (get_or l i 0) && every_of p (slice j n l)) (sym (add-one i))
-
-  pub every_over : every_of p (slice n n l) ≡ true
-  every_over = ap (every_of p) (slice_empty n l)
 
 -- tests that agree on the entries of a list
 pub some_same : (p q : ℕ → Bool) (l : List ℕ) → ((x : ℕ) → Memᴰ x l → p x ≡ q x) → some_of p l ≡ some_of q l
@@ -76,21 +62,21 @@ module _ (cells : List ℕ) (i : ℕ) where
       tested true n = refl
       tested false n = refl
 
-      go : (t : Stepped) → cons_permitted cells i t (permitted_along cells i ds) ≡ cons_permitted cells i t [] ++ permitted_along cells i ds
-      go (Cell c) = tested (not (is_passed_over cells i (index_of c))) (index_of c)
-      go Outside = refl
+      go : (t : Option FieldCell) → cons_permitted cells i t (permitted_along cells i ds) ≡ cons_permitted cells i t [] ++ permitted_along cells i ds
+      go (Some c) = tested (not (is_passed_over cells i (index_of c))) (index_of c)
+      go None = refl
 
   -- what is found in one direction: nothing, or the cell there
-  pub along_outside : (d : CompassDir) → stepped (cell_at i) d ≡ Outside → permitted_along cells i (d ∷ []) ≡ []
+  pub along_outside : (d : CompassDir) → stepped (cell_at i) d ≡ None → permitted_along cells i (d ∷ []) ≡ []
   unfolding permitted_along
   along_outside d e = rw e
 
-  pub along_passed : (d : CompassDir) (c : FieldCell) → stepped (cell_at i) d ≡ Cell c → is_passed_over cells i (index_of c) ≡ true
+  pub along_passed : (d : CompassDir) (c : FieldCell) → stepped (cell_at i) d ≡ Some c → is_passed_over cells i (index_of c) ≡ true
       → permitted_along cells i (d ∷ []) ≡ []
   unfolding permitted_along
   along_passed d c e p = rw (e, p)
 
-  pub along_found : (d : CompassDir) (c : FieldCell) → stepped (cell_at i) d ≡ Cell c → is_passed_over cells i (index_of c) ≡ false
+  pub along_found : (d : CompassDir) (c : FieldCell) → stepped (cell_at i) d ≡ Some c → is_passed_over cells i (index_of c) ≡ false
       → permitted_along cells i (d ∷ []) ≡ index_of c ∷ []
   unfolding permitted_along
   along_found d c e p = rw (e, p)
@@ -99,13 +85,37 @@ module _ (cells : List ℕ) (i : ℕ) where
       → l ++ permitted_along cells i (d ∷ ds) ≡ (l ++ permitted_along cells i (d ∷ [])) ++ permitted_along cells i ds
   along_more l d ds = ap (λ r. l ++ r) (along_split d ds) ∙ sym (append_assoc l (permitted_along cells i (d ∷ [])) (permitted_along cells i ds))
 
-  pub along_both : (ds es : List CompassDir) → permitted_along cells i (ds ++ es) ≡ permitted_along cells i ds ++ permitted_along cells i es
+  -- what is listed after k directions of a list: the neighbours in these, so that with those in the others they are all
+  pub record Listed (ds : List CompassDir) (k : ℕ) (l : CellList 8) : Type 0 where
+    pub cells_in : Indexes 8 l.cells l.count
+    pub few : l.count ≤ k
+    pub rest : held l ++ permitted_along cells i (drop k ds) ≡ permitted_along cells i ds
+
+  next : (ds : List CompassDir) (k : ℕ) (l : List ℕ) → k < length ds
+      → l ++ permitted_along cells i (drop k ds) ≡ (l ++ permitted_along cells i (get_or ds k North ∷ [])) ++ permitted_along cells i (drop (k + 1) ds)
+  next ds k l h = at_drop_more (λ r. l ++ permitted_along cells i r) ds k North h ∙ along_more l (get_or ds k North) (drop (k + 1) ds)
+
+  pub listed_over : (ds : List CompassDir) (k : ℕ) (l : CellList 8) → k < length ds → Listed ds k l
+      → permitted_along cells i (get_or ds k North ∷ []) ≡ [] → Listed ds (k + 1) l
+  listed_over ds k l h t e = record {
+    cells_in = t.cells_in;
+    few = omega (arith, t.few);
+    rest = sym (next ds k (held l) h ∙ rw (e, append-nil (held l))) ∙ t.rest;
+  }
+
+  pub listed_more : (ds : List CompassDir) (k : ℕ) (l : CellList 8) (n : ℕ) → k < length ds → length ds ≤ 8 → n < 100 → Listed ds k l
+      → n ∷ [] ≡ permitted_along cells i (get_or ds k North ∷ []) → Listed ds (k + 1) (pushed n l)
+  listed_more ds k l n h few m t e =
+      let full : l.count < length l.cells = omega (arith, t.few, t.cells_in.full) in
+      record {
+        cells_in = indexes_more 8 l.cells l.count n t.cells_in (omega (arith, t.few)) m;
+        few = omega (arith, t.few);
+        rest = rw (add-one l.count, take-suc-set l.cells l.count n full, e) (sym (next ds k (held l) h) ∙ t.rest);
+      }
+
+  pub listed_all : (ds : List CompassDir) (k : ℕ) (l : CellList 8) → length ds ≤ k → Listed ds k l → held l ≡ permitted_along cells i ds
   unfolding permitted_along
-  along_both [] es = refl
-  along_both (d ∷ ds) es =
-      along_split d (ds ++ es) ∙ ap (λ r. permitted_along cells i (d ∷ []) ++ r) (along_both ds es)
-      ∙ sym (append_assoc (permitted_along cells i (d ∷ [])) (permitted_along cells i ds) (permitted_along cells i es))
-      ∙ ap (λ r. r ++ permitted_along cells i es) (sym (along_split d ds))
+  listed_all ds k l h t = sym (append-nil (held l)) ∙ sym (at_drop_all (λ r. held l ++ permitted_along cells i r) ds k h) ∙ t.rest
 
 -- ---- a sure cell, its window cells told by their flags
 

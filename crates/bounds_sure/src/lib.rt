@@ -1,19 +1,18 @@
 // The built costs of a field's cells, and which cells are sure by them: the permitted neighbours of each are compared.
 #![tactic(auto)]
 
-ghost use Rattle.std.specs.Prelude.{◌≡◌, List, [], ◌∷◌, map, ℕ, ◌<◌, ltb, get_or, ◌&&◌};
+ghost use Rattle.std.specs.Prelude.{◌≡◌, List, [], ◌∷◌, map, ℕ, ◌<◌, ltb, get_or, ◌&&◌, option_to_list, IfSome};
 ghost use Rattle.utilities.specs.Lists.{below};
 ghost use Rattle.fields.specs.Cell.{Inside, index_of};
+ghost use Rattle.fields.specs.CellList.{held};
 ghost use Rattle.integration_field.specs.Word.{is_portal};
 ghost use Rattle.integration_field.specs.Listed.{Indexes};
 ghost use Rattle.flow_byte.specs.New.{is_in};
 ghost use Rattle.flow_byte.specs.Look.{is_passed_over};
 ghost use Rattle.flow_arrows.specs.Arrows.{built_cost};
-ghost use Rattle.bounds_told.specs.Bounds.{some_of, permitted_from, is_below_others, is_sure};
-ghost use Rattle.bounds_told.specs.Inner.{held_permitted, RoomFor, FoundAlong};
+ghost use Rattle.bounds_told.specs.Bounds.{some_of, permitted_along, permitted_from, is_below_others, is_sure};
 
-use bounds_told::PermittedCells;
-use fields::{FieldCell, Stepped};
+use fields::{CellList, FieldCell};
 use utilities::CompassDir;
 
 // Whether the look from a cell passes over a neighbour: it is a wall, or the move there is diagonal and passes one.
@@ -30,143 +29,92 @@ fn is_passed_over(cells: &[u32; 100], from: FieldCell, to: FieldCell) -> bool
     integration_bits::passes_wall(from, to, in_row, in_column)
 }
 
-// Adds the neighbour in one direction, if it is permitted, behind the permitted neighbours found so far.
-fn permitted_towards(
-    cells: &[u32; 100],
-    index: usize,
-    found: PermittedCells,
-    dir: CompassDir,
-) -> PermittedCells
-    requires { RoomFor 1 index found }
-    ensures { FoundAlong cells.now index (dir ∷ []) found result }
+// The neighbour in one direction, by its index, if it is permitted.
+fn permitted_towards(cells: &[u32; 100], index: usize, dir: CompassDir) -> Option<u8>
+    requires { index < 100 }
+    ensures found { option_to_list result ≡ permitted_along cells.now index (dir ∷ []) }
+    ensures inside { IfSome result (λ n. n < 100) }
 {
     let from = FieldCell::from_index(index);
-    let Stepped::Cell(to) = from.get_in_compass_direction(dir) else {
-        return found;
+    let Some(to) = from.get_in_compass_direction(dir) else {
+        return None;
     };
     if is_passed_over(cells, from, to) {
-        return found;
+        return None;
     }
-    let mut places = found.cells;
-    let count = found.count;
-    places[count] = to.as_1d_index();
-    PermittedCells {
-        cells: places,
-        count: count + 1,
-    }
+    Some(to.as_1d_index() as u8)
 }
 
-// Adds the permitted neighbours in four directions, one after the other, behind those found so far.
-fn permitted_along(
-    cells: &[u32; 100],
-    index: usize,
-    found: PermittedCells,
-    first: CompassDir,
-    second: CompassDir,
-    third: CompassDir,
-    fourth: CompassDir,
-) -> PermittedCells
-    requires { RoomFor 4 index found }
-    ensures { FoundAlong cells.now index (first ∷ second ∷ third ∷ fourth ∷ []) found result }
-{
-    let one = permitted_towards(cells, index, found, first);
-    let two = permitted_towards(cells, index, one, second);
-    let three = permitted_towards(cells, index, two, third);
-    permitted_towards(cells, index, three, fourth)
+// The permitted neighbours of a cell, in the order of its look.
+#[derive(Clone, Copy)]
+struct Neighbours {
+    listed: CellList<8>,
+    ghost cells_in: { Indexes 8 listed.cells listed.count },
 }
 
-// The permitted neighbours of a cell, in the order of its look: its sides, then its corners.
-fn permitted_from(cells: &[u32; 100], index: usize) -> PermittedCells
+// The permitted neighbours of a cell: its sides, then its corners.
+fn permitted_from(cells: &[u32; 100], index: usize) -> Neighbours
     requires { index < 100 }
-    ensures { (held_permitted result ≡ permitted_from cells.now index) × (Indexes 8 result.cells result.count) }
+    ensures { held result.listed ≡ permitted_from cells.now index }
 {
-    let none = PermittedCells {
-        cells: [0; 8],
-        count: 0,
-    };
-    let sides = permitted_along(
-        cells,
-        index,
-        none,
+    let mut listed = CellList::none();
+    for dir in [
         CompassDir::North,
         CompassDir::East,
         CompassDir::South,
         CompassDir::West,
-    );
-    permitted_along(
-        cells,
-        index,
-        sides,
         CompassDir::NorthEast,
         CompassDir::SouthEast,
         CompassDir::SouthWest,
         CompassDir::NorthWest,
-    )
-}
-
-// Whether one of the neighbours is a window cell.
-fn has_window(cells: &[u32; 100], neighbours: PermittedCells) -> bool
-    requires { Indexes 8 neighbours.cells neighbours.count }
-    ensures { result ≡ some_of (λ n. is_portal (get_or cells.now n 0)) (held_permitted neighbours) }
-{
-    let places = neighbours.cells;
-    let count = neighbours.count;
-    let mut i = 0;
-    while i < count {
-        if integration_bits::is_portal(cells[places[i]]) {
-            return true;
+    ] {
+        if let Some(to) = permitted_towards(cells, index, dir) {
+            listed.push(to);
         }
-        i += 1;
     }
-    false
+    Neighbours { listed }
 }
 
-// Whether the greatest cost of one neighbour is strictly below the least cost of all others.
-fn is_below_others(
-    least: &[u32; 100],
-    greatest: &[u32; 100],
-    neighbours: PermittedCells,
-    one: usize,
-) -> bool
-    requires { (Indexes 8 neighbours.cells neighbours.count) × (one < 100) }
-    ensures { result ≡ is_below_others least.now greatest.now (held_permitted neighbours) one }
-{
-    let places = neighbours.cells;
-    let count = neighbours.count;
-    let most = greatest[one];
-    let mut i = 0;
-    while i < count {
-        let other = places[i];
-        if other != one {
-            if least[other] <= most {
-                return false;
-            }
-        }
-        i += 1;
-    }
-    true
-}
-
-// Whether one of the neighbours is reached, and its greatest cost strictly below the least cost of all others.
-fn has_least(least: &[u32; 100], greatest: &[u32; 100], neighbours: PermittedCells) -> bool
-    requires { Indexes 8 neighbours.cells neighbours.count }
-    ensures { result ≡ some_of
-        (λ n. ltb (get_or greatest.now n 0) 65535 && is_below_others least.now greatest.now (held_permitted neighbours) n)
-        (held_permitted neighbours) }
-{
-    let places = neighbours.cells;
-    let count = neighbours.count;
-    let mut i = 0;
-    while i < count {
-        let one = places[i];
-        if greatest[one] < 65535 {
-            if is_below_others(least, greatest, neighbours, one) {
+impl Neighbours {
+    // Whether one of them is a window cell.
+    fn has_window(self, cells: &[u32; 100]) -> bool
+        ensures { result ≡ some_of (λ n. is_portal (get_or cells.now n 0)) (held self.listed) }
+    {
+        for n in &self.listed.cells[..self.listed.count] {
+            if integration_bits::is_portal(cells[usize::from(*n)]) {
                 return true;
             }
         }
-        i += 1;
+        false
     }
-    false
+
+    // Whether the greatest cost of one of them is strictly below the least cost of all others.
+    fn is_below_others(self, least: &[u32; 100], greatest: &[u32; 100], one: u8) -> bool
+        requires { one < 100 }
+        ensures { result ≡ is_below_others least.now greatest.now (held self.listed) one }
+    {
+        let most = greatest[usize::from(one)];
+        for other in &self.listed.cells[..self.listed.count] {
+            if *other != one && least[usize::from(*other)] <= most {
+                return false;
+            }
+        }
+        true
+    }
+
+    // Whether one of them is reached, and its greatest cost strictly below the least cost of all others.
+    fn has_least(self, least: &[u32; 100], greatest: &[u32; 100]) -> bool
+        ensures { result ≡ some_of
+            (λ n. ltb (get_or greatest.now n 0) 65535 && is_below_others least.now greatest.now (held self.listed) n)
+            (held self.listed) }
+    {
+        for one in &self.listed.cells[..self.listed.count] {
+            if greatest[usize::from(*one)] < 65535 && self.is_below_others(least, greatest, *one) {
+                return true;
+            }
+        }
+        false
+    }
 }
 
 // Whether a cell is sure (02, "Job 9"): neither wall nor window cell itself, it has among its permitted neighbours a window cell, or one whose greatest
@@ -185,10 +133,7 @@ fn is_sure(cells: &[u32; 100], least: &[u32; 100], greatest: &[u32; 100], index:
         return false;
     }
     let neighbours = permitted_from(cells, index);
-    if has_window(cells, neighbours) {
-        return true;
-    }
-    has_least(least, greatest, neighbours)
+    neighbours.has_window(cells) || neighbours.has_least(least, greatest)
 }
 
 // Which cells are sure.
@@ -198,23 +143,19 @@ pub fn sure_cells(cells: &[u32; 100], least: &[u32; 100], greatest: &[u32; 100])
         → result ≡ map (is_sure cells.now window least.now greatest.now) (below 100) }
 {
     let mut sure = [false; 100];
-    let mut i = 0;
-    while i < 100 {
+    for i in 0..100 {
         sure[i] = is_sure(cells, least, greatest, i);
-        i += 1;
     }
     sure
 }
 
-// The cost of each cell, without its flags.
+// The cost of each cell, without its flags. `map` over an array is slower than the loop.
 pub fn costs_of(cells: &[u32; 100]) -> [u32; 100]
     ensures { result ≡ map (built_cost cells.now) (below 100) }
 {
     let mut costs = [0; 100];
-    let mut i = 0;
-    while i < 100 {
+    for i in 0..100 {
         costs[i] = integration_bits::low_bits(cells[i]);
-        i += 1;
     }
     costs
 }

@@ -15,8 +15,7 @@ use Rattle.utilities.specs.declared.CompassDir.TheVariants.{Zero}
 use Rattle.utilities.specs.Compass.{all}
 use Rattle.utilities.specs.Lists.{cons_if}
 use Rattle.fields.specs.declared.FieldCell.{FieldCell}
-use Rattle.fields.specs.declared.Stepped.{Stepped}
-use Rattle.fields.specs.declared.Stepped.TheVariants.{Cell, Outside}
+use Rattle.std.specs.Prelude.{Option, Some, None}
 use Rattle.fields.specs.Cell.{cell_at, index_of, stepped}
 use Rattle.fields.proofs.Steps.{index_of_cell}
 use Rattle.integration_field.specs.Diagonal.{wall_at, passes_wall}
@@ -62,7 +61,7 @@ module _ (cells : List ℕ) (i : ℕ) (h : i < 100) where
       later : SeenAlong ds n → SeenAlong (d ∷ ds) n
       later r = (r.0, Memᴰ.tail r.1, r.2)
 
-      tested : (c : FieldCell) → stepped (cell_at i) d ≡ Cell c → (b : Bool) → is_passed_over cells i (index_of c) ≡ b
+      tested : (c : FieldCell) → stepped (cell_at i) d ≡ Some c → (b : Bool) → is_passed_over cells i (index_of c) ≡ b
           → Memᴰ n (cons_if (not b) (index_of c) (permitted_along cells i ds))
           → (Memᴰ n (permitted_along cells i ds) → SeenAlong (d ∷ ds) n) → SeenAlong (d ∷ ds) n
       tested c e true q k f = f k
@@ -72,18 +71,18 @@ module _ (cells : List ℕ) (i : ℕ) (h : i < 100) where
           found (inl r) = (d, Memᴰ.head refl, rw r (open_sees cells i h d c e q))
           found (inr k) = f k
 
-      at_step : (t : Stepped) → stepped (cell_at i) d ≡ t → Memᴰ n (cons_permitted cells i t (permitted_along cells i ds))
+      at_step : (t : Option FieldCell) → stepped (cell_at i) d ≡ t → Memᴰ n (cons_permitted cells i t (permitted_along cells i ds))
           → (Memᴰ n (permitted_along cells i ds) → SeenAlong (d ∷ ds) n) → SeenAlong (d ∷ ds) n
-      at_step (Cell c) e k f = tested c e (is_passed_over cells i (index_of c)) refl k f
-      at_step Outside e k f = f k
+      at_step (Some c) e k f = tested c e (is_passed_over cells i (index_of c)) refl k f
+      at_step None e k f = f k
 
-  kept : (t : Stepped) (n : ℕ) (l : List ℕ) → Memᴰ n l → Memᴰ n (cons_permitted cells i t l)
-  kept (Cell c) n l m = go (is_passed_over cells i (index_of c))
+  kept : (t : Option FieldCell) (n : ℕ) (l : List ℕ) → Memᴰ n l → Memᴰ n (cons_permitted cells i t l)
+  kept (Some c) n l m = go (is_passed_over cells i (index_of c))
     where
       go : (b : Bool) → Memᴰ n (cons_if (not b) (index_of c) l)
       go true = m
       go false = Memᴰ.tail m
-  kept Outside n l m = m
+  kept None n l m = m
 
   seen_listed : (ds : List CompassDir) (n : ℕ) (d : CompassDir) → Memᴰ d ds → Sees cells i d n → Memᴰ n (permitted_along cells i ds)
   unfolding permitted_along
@@ -92,7 +91,7 @@ module _ (cells : List ℕ) (i : ℕ) (h : i < 100) where
     where
       go : (d ≡ e) ⊎ Memᴰ d ds → (Memᴰ d ds → Memᴰ n (permitted_along cells i ds)) → Memᴰ n (permitted_along cells i (e ∷ ds))
       go (inl q) f =
-          let at : stepped (cell_at i) e ≡ Cell (cell_at n) = rw (← q) s.steps in
+          let at : stepped (cell_at i) e ≡ Some (cell_at n) = rw (← q) s.steps in
           rw (at, index_of_cell n, sees_open s) (Memᴰ.head refl)
       go (inr k) f = kept (stepped (cell_at i) e) n (permitted_along cells i ds) (f k)
 

@@ -1,12 +1,11 @@
 -- The call for bounds (02, "Job 9"): two lent floors of 100 bytes, low and high, and a window step; it answers for each cell the least and the
 -- greatest built cost over all floors between them, and whether the cell is sure. That these are the bounds is a theorem (`Promise`).
 -- Assumes nothing.
-use Rattle.std.specs.Prelude.{Bool, true, false, not, cond, ◌&&◌, ◌||◌, List, [], ◌∷◌, map, ℕ, ltb, eqb, length, get_or, replicate}
+use Rattle.std.specs.Prelude.{Bool, true, false, not, cond, ◌&&◌, ◌||◌, List, [], ◌∷◌, map, ℕ, ltb, eqb, length, get_or, replicate, Option, Some, None}
 use Rattle.utilities.specs.declared.CompassDir.{CompassDir}
 use Rattle.utilities.specs.Compass.{all}
 use Rattle.utilities.specs.Lists.{below, cons_if}
-use Rattle.fields.specs.declared.Stepped.{Stepped}
-use Rattle.fields.specs.declared.Stepped.TheVariants.{Cell, Outside}
+use Rattle.fields.specs.declared.FieldCell.{FieldCell}
 use Rattle.fields.specs.Cell.{cell_at, index_of, stepped}
 use Rattle.route.specs.Table.{row, first_number}
 use Rattle.route.specs.Step.{is_window, is_wall_cost, step_number_on}
@@ -56,9 +55,9 @@ costs_on costs target = map (built_cost (built_cells costs target)) (below 100)
 -- ---- sure cells
 
 -- the cell where a step from cell i arrives, before the list, unless it is passed over
-abbrev pub cons_permitted : List ℕ → ℕ → Stepped → List ℕ → List ℕ
-cons_permitted cells i (Cell c) l = cons_if (not (is_passed_over cells i (index_of c))) (index_of c) l
-cons_permitted cells i Outside l = l
+abbrev pub cons_permitted : List ℕ → ℕ → Option FieldCell → List ℕ → List ℕ
+cons_permitted cells i (Some c) l = cons_if (not (is_passed_over cells i (index_of c))) (index_of c) l
+cons_permitted cells i None l = l
 
 -- in the order of a list of directions
 unfoldable pub permitted_along : List ℕ → ℕ → List CompassDir → List ℕ

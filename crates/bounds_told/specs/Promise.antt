@@ -1,12 +1,11 @@
 -- What is promised of bounds and of sure cells (02, "Job 9"), told by floors, by what a look passes over and by costs, and by nothing that makes
 -- the lists of an answer.
 -- Assumes nothing.
-use Rattle.std.specs.Prelude.{◌≡◌, Bool, true, false, ◌⊎◌, ◌↔◌, ℕ, ◌≤◌, ◌<◌, length, get_or}
+use Rattle.std.specs.Prelude.{◌≡◌, Bool, true, false, ◌⊎◌, ◌↔◌, ℕ, ◌≤◌, ◌<◌, length, get_or, Some}
 use mathlib.Core.List.{List, Memᴰ}
 use Rattle.utilities.specs.declared.CompassDir.{CompassDir}
 use Rattle.utilities.specs.Compass.{all}
 use Rattle.utilities.specs.Padded.{AllZero}
-use Rattle.fields.specs.declared.Stepped.TheVariants.{Cell}
 use Rattle.fields.specs.Cell.{cell_at, stepped}
 use Rattle.route.specs.Step.{mark_of, step_number_on}
 use Rattle.route.specs.Target.{Target, WindowCell}
@@ -45,7 +44,7 @@ PassesOver cells x d = (best : CompassDir) (value : ℕ) → look_at cells x (Lo
 pub record PermittedNeighbour (cells : List ℕ) (x n : ℕ) : Type 0 where
   pub way : CompassDir
   pub looked_at : Memᴰ way all
-  pub arrives : stepped (cell_at x) way ≡ Cell (cell_at n)
+  pub arrives : stepped (cell_at x) way ≡ Some (cell_at n)
   pub not_passed : PassesOver cells x way → ⊥
 
 -- A permitted neighbour by rows and columns, and by nothing of a look (02, "Job 9", and "Job 7" for the diagonals that are barred): a cell of the sector

@@ -1,4 +1,4 @@
-// Bounds of built costs over all floors between two: definitions and theorems, and the records of their code.
+// Bounds of built costs over all floors between two: definitions and theorems, and the record of the call.
 #![tactic(auto)]
 
 // What the call for bounds answers: its number, each cell's least and greatest built cost, and whether the cell is sure.
@@ -9,11 +9,4 @@ pub struct Bounds {
     pub least: [u32; 100],
     pub greatest: [u32; 100],
     pub sure: [bool; 100],
-}
-
-// The permitted neighbours of a cell: `count` of them, in the first places.
-#[derive(Clone, Copy)]
-pub struct PermittedCells {
-    pub cells: [usize; 8],
-    pub count: usize,
 }

@@ -10,10 +10,10 @@ use lib.ListN.{length, set, replicate, replicate-append-replicate, length-replic
 use lib.Seq.{set_at}
 use Rattle.utilities.specs.Padded.{padded}
 use Rattle.line_nearest.specs.Table.{table}
-use Rattle.bresenham.specs.Inner.{listed, list_place, blank}
+use Rattle.bresenham.specs.Inner.{listed, list_place}
 use Rattle.line_nearest.proofs.Lists.{length_table, table_suc, table_set}
 
-abbrev zeros : ℕ → List ℕ
+abbrev pub zeros : ℕ → List ℕ
 zeros n = replicate n 0
 
 abbrev pub written : Bool → ℕ → ℕ → (ℕ → ℕ) → List ℕ
@@ -21,7 +21,7 @@ written true m k f = zeros (m + 1 - k) ++ (reverse (table k f) ++ zeros (9 - m))
 written false m k f = padded 10 0 (table k f)
 
 module _ (m : ℕ) (f : ℕ → ℕ) (room : m < 10) where
-  pub none_written : (back : Bool) → written back m 0 f ≡ blank
+  pub none_written : (back : Bool) → written back m 0 f ≡ zeros 10
   unfolding table
   none_written true = let e : m + 1 - 0 + (9 - m) ≡ 10 = omega arith in replicate-append-replicate (m + 1 - 0) (9 - m) 0 ∙ ap zeros e
   none_written false = refl

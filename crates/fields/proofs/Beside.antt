@@ -14,7 +14,7 @@ use Rattle.utilities.specs.declared.CompassDir.{CompassDir}
 use Rattle.utilities.specs.declared.CompassDir.TheVariants.{North, East, South, West}
 use Rattle.utilities.specs.Compass.{orthogonal}
 use Rattle.fields.specs.declared.FieldCell.{FieldCell}
-use Rattle.fields.specs.declared.Stepped.TheVariants.{Cell}
+use Rattle.std.specs.Prelude.{Some}
 use Rattle.fields.specs.Cell.{Inside, stepped}
 use Rattle.fields.specs.Neighbours.{ByOne, Beside, BesideAt}
 use Rattle.fields.specs.Steps.{Arrives}
@@ -33,7 +33,7 @@ module _ (a b : FieldCell) (i : Inside a) where
   west_beside : Arrives a West b → Beside a b
   west_beside r = let t = told a West b r in record { this_in = i; other_in = r.within; one_apart = inr (omega arith, inr (omega arith)) }
 
-  pub step_beside : (d : CompassDir) → Memᴰ d orthogonal → stepped a d ≡ Cell b → Beside a b
+  pub step_beside : (d : CompassDir) → Memᴰ d orthogonal → stepped a d ≡ Some b → Beside a b
   step_beside d m e = first (Memᴰ.cases_cons m)
     where
       at : (d' : CompassDir) → d ≡ d' → Arrives a d' b
@@ -55,7 +55,7 @@ module _ (a b : FieldCell) (i : Inside a) where
       first (inl q) = north_beside (at North q)
       first (inr n) = second (Memᴰ.cases_cons n)
 
-pub beside_step : (a b : FieldCell) → Beside a b → (d : CompassDir) × Memᴰ d orthogonal × (stepped a d ≡ Cell b)
+pub beside_step : (a b : FieldCell) → Beside a b → (d : CompassDir) × Memᴰ d orthogonal × (stepped a d ≡ Some b)
 beside_step a b r = pick r.one_apart
   where
     ii : Inside a
@@ -65,7 +65,7 @@ beside_step a b r = pick r.one_apart
     oo = r.other_in
 
     pick : ((a.column ≡ b.column) × ByOne a.row b.row) ⊎ ((a.row ≡ b.row) × ByOne a.column b.column)
-        → (d : CompassDir) × Memᴰ d orthogonal × (stepped a d ≡ Cell b)
+        → (d : CompassDir) × Memᴰ d orthogonal × (stepped a d ≡ Some b)
     pick (inl (p, inl q)) = (
       South,
       Memᴰ.tail (Memᴰ.tail (Memᴰ.head refl)),

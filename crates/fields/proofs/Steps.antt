@@ -31,8 +31,7 @@ use Rattle.utilities.specs.Compass.{differences, points, within, rises, falls, o
 use Rattle.utilities.proofs.Compass.{small, opposite_differences, opposite_points}
 use Rattle.utilities.proofs.Sums.{sum_told, sum_made, within_true, true_within, back, ten_rises, ten_falls}
 use Rattle.fields.specs.declared.FieldCell.{FieldCell}
-use Rattle.fields.specs.declared.Stepped.{Stepped}
-use Rattle.fields.specs.declared.Stepped.TheVariants.{Cell, Outside}
+use Rattle.std.specs.Prelude.{Option, Some, None}
 use Rattle.fields.specs.Cell.{cell, Inside, inside, index_of, cell_at, index_or, cell_if, stepped}
 use Rattle.fields.specs.Steps.{Arrives, BySums, Undone}
 use Rattle.fields.specs.Inner.{Near, StaysInside}
@@ -78,7 +77,7 @@ cell_of_index c h =
     let q : index_of c / 10 ≡ c.row = omega arith in
     rw (p, q)
 
-if_cell : (b : Bool) (x n : FieldCell) → cell_if b x ≡ Cell n → (b ≡ true) × (x ≡ n)
+if_cell : (b : Bool) (x n : FieldCell) → cell_if b x ≡ Some n → (b ≡ true) × (x ≡ n)
 if_cell true x n e = (refl, cc)
 if_cell false x n e = let z : ◌≡◌ {A = ℕ} 0 1 = cc in absurd (omega arith)
 
@@ -98,7 +97,7 @@ module _ (c : FieldCell) (d : CompassDir) where
   abbrev pub row_sum : ℤ
   row_sum = pos c.row +ℤ δ.row
 
-  pub stepped_cell : (n : FieldCell) → stepped c d ≡ Cell n → Arrives c d n
+  pub stepped_cell : (n : FieldCell) → stepped c d ≡ Some n → Arrives c d n
   unfolding stepped
   stepped_cell n e =
       let i = if_cell _ _ n e in
@@ -114,7 +113,7 @@ module _ (c : FieldCell) (d : CompassDir) where
       })
 
   -- and the converse: a step arrives where its sums lie in 0 to 9
-  pub steps_to : (n : FieldCell) → Arrives c d n → stepped c d ≡ Cell n
+  pub steps_to : (n : FieldCell) → Arrives c d n → stepped c d ≡ Some n
   unfolding stepped
   steps_to n a =
       rw (
@@ -132,7 +131,7 @@ module _ (c : FieldCell) (d : CompassDir) where
     rows = sum_told c.row n.row δ.row a.row_at;
   }
 
-  pub steps_by : (n : FieldCell) → points d ≡ true → Told c d n → Inside n → stepped c d ≡ Cell n
+  pub steps_by : (n : FieldCell) → points d ≡ true → Told c d n → Inside n → stepped c d ≡ Some n
   steps_by n t w i = steps_to n (record {
     pointing = t;
     column_at = sum_made c.column n.column δ.column w.columns;
@@ -141,29 +140,29 @@ module _ (c : FieldCell) (d : CompassDir) where
   })
 
   -- a step that arrives nowhere leaves the sector
-  pub steps_out : ((n : FieldCell) → Arrives c d n → ⊥) → stepped c d ≡ Outside
+  pub steps_out : ((n : FieldCell) → Arrives c d n → ⊥) → stepped c d ≡ None
   steps_out none = told (stepped c d) refl
     where
-      told : (t : Stepped) → stepped c d ≡ t → t ≡ Outside
-      told (Cell n) e = absurd (none n (stepped_cell n e))
-      told Outside e = refl
+      told : (t : Option FieldCell) → stepped c d ≡ t → t ≡ None
+      told (Some n) e = absurd (none n (stepped_cell n e))
+      told None e = refl
 
-  cell_or : (n : FieldCell) → Cell n ≡ Outside → ⊥
+  cell_or : (n : FieldCell) → Some n ≡ None → ⊥
   cell_or n e = let z : ◌≡◌ {A = ℕ} 0 1 = cc in omega arith
 
   -- what is promised of a step: it goes by sums ..
-  pub by_sums : (r : Stepped) → r ≡ stepped c d → BySums c d r
+  pub by_sums : (r : Option FieldCell) → r ≡ stepped c d → BySums c d r
   by_sums r e = record {
     arrives = λ n. (λ f. stepped_cell n (sym e ∙ f), λ a. e ∙ steps_to n a);
     leaves = (λ f n a. cell_or n (sym (steps_to n a) ∙ sym e ∙ f), λ none. e ∙ steps_out none);
   }
 
   -- a step worked out by its two sums: the cell at them, or outside
-  pub summed_in : points d ≡ true → within 9 column_sum ≡ true → within 9 row_sum ≡ true → stepped c d ≡ Cell (cell (nat_abs column_sum) (nat_abs row_sum))
+  pub summed_in : points d ≡ true → within 9 column_sum ≡ true → within 9 row_sum ≡ true → stepped c d ≡ Some (cell (nat_abs column_sum) (nat_abs row_sum))
   unfolding stepped
   summed_in t h k = rw (t, h, k)
 
-  pub summed_out : (within 9 column_sum ≡ false) ⊎ (within 9 row_sum ≡ false) → stepped c d ≡ Outside
+  pub summed_out : (within 9 column_sum ≡ false) ⊎ (within 9 row_sum ≡ false) → stepped c d ≡ None
   summed_out o = steps_out (λ n a. none o n a)
     where
       none : (within 9 column_sum ≡ false) ⊎ (within 9 row_sum ≡ false) → (n : FieldCell) → Arrives c d n → ⊥
@@ -171,15 +170,15 @@ module _ (c : FieldCell) (d : CompassDir) where
       none (inr h) n a = false≢true (sym h ∙ rw (← a.row_at) (true_within 9 n.row (omega (arith, a.within.row_in))))
 
 -- where a step from an index arrives
-pub step_told : (from : ℕ) (d : CompassDir) {c : FieldCell} {t u : Stepped} → c ≡ cell_at from → t ≡ stepped c d → t ≡ u → stepped (cell_at from) d ≡ u
+pub step_told : (from : ℕ) (d : CompassDir) {c : FieldCell} {t u : Option FieldCell} → c ≡ cell_at from → t ≡ stepped c d → t ≡ u → stepped (cell_at from) d ≡ u
 step_told from d e f g = ap (λ (x : FieldCell). stepped x d) (sym e) ∙ sym f ∙ g
 
 -- where that is a cell, the step stays inside
-pub step_stays : (from : ℕ) (d : CompassDir) {c n : FieldCell} {t : Stepped} → c ≡ cell_at from → t ≡ stepped c d → t ≡ Cell n → StaysInside from d
+pub step_stays : (from : ℕ) (d : CompassDir) {c n : FieldCell} {t : Option FieldCell} → c ≡ cell_at from → t ≡ stepped c d → t ≡ Some n → StaysInside from d
 step_stays from d {n = n} e f g = (n, step_told from d e f g)
 
 -- and that is one cell
-pub arrived_once : {t : Stepped} {n m : FieldCell} → t ≡ Cell n → t ≡ Cell m → n ≡ m
+pub arrived_once : {t : Option FieldCell} {n m : FieldCell} → t ≡ Some n → t ≡ Some m → n ≡ m
 arrived_once e f = cc
 
 -- the index of where it arrives: ten apart for a row, one for a column
@@ -206,7 +205,7 @@ index_arrived from d n a =
     }
 
 -- a step that stays inside is undone by the opposite step
-pub step_back : (c : FieldCell) (d : CompassDir) (n : FieldCell) → Inside c → stepped c d ≡ Cell n → stepped n (opposite d) ≡ Cell c
+pub step_back : (c : FieldCell) (d : CompassDir) (n : FieldCell) → Inside c → stepped c d ≡ Some n → stepped n (opposite d) ≡ Some c
 step_back c d n i e =
     let a = stepped_cell c d n e in
     let o = opposite_differences d in
@@ -218,15 +217,15 @@ step_back c d n i e =
     })
 
 -- .. and is undone
-pub undone : (c : FieldCell) (d : CompassDir) (r : Stepped) → r ≡ stepped c d → Undone c d r
+pub undone : (c : FieldCell) (d : CompassDir) (r : Option FieldCell) → r ≡ stepped c d → Undone c d r
 undone c d r e = record {
   back = λ i n f. step_back c d n (record { column_in = omega (arith, i.column_in); row_in = omega (arith, i.row_in) }) (sym e ∙ f);
 }
 
 -- all that is promised of a step
-pub promised : (c : FieldCell) (d : CompassDir) {r : Stepped} → r ≡ stepped c d → (r ≡ stepped c d) × (BySums c d r × Undone c d r)
+pub promised : (c : FieldCell) (d : CompassDir) {r : Option FieldCell} → r ≡ stepped c d → (r ≡ stepped c d) × (BySums c d r × Undone c d r)
 promised c d {r} e = (e, (by_sums c d r e, undone c d r e))
 
 -- `Zero` leads nowhere
-pub pointless : (c : FieldCell) (d : CompassDir) → points d ≡ false → stepped c d ≡ Outside
+pub pointless : (c : FieldCell) (d : CompassDir) → points d ≡ false → stepped c d ≡ None
 pointless c d e = steps_out c d (λ n a. false≢true (sym e ∙ a.pointing))

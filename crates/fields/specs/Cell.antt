@@ -1,11 +1,9 @@
 -- Cells of a sector and the steps between them (01, "A leg": cell index = row times 10 plus column; row 0 is north).
 -- Assumes nothing.
-use Rattle.std.specs.Prelude.{Bool, true, false, cond, ◌&&◌, ℕ, ◌+◌, ◌*◌, ◌/◌, ◌%◌, ◌<◌, ltb, pos, nat_abs, ◌+ℤ◌}
+use Rattle.std.specs.Prelude.{Bool, true, false, cond, ◌&&◌, ℕ, ◌+◌, ◌*◌, ◌/◌, ◌%◌, ◌<◌, ltb, pos, nat_abs, ◌+ℤ◌, Option, Some, None}
 use Rattle.utilities.specs.declared.CompassDir.{CompassDir}
 use Rattle.utilities.specs.Compass.{differences, points, within}
 use Rattle.fields.specs.declared.FieldCell.{FieldCell}
-use Rattle.fields.specs.declared.Stepped.{Stepped}
-use Rattle.fields.specs.declared.Stepped.TheVariants.{Cell, Outside}
 
 abbrev pub cell : ℕ → ℕ → FieldCell
 cell c r = record { column = c; row = r }
@@ -28,18 +26,18 @@ cell_at i = cell (i % 10) (i / 10)
 unfoldable pub index_or : ℕ → FieldCell → ℕ
 index_or n c = cond (inside c) (index_of c) n
 
--- a cell where the test holds, else Outside
-abbrev pub cell_if : Bool → FieldCell → Stepped
-cell_if true c = Cell c
-cell_if false c = Outside
+-- a cell where the test holds, else none
+abbrev pub cell_if : Bool → FieldCell → Option FieldCell
+cell_if true c = Some c
+cell_if false c = None
 
 -- the cell at a column and a row, where both lie in 0 to 9
-unfoldable pub the_cell_in : ℕ → ℕ → Stepped
+unfoldable pub the_cell_in : ℕ → ℕ → Option FieldCell
 the_cell_in c r = cell_if (inside (cell c r)) (cell c r)
 
 -- A step in a direction (02, "Job 5"): the cell at the two sums of the cell and the direction's differences, where both lie in 0 to 9, else
--- outside. `Zero` points nowhere.
-unfoldable pub stepped : FieldCell → CompassDir → Stepped
+-- none. `Zero` points nowhere.
+unfoldable pub stepped : FieldCell → CompassDir → Option FieldCell
 stepped c d =
     let column = pos c.column +ℤ (differences d).column in
     let row = pos c.row +ℤ (differences d).row in

@@ -1,9 +1,8 @@
 -- What a step, and the index of where it arrives, ask of their callers.
 -- Assumes nothing.
-use Rattle.std.specs.Prelude.{◌≡◌, ℕ, ◌^◌, ◌<◌}
+use Rattle.std.specs.Prelude.{◌≡◌, ℕ, ◌^◌, ◌<◌, Some}
 use Rattle.utilities.specs.declared.CompassDir.{CompassDir}
 use Rattle.fields.specs.declared.FieldCell.{FieldCell}
-use Rattle.fields.specs.declared.Stepped.TheVariants.{Cell}
 use Rattle.fields.specs.Cell.{cell_at, stepped}
 
 -- a cell whose sums do not leave 64 bits: every cell made of an index is one
@@ -13,4 +12,4 @@ pub record Near (c : FieldCell) : Type 0 where
 
 -- a step from the cell at an index arrives at a cell of the sector
 abbrev pub StaysInside : ℕ → CompassDir → Type 0
-StaysInside index dir = (n : FieldCell) × (stepped (cell_at index) dir ≡ Cell n)
+StaysInside index dir = (n : FieldCell) × (stepped (cell_at index) dir ≡ Some n)

@@ -20,8 +20,7 @@ use lib.ListN.{get_or}
 use borrow.Author.Tests.{eqb-true}
 use Rattle.utilities.specs.Compass.{points, all}
 use Rattle.fields.specs.declared.FieldCell.{FieldCell}
-use Rattle.fields.specs.declared.Stepped.{Stepped}
-use Rattle.fields.specs.declared.Stepped.TheVariants.{Cell, Outside}
+use Rattle.std.specs.Prelude.{Option, Some, None}
 use Rattle.fields.specs.Cell.{cell_at, index_of}
 use Rattle.fields.specs.Steps.{Arrives}
 use Rattle.fields.proofs.Steps.{stepped_cell, index_below, cell_of_index, index_of_cell}
@@ -42,7 +41,7 @@ bits_back a h e =
     eqb-true (bits_of (dir_with all a)) a (rw e at t)
 
 module _ (bytes : List ℕ) where
-  pub read_follows : (x : ℕ) (c : FieldCell) → x < 100 → read_step bytes x ≡ Cell c → Follows bytes x (index_of c)
+  pub read_follows : (x : ℕ) (c : FieldCell) → x < 100 → read_step bytes x ≡ Some c → Follows bytes x (index_of c)
   unfolding dir_of
   read_follows x c h e =
       let byte = get_or bytes x 0 in
@@ -53,7 +52,7 @@ module _ (bytes : List ℕ) where
       let at = away d x (index_of c) (subst (Arrives (cell_at x) d) (sym back) a) in
       record { leaves = h; away = subst (λ (b : ℕ). Away b x (index_of c)) bits at; enters = index_below c a.within }
 
-  pub follows_read : {x y : ℕ} → Follows bytes x y → read_step bytes x ≡ Cell (cell_at y)
+  pub follows_read : {x y : ℕ} → Follows bytes x y → read_step bytes x ≡ Some (cell_at y)
   follows_read {x} {y} f = reads_so (get_or bytes x 0) x y f.enters f.away
 
   -- ---- one move
@@ -62,7 +61,7 @@ module _ (bytes : List ℕ) where
     pub stays : is_arrival (get_or bytes x 0) ≡ true → (next_of bytes x ≡ x) × (move_of bytes x ≡ 0)
     stays e = (rw e, rw e)
 
-    pub goes : is_arrival (get_or bytes x 0) ≡ false → (s : Stepped) → read_step bytes x ≡ s → (next_of bytes x ≡ stepped_to x s) × (move_of bytes x ≡ 1)
+    pub goes : is_arrival (get_or bytes x 0) ≡ false → (s : Option FieldCell) → read_step bytes x ≡ s → (next_of bytes x ≡ stepped_to x s) × (move_of bytes x ≡ 1)
     goes e s q = (rw (e, q), rw e)
 
     move_most : move_of bytes x ≤ 1
@@ -75,10 +74,10 @@ module _ (bytes : List ℕ) where
     next_inside : x < 100 → next_of bytes x < 100
     next_inside h = pick (is_arrival (get_or bytes x 0)) refl (read_step bytes x) refl
       where
-        pick : (b : Bool) → is_arrival (get_or bytes x 0) ≡ b → (s : Stepped) → read_step bytes x ≡ s → next_of bytes x < 100
+        pick : (b : Bool) → is_arrival (get_or bytes x 0) ≡ b → (s : Option FieldCell) → read_step bytes x ≡ s → next_of bytes x < 100
         pick true e s q = omega (arith, (stays e).0)
-        pick false e (Cell c) q = omega (arith, (goes e (Cell c) q).0, index_below c (stepped_cell _ _ c q).within)
-        pick false e Outside q = omega (arith, (goes e Outside q).0)
+        pick false e (Some c) q = omega (arith, (goes e (Some c) q).0, index_below c (stepped_cell _ _ c q).within)
+        pick false e None q = omega (arith, (goes e None q).0)
 
   -- ---- n moves
 
@@ -147,7 +146,7 @@ module _ (bytes : List ℕ) where
       pick false e (here t z) rest = absurd (true≢false (sym t ∙ e))
       pick false e (moved m y f c q) rest =
           let w = after_move f c (λ i l d. v.no_fewer i (omega arith) d) in
-          let own = goes x e (Cell (cell_at y)) (follows_read f) in
+          let own = goes x e (Some (cell_at y)) (follows_read f) in
           let to : next_of bytes x ≡ y = own.0 ∙ index_of_cell y in
           omega (arith, moves_more n x, own.1, ap (moves_in bytes n) to, rest m y w (omega arith))
 
@@ -157,14 +156,14 @@ module _ (bytes : List ℕ) where
   made_all zero x h o = (none_made x).0
   made_all (suc n) x h o = pick (is_arrival (get_or bytes x 0)) refl (read_step bytes x) refl (λ y l p. made_all n y l p)
     where
-      pick : (b : Bool) → is_arrival (get_or bytes x 0) ≡ b → (s : Stepped) → read_step bytes x ≡ s
+      pick : (b : Bool) → is_arrival (get_or bytes x 0) ≡ b → (s : Option FieldCell) → read_step bytes x ≡ s
           → ((y : ℕ) → y < 100 → ((m : ℕ) → m < n → Comes bytes m y → ⊥) → moves_in bytes n y ≡ n) → moves_in bytes (suc n) x ≡ suc n
       pick true e s q rest = absurd (o zero (omega arith) (there e))
-      pick false e Outside q rest =
-          let own = goes x e Outside q in
+      pick false e None q rest =
+          let own = goes x e None q in
           omega (arith, moves_more n x, own.1, ap (moves_in bytes n) own.0, rest x h (λ m l d. o m (omega arith) d))
-      pick false e (Cell c) q rest =
+      pick false e (Some c) q rest =
           let f = read_follows x c h q in
-          let own = goes x e (Cell c) q in
+          let own = goes x e (Some c) q in
           let all = rest (index_of c) f.enters (λ m l d. o (suc m) (omega arith) (further f d)) in
           omega (arith, moves_more n x, own.1, ap (moves_in bytes n) own.0, all)

@@ -1,21 +1,20 @@
 -- Following as the program does it, for the contracts of functions beneath the call: by the direction that a byte reads as, and from all cells of a
 -- sheet at once.
 -- Assumes nothing.
-use Rattle.std.specs.Prelude.{cond, List, ℕ, zero, suc, ◌+◌, ◌*◌, ◌/◌, ◌%◌, ◌<◌, ltb, get_or}
-use Rattle.fields.specs.declared.Stepped.{Stepped}
-use Rattle.fields.specs.declared.Stepped.TheVariants.{Cell, Outside}
+use Rattle.std.specs.Prelude.{cond, List, ℕ, zero, suc, ◌+◌, ◌*◌, ◌/◌, ◌%◌, ◌<◌, ltb, get_or, Option, Some, None}
+use Rattle.fields.specs.declared.FieldCell.{FieldCell}
 use Rattle.fields.specs.Cell.{cell_at, index_of, stepped}
 use Rattle.flow_bits.specs.Byte.{dir_of}
 use Rattle.flow_arrivals.specs.Following.{is_arrival}
 
 -- where the direction of a cell's byte steps
-abbrev pub read_step : List ℕ → ℕ → Stepped
+abbrev pub read_step : List ℕ → ℕ → Option FieldCell
 read_step bytes x = stepped (cell_at x) (dir_of (get_or bytes x 0))
 
 -- the cell that a step from cell x leads to: x itself where it leaves the sector, so that followed arrows stay there and never arrive
-abbrev pub stepped_to : ℕ → Stepped → ℕ
-stepped_to x (Cell c) = index_of c
-stepped_to x Outside = x
+abbrev pub stepped_to : ℕ → Option FieldCell → ℕ
+stepped_to x (Some c) = index_of c
+stepped_to x None = x
 
 -- the cell after one move from cell x, and how many moves that is: none where its arrows have arrived
 abbrev pub next_of : List ℕ → ℕ → ℕ

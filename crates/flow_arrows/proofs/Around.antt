@@ -18,7 +18,7 @@ use Rattle.utilities.specs.declared.CompassDir.{CompassDir}
 use Rattle.utilities.specs.declared.CompassDir.TheVariants.{North, East, South, West, NorthEast, SouthEast, SouthWest, NorthWest, Zero}
 use Rattle.utilities.specs.Compass.{points, orthogonal, all}
 use Rattle.fields.specs.declared.FieldCell.{FieldCell}
-use Rattle.fields.specs.declared.Stepped.TheVariants.{Cell}
+use Rattle.std.specs.Prelude.{Some}
 use Rattle.fields.specs.Cell.{index_of, cell_at, stepped}
 use Rattle.fields.specs.Neighbours.{ByOne, BesideAt}
 use Rattle.fields.specs.Steps.{Arrives}
@@ -54,7 +54,7 @@ near_in (corner h l c r) = l
 
 -- from i the step in direction d arrives at n, and the look does not pass n over
 pub record Sees (cells : List ℕ) (i : ℕ) (d : CompassDir) (n : ℕ) : Type 0 where
-  pub steps : stepped (cell_at i) d ≡ Cell (cell_at n)
+  pub steps : stepped (cell_at i) d ≡ Some (cell_at n)
   pub to : Near i n
   pub no_wall : wall_at cells n ≡ false
   pub open_way : passes_wall cells i n ≡ false
@@ -142,13 +142,13 @@ pointing_in NorthWest e =
 pointing_in Zero e = absurd (true≢false (sym e))
 
 module _ (cells : List ℕ) (i : ℕ) (h : i < 100) where
-  pub sees : (d : CompassDir) (c : FieldCell) → stepped (cell_at i) d ≡ Cell c → wall_at cells (index_of c) ≡ false → passes_wall cells i (index_of c) ≡ false
+  pub sees : (d : CompassDir) (c : FieldCell) → stepped (cell_at i) d ≡ Some c → wall_at cells (index_of c) ≡ false → passes_wall cells i (index_of c) ≡ false
       → Sees cells i d (index_of c)
   sees d c e w b =
       let a = stepped_cell (cell_at i) d c e in
       record { steps = rw (cell_of_index c a.within) e; to = near i h d c a; no_wall = w; open_way = b }
 
-  pub open_sees : (d : CompassDir) (c : FieldCell) → stepped (cell_at i) d ≡ Cell c → is_passed_over cells i (index_of c) ≡ false → Sees cells i d (index_of c)
+  pub open_sees : (d : CompassDir) (c : FieldCell) → stepped (cell_at i) d ≡ Some c → is_passed_over cells i (index_of c) ≡ false → Sees cells i d (index_of c)
   open_sees d c e o = let n = neither _ _ o in sees d c e n.0 n.1
 
   in_all : (d : CompassDir) → Memᴰ d orthogonal → Memᴰ d all

@@ -23,7 +23,7 @@ use lib.Bits.{bit_or}
 use lib.ListN.{length, get_or}
 use Rattle.utilities.specs.declared.CompassDir.{CompassDir}
 use Rattle.utilities.specs.Compass.{all}
-use Rattle.fields.specs.declared.Stepped.TheVariants.{Cell}
+use Rattle.std.specs.Prelude.{Some}
 use Rattle.fields.specs.Cell.{cell_at, stepped}
 use Rattle.fields.proofs.Steps.{stepped_cell}
 use Rattle.fields.proofs.Beside.{beside_flip}
@@ -349,5 +349,5 @@ module _ (costs : List ℕ) (target : Target) (built bytes : List ℕ) where
       ap suc (leads_once q (rw c at w))
 
   -- a move goes where the direction that its byte reads as steps
-  pub move_read : {x y : ℕ} → Move costs target built bytes x y → stepped (cell_at x) (dir_of (get_or bytes x 0)) ≡ Cell (cell_at y)
+  pub move_read : {x y : ℕ} → Move costs target built bytes x y → stepped (cell_at x) (dir_of (get_or bytes x 0)) ≡ Some (cell_at y)
   move_read {x = x} {y = y} m = reads_so (get_or bytes x 0) x y m.inside m.away

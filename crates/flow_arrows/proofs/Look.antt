@@ -19,8 +19,7 @@ use Rattle.utilities.specs.declared.CompassDir.{CompassDir}
 use Rattle.utilities.specs.declared.CompassDir.TheVariants.{Zero}
 use Rattle.utilities.specs.Compass.{all}
 use Rattle.fields.specs.declared.FieldCell.{FieldCell}
-use Rattle.fields.specs.declared.Stepped.{Stepped}
-use Rattle.fields.specs.declared.Stepped.TheVariants.{Cell, Outside}
+use Rattle.std.specs.Prelude.{Option, Some, None}
 use Rattle.fields.specs.Cell.{index_of, cell_at, stepped}
 use Rattle.fields.proofs.Steps.{index_of_cell}
 use Rattle.integration_field.specs.Word.{low, is_goal, is_portal}
@@ -53,7 +52,7 @@ module _ (cells : List ℕ) (i : ℕ) where
   takes_not n s e t = true≢false (sym t.2 ∙ ap is_taken (one_cell t.1 s) ∙ e)
 
   module _ (h : i < 100) where
-    came_cell : (P : Look → Type 0) (d best : CompassDir) (value : ℕ) → Kept P d best value → (c : FieldCell) → stepped (cell_at i) d ≡ Cell c
+    came_cell : (P : Look → Type 0) (d best : CompassDir) (value : ℕ) → Kept P d best value → (c : FieldCell) → stepped (cell_at i) d ≡ Some c
         → P (seen cells i d (index_of c) best value)
     unfolding seen
     came_cell P d best value kept c e =
@@ -79,9 +78,9 @@ module _ (cells : List ℕ) (i : ℕ) where
     pub came : (P : Look → Type 0) (d best : CompassDir) (value : ℕ) → Kept P d best value → P (look_at cells i (Looking best value) d)
     came P d best value kept = at_step (stepped (cell_at i) d) refl
       where
-        at_step : (t : Stepped) → stepped (cell_at i) d ≡ t → P (seen_at cells i d t best value)
-        at_step (Cell c) e = came_cell P d best value kept c e
-        at_step Outside e = kept.left (λ n s. absurd (let z : ◌≡◌ {A = ℕ} 0 1 = cc (e, s.steps) in omega arith))
+        at_step : (t : Option FieldCell) → stepped (cell_at i) d ≡ t → P (seen_at cells i d t best value)
+        at_step (Some c) e = came_cell P d best value kept c e
+        at_step None e = kept.left (λ n s. absurd (let z : ◌≡◌ {A = ℕ} 0 1 = cc (e, s.steps) in omega arith))
 
     -- what was taken or has ended stays
     pub along : (P : Look → Type 0) → ((d best : CompassDir) (value : ℕ) → P (Looking best value) → Kept P d best value)

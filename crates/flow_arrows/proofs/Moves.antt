@@ -15,7 +15,7 @@ use Rattle.utilities.specs.declared.CompassDir.{CompassDir}
 use Rattle.utilities.specs.declared.CompassDir.TheVariants.{North, East, South, West, NorthEast, SouthEast, SouthWest, NorthWest, Zero}
 use Rattle.utilities.specs.Compass.{differences, rises, falls, all}
 use Rattle.utilities.proofs.Compass.{Small, small, changes}
-use Rattle.fields.specs.declared.Stepped.TheVariants.{Cell}
+use Rattle.std.specs.Prelude.{Some}
 use Rattle.fields.specs.Cell.{cell_at, stepped}
 use Rattle.fields.specs.Steps.{Arrives}
 use Rattle.fields.proofs.Steps.{Told, told, steps_by, cell_inside}
@@ -60,7 +60,7 @@ module _ (d : CompassDir) (x y : ℕ) where
     not_east_west = rw (b.east_is, b.west_is) (omega (arith, s.columns));
   }
 
-  arrives : y < 100 → Away (bits_of d) x y → stepped (cell_at x) d ≡ Cell (cell_at y)
+  arrives : y < 100 → Away (bits_of d) x y → stepped (cell_at x) d ≡ Some (cell_at y)
   arrives h w =
       let pointing = s.some ∙ lt-ltb 0 (changes δ) (omega (arith, s.columns, s.rows, w.somewhere)) in
       let sums : Told (cell_at x) d (cell_at y) = record {
@@ -80,7 +80,7 @@ unless false b t e = let z : ◌≡◌ {A = ℕ} 0 1 = cc in absurd (omega arith
 bits_read : (a : ℕ) → a < 16 → is_arrow a ≡ true → bits_of (dir_with all a) ≡ a
 bits_read a h e = eqb-true _ a (unless (is_arrow a) _ e (holds_at 16 (λ a. not (is_arrow a) || eqb (bits_of (dir_with all a)) a) refl a h))
 
-pub reads_so : (byte x y : ℕ) → y < 100 → Away (byte % 16) x y → stepped (cell_at x) (dir_of byte) ≡ Cell (cell_at y)
+pub reads_so : (byte x y : ℕ) → y < 100 → Away (byte % 16) x y → stepped (cell_at x) (dir_of byte) ≡ Some (cell_at y)
 unfolding dir_of
 reads_so byte x y h w =
     let a = byte % 16 in

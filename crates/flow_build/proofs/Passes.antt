@@ -25,8 +25,7 @@ use Rattle.utilities.specs.Compass.{points}
 use Rattle.utilities.specs.Lists.{below}
 use Rattle.utilities.proofs.Lists.{table_length, table_at, table_same}
 use Rattle.fields.specs.declared.FieldCell.{FieldCell}
-use Rattle.fields.specs.declared.Stepped.{Stepped}
-use Rattle.fields.specs.declared.Stepped.TheVariants.{Cell, Outside}
+use Rattle.std.specs.Prelude.{Option, Some, None}
 use Rattle.fields.specs.Cell.{cell_at, index_of, stepped}
 use Rattle.integration_field.specs.Word.{low, is_goal, is_portal}
 use Rattle.integration_field.specs.Diagonal.{wall_at, passes_wall}
@@ -125,12 +124,12 @@ seen_held cells i n d best value h =
 -- ---- one cell
 
 module _ (cells : List ℕ) (i : ℕ) (d : CompassDir) where
-  goes_on : (c : FieldCell) → stepped (cell_at i) d ≡ Cell c → (l : Look) {key bits : ℕ} → LookHeld l key bits → let x = seen_key cells i (index_of c) in
+  goes_on : (c : FieldCell) → stepped (cell_at i) d ≡ Some c → (l : Look) {key bits : ℕ} → LookHeld l key bits → let x = seen_key cells i (index_of c) in
       LookHeld (look_at cells i l d) (key_after x key) (bits_after x key (bits_of d) bits)
   goes_on c e (Looking best value) {key} {bits} h =
       let x = seen_key cells i (index_of c) in
       held_same
-      (ap (λ (s : Stepped). seen_at cells i d s best value) e)
+      (ap (λ (s : Option FieldCell). seen_at cells i d s best value) e)
       (ap (key_after x) h.key_is)
       (ap (λ (k : ℕ). bits_after x k (bits_of d) bits) h.key_is ∙ ap (bits_after x (value + 2) (bits_of d)) h.bits_are)
       (seen_held cells i (index_of c) d best value (omega (arith, h.key_is, h.key_in)))
@@ -143,8 +142,8 @@ module _ (cells : List ℕ) (i : ℕ) (d : CompassDir) where
       let s = after_not x key (bits_of d) bits (noted_ended x key h.key_is) in
       held_same refl s.0 s.1 h
 
-  stays : stepped (cell_at i) d ≡ Outside → (l : Look) {key bits : ℕ} → LookHeld l key bits → LookHeld (look_at cells i l d) key bits
-  stays e (Looking best value) h = held_same (ap (λ (s : Stepped). seen_at cells i d s best value) e) refl refl h
+  stays : stepped (cell_at i) d ≡ None → (l : Look) {key bits : ℕ} → LookHeld l key bits → LookHeld (look_at cells i l d) key bits
+  stays e (Looking best value) h = held_same (ap (λ (s : Option FieldCell). seen_at cells i d s best value) e) refl refl h
   stays e (Taken t) h = h
   stays e (Ended t) h = h
 
@@ -189,11 +188,11 @@ module _ (cells : List ℕ) (i : ℕ) (h : i < 100) (d : CompassDir) (keys bits 
       at k j (no e) =
           held_same (same k e (ltb k i) refl) (get_or-set_other keys i k key 0 e) (get_or-set_other bits i k bit 0 e) (all.each k j)
 
-  pub on_cell : (c : FieldCell) → stepped (cell_at i) d ≡ Cell c → let x = seen_key cells i (index_of c) in
+  pub on_cell : (c : FieldCell) → stepped (cell_at i) d ≡ Some c → let x = seen_key cells i (index_of c) in
       LooksOn cells d i (i + 1) keys bits (set keys i (key_after x (get_or keys i 0))) (set bits i (bits_after x (get_or keys i 0) (bits_of d) (get_or bits i 0)))
   on_cell c e = put _ _ (λ l p. goes_on cells i d c e l p)
 
-  pub on_outside : stepped (cell_at i) d ≡ Outside → LooksOn cells d i (i + 1) keys bits keys bits
+  pub on_outside : stepped (cell_at i) d ≡ None → LooksOn cells d i (i + 1) keys bits keys bits
   on_outside e looks all =
       let on = put (get_or keys i 0) (get_or bits i 0) (λ l p. stays cells i d e l p) looks all in
       rw (set-get_or keys i 0, set-get_or bits i 0) at on

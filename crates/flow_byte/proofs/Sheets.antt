@@ -1,4 +1,5 @@
 -- A sheet that is filled cell by cell, each byte by a rule.
+--     made_by                         a list whose every entry is the rule's
 --     fill_none, fill_more, fill_all  nothing is written yet; one byte more; all are written
 --     still_old                       what is not written yet is as it was
 -- Assumes nothing.
@@ -9,8 +10,12 @@ use native.Mathlib.Nat.{add-zero}
 use native.Mathlib.Numerals.{add-one}
 use native.Mathlib.Omega.{arith}
 use lib.ListN.{length, take, drop, set, get_or, length-set}
-use lib.Seq.{take_all, take-suc-set, drop-set-lt, get_or-drop, drop-drop}
+use lib.Seq.{ext_get_or, take_all, take-suc-set, drop-set-lt, get_or-drop, drop-drop}
 use Rattle.utilities.specs.Lists.{below}
+use Rattle.utilities.proofs.Lists.{table_length, table_at}
+
+pub made_by : {A : Type 0} → (f : ℕ → A) (none : A) (n : ℕ) (l : List A) → length l ≡ n → ((i : ℕ) → i < n → get_or l i none ≡ f i) → l ≡ map f (below n)
+made_by {A} f none n l long at = ext_get_or none l (map f (below n)) (long ∙ sym (table_length f n)) (λ i h. at i (omega arith) ∙ sym (table_at f none n i (omega arith)))
 
 -- the first i bytes are the rule's, and the others are the old ones
 pub record Filled (g : ℕ → ℕ) (old : List ℕ) (i : ℕ) (l : List ℕ) : Type 0 where

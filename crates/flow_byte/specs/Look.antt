@@ -1,13 +1,12 @@
 -- Looking around for the cheapest neighbour (01, "Flow byte"; 02, "Job 7").
 -- Assumes nothing.
-use Rattle.std.specs.Prelude.{Bool, cond, ◌||◌, List, [], ◌∷◌, map, ℕ, ◌+◌, ltb, eqb, get_or}
+use Rattle.std.specs.Prelude.{Bool, cond, ◌||◌, List, [], ◌∷◌, map, ℕ, ◌+◌, ltb, eqb, get_or, Option, Some, None}
 use Rattle.std.specs.Int.Bits.{bit_or}
 use Rattle.utilities.specs.declared.CompassDir.{CompassDir}
 use Rattle.utilities.specs.declared.CompassDir.TheVariants.{Zero}
 use Rattle.utilities.specs.Compass.{points, all}
 use Rattle.utilities.specs.Lists.{below}
-use Rattle.fields.specs.declared.Stepped.{Stepped}
-use Rattle.fields.specs.declared.Stepped.TheVariants.{Cell, Outside}
+use Rattle.fields.specs.declared.FieldCell.{FieldCell}
 use Rattle.fields.specs.Cell.{cell_at, index_of, stepped}
 use Rattle.integration_field.specs.Word.{low, is_goal, is_portal}
 use Rattle.integration_field.specs.Diagonal.{wall_at, passes_wall}
@@ -36,9 +35,9 @@ seen cells i d n best value =
     (cond (ltb (low x) value) (Looking d (low x)) (Looking best value))))
 
 -- where a step leaves the sector there is nothing to see
-abbrev pub seen_at : List ℕ → ℕ → CompassDir → Stepped → CompassDir → ℕ → Look
-seen_at cells i d (Cell n) best value = seen cells i d (index_of n) best value
-seen_at cells i d Outside best value = Looking best value
+abbrev pub seen_at : List ℕ → ℕ → CompassDir → Option FieldCell → CompassDir → ℕ → Look
+seen_at cells i d (Some n) best value = seen cells i d (index_of n) best value
+seen_at cells i d None best value = Looking best value
 
 -- a look goes on in direction d
 abbrev pub look_at : List ℕ → ℕ → Look → CompassDir → Look

@@ -3,7 +3,7 @@
 // own moves tell where as many more lead. So each cell is looked at a few times in each of at most seven rounds, however far its arrows lead.
 #![tactic(auto)]
 
-ghost use Rattle.std.specs.Prelude.{◌≡◌, true, map, ◌<◌, ◌%◌, length, get_or};
+ghost use Rattle.std.specs.Prelude.{◌≡◌, true, map, ◌<◌, ◌%◌, get_or};
 ghost use Rattle.utilities.specs.Lists.{below};
 ghost use Rattle.fields.specs.Cell.{cell_at, stepped};
 ghost use Rattle.flow_bits.specs.Byte.{dir_of};
@@ -14,8 +14,9 @@ ghost use Rattle.utilities.specs.Padded.{AllZero};
 ghost use Rattle.flow_arrivals.specs.Promise.{ArrivalsTold};
 ghost use Rattle.flow_arrivals_planned.specs.Promise.{WindowArrives, SightlessArrives, LegTold};
 
-use fields::{FieldCell, Stepped};
+use fields::FieldCell;
 use flow_arrivals::Arrivals;
+use refusals::Refusal;
 
 // The number of moves of a cell whose arrows never arrive.
 const NEVER: u8 = 255;
@@ -27,17 +28,13 @@ const MOVE: u16 = 256;
 fn is_arrival(byte: u8) -> bool
     ensures { result ≡ is_arrival byte }
 {
-    if flow_bits::is_goal(byte) {
-        return true;
-    }
-    if flow_bits::has_line_of_sight(byte) {
-        return true;
-    }
-    flow_bits::is_portal_goal(byte)
+    flow_bits::is_goal(byte)
+        || flow_bits::has_line_of_sight(byte)
+        || flow_bits::is_portal_goal(byte)
 }
 
 // Where a cell's byte points: a cell, or out of the sector, as a byte with no direction does too.
-fn next_cell(byte: u8, index: usize) -> Stepped
+fn next_cell(byte: u8, index: usize) -> Option<FieldCell>
     ensures { result ≡ stepped (cell_at index) (dir_of byte) }
 {
     let from = FieldCell::from_index(index);
@@ -55,24 +52,19 @@ fn first_trail(byte: u8, index: usize) -> u16
     if is_arrival(byte) {
         return own;
     }
-    let Stepped::Cell(to) = next_cell(byte, index) else {
+    let Some(to) = next_cell(byte, index) else {
         return MOVE + own;
     };
-    let led = to.as_1d_index();
-    let next = led as u16;
-    MOVE + next
+    MOVE + to.as_1d_index() as u16
 }
 
 // The trails of all cells after their own moves.
-fn first_trails(sheet: &[u8]) -> [u16; 100]
-    requires { length sheet.now ≡ 100 }
+fn first_trails(sheet: &[u8; 100]) -> [u16; 100]
     ensures { result ≡ map (trail_after sheet.now 1) (below 100) }
 {
-    let mut trails: [u16; 100] = [0; 100];
-    let mut i = 0;
-    while i < 100 {
+    let mut trails = [0; 100];
+    for i in 0..100 {
         trails[i] = first_trail(sheet[i], i);
-        i += 1;
     }
     trails
 }
@@ -89,14 +81,10 @@ fn doubled(trails: &[u16; 100]) -> [u16; 100]
     requires { ShortTrails trails.now }
     ensures { result ≡ map (doubled_trail trails.now) (below 100) }
 {
-    let mut further: [u16; 100] = [0; 100];
-    let mut i = 0;
-    while i < 100 {
+    let mut further = [0; 100];
+    for i in 0..100 {
         let trail = trails[i];
-        let at = led_to(trail);
-        let on = trails[at];
-        further[i] = trail / MOVE * MOVE + on;
-        i += 1;
+        further[i] = trail / MOVE * MOVE + trails[led_to(trail)];
     }
     further
 }
@@ -109,11 +97,8 @@ fn all_arrived(trails: &[u16; 100], made: u16) -> bool
 {
     let all = made * MOVE;
     let mut arrived = true;
-    let mut i = 0;
-    while i < 100 {
-        let trail = trails[i];
-        arrived = arrived & (trail < all);
-        i += 1;
+    for trail in trails {
+        arrived &= *trail < all;
     }
     arrived
 }
@@ -130,34 +115,27 @@ fn told_moves(trail: u16) -> u8
     moves as u8
 }
 
-// The numbers of moves that all trails tell.
+// The numbers of moves that all trails tell. By `map` arrivals took a third more.
 fn all_told(trails: &[u16; 100]) -> [u8; 100]
     ensures { result ≡ map (λ x. told_moves (get_or trails.now x 0)) (below 100) }
 {
-    let mut moves: [u8; 100] = [0; 100];
-    let mut i = 0;
-    while i < 100 {
+    let mut moves = [0; 100];
+    for i in 0..100 {
         moves[i] = told_moves(trails[i]);
-        i += 1;
     }
     moves
 }
 
 // How many moves bring each cell's arrows to a byte that has arrived, or never. Seven rounds make 128 moves out of one; fewer do where all cells
 // have arrived before.
-fn all_moves(sheet: &[u8]) -> [u8; 100]
-    requires { length sheet.now ≡ 100 }
+fn all_moves(sheet: &[u8; 100]) -> [u8; 100]
     ensures { result ≡ map (moves_from sheet.now) (below 100) }
 {
     let mut trails = first_trails(sheet);
     let mut made: u16 = 1;
-    while made < 100 {
-        if all_arrived(&trails, made) {
-            return all_told(&trails);
-        }
-        let further = doubled(&trails);
-        trails = further;
-        made = made + made;
+    while made < 100 && !all_arrived(&trails, made) {
+        trails = doubled(&trails);
+        made += made;
     }
     all_told(&trails)
 }
@@ -171,12 +149,14 @@ pub fn arrivals(sheet: &[u8]) -> Arrivals
     ensures without_sight { result.number ≡ 0 → SightlessArrives sheet.now result.moves }
     ensures refused { (result.number ≡ 0 → ⊥) → AllZero 0 result.moves }
 {
-    if sheet.len() != 100 {
+    let Some(sheet) = sheet.as_array::<100>() else {
         return Arrivals {
-            number: 2,
+            number: Refusal::Sheet.number(),
             moves: [0; 100],
         };
+    };
+    Arrivals {
+        number: 0,
+        moves: all_moves(sheet),
     }
-    let moves = all_moves(sheet);
-    Arrivals { number: 0, moves }
 }

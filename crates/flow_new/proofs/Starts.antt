@@ -2,26 +2,28 @@
 --     bits_length          or-ing bits on keeps the length
 --     bits_step, bits_end  window cell by window cell
 --     new_made             flags, then each window cell's bits: the bytes of a new flow field, where no window cell comes twice
+--     start_made           without window cells the flags alone
+--     step_bytes           and what the first bytes are for a parsed step
 -- Assumes nothing.
 use mathlib.Core.Path.{◌≡◌, refl, sym, ap, ◌∙◌}
 use mathlib.Core.Bool.{Bool, true, false, cond, ◌||◌}
 use mathlib.Core.List.{List, [], ◌∷◌, map}
-use Prim.Native.Nat.{ℕ, suc, ◌+◌, ◌<◌}
-use native.Mathlib.Numerals.{add-one}
+use Prim.Native.Nat.{ℕ, suc, ◌+◌, ◌<◌, ◌≤◌}
 use native.Mathlib.Omega.{arith}
 use lib.Dec.{eqb}
 use lib.Bits.{bit_or, or_zero_r}
-use lib.ListN.{length, get_or, set, length-set}
-use lib.Seq.{slice, slice-cons, slice_empty, get_or-set_same, get_or-set_other, ext_get_or}
+use lib.ListN.{length, get_or, set, drop, length-set}
+use lib.Seq.{get_or-set_same, get_or-set_other, ext_get_or}
 use borrow.Author.Tests.{eqb-true, eqb-false}
+use Rattle.std.specs.Prelude.{Some, None}
+use Rattle.std.proofs.lemmas.List.{at_drop_more, at_drop_all}
 use Rattle.utilities.specs.Lists.{below}
 use Rattle.route.specs.declared.PortalWindow.{PortalWindow}
-use Rattle.route.specs.declared.WindowCells.{WindowCells}
-use Rattle.route.specs.Target.{WindowIn}
-use Rattle.route.specs.Inner.{WindowHeld}
-use Rattle.flow_byte.specs.New.{start_of, window_bits, is_in, new_byte, new_bytes}
+use Rattle.route.specs.Step.{goal_of, is_window, window_cells, portal_of, route_step}
+use Rattle.route.specs.Target.{to_goal, to_window, window_of, target_of, WindowIn}
+use Rattle.flow_byte.specs.New.{start_of, window_bits, is_in, new_byte, new_bytes, flow_new}
 use Rattle.flow_arrows.proofs.Fall.{in_among}
-use Rattle.flow_new.specs.Inner.{start_bytes, with_bits}
+use Rattle.flow_new.specs.Inner.{start_bytes, with_bits, first_bytes}
 use Rattle.utilities.proofs.Lists.{table_length, table_at}
 
 module _ (portal : PortalWindow) (has : Bool) (previous : List ℕ) where
@@ -30,6 +32,16 @@ module _ (portal : PortalWindow) (has : Bool) (previous : List ℕ) where
 
   abbrev ored : List ℕ → List ℕ → List ℕ
   ored = with_bits portal has previous
+
+  -- what is left of the window from place i on: its first cell, and then the others
+  pub bits_step : (ns sheet : List ℕ) (i : ℕ) → i < length ns
+      → let n = get_or ns i 0 in ored (drop i ns) sheet ≡ ored (drop (i + 1) ns) (set sheet n (bit_or (get_or sheet n 0) (bits n)))
+  unfolding with_bits
+  bits_step ns sheet i h = at_drop_more (λ l. ored l sheet) ns i 0 h
+
+  pub bits_end : (ns sheet : List ℕ) (i : ℕ) → length ns ≤ i → ored (drop i ns) sheet ≡ sheet
+  unfolding with_bits
+  bits_end ns sheet i h = at_drop_all (λ l. ored l sheet) ns i h
 
   pub bits_length : (ns sheet : List ℕ) → length (ored ns sheet) ≡ length sheet
   unfolding with_bits
@@ -78,19 +90,22 @@ module _ (portal : PortalWindow) (has : Bool) (previous : List ℕ) where
       ∙ ap (λ (x : ℕ). bit_or x (cond (is_in i window) (bits i) 0)) (table_at start 0 100 i (omega arith))
       ∙ sym (table_at new 0 100 i (omega arith)))
 
--- window cell by window cell
-module _ (portal : PortalWindow) (has : Bool) (previous : List ℕ) (held : WindowCells) (w : WindowHeld held) where
-  abbrev left : ℕ → List ℕ → List ℕ
-  left i sheet = with_bits portal has previous (slice i held.count held.cells) sheet
-
-  pub bits_step : (i : ℕ) (sheet : List ℕ) → i < held.count
-      → let n = get_or held.cells i 0 in left i sheet ≡ left (i + 1) (set sheet n (bit_or (get_or sheet n 0) (window_bits portal has previous n)))
+  -- without window cells the flags alone
+  pub start_made : (cells : List ℕ) → start_bytes cells ≡ new_bytes portal [] cells has previous
   unfolding with_bits
-  bits_step i sheet h =
-      let n = get_or held.cells i 0 in
-      ap (λ (l : List ℕ). with_bits portal has previous l sheet) (slice-cons i held.count held.cells 0 h (omega (arith, w.full, w.count_in)))
-      ∙ ap (λ (k : ℕ). left k (set sheet n (bit_or (get_or sheet n 0) (window_bits portal has previous n)))) (sym (add-one i))
+  start_made cells = new_made [] cells no_cells
+    where
+      no_cells : WindowIn []
+      no_cells = record { inside = λ i h. absurd (omega arith); once = λ i j h k. absurd (omega arith); few = omega arith }
 
-  pub bits_end : (sheet : List ℕ) → left held.count sheet ≡ sheet
-  unfolding with_bits
-  bits_end sheet = ap (λ (l : List ℕ). with_bits portal has previous l sheet) (slice_empty held.count held.cells)
+-- the first bytes for a parsed step
+pub step_bytes : (step cells : List ℕ) (has : Bool) (previous : List ℕ)
+    → first_bytes (route_step step).portal (window_of (target_of step)) cells has previous ≡ flow_new step cells has previous
+unfolding target_of
+step_bytes step cells has previous = go (is_window step)
+  where
+    go : (b : Bool)
+        → let window = window_of (cond b (to_window (window_cells step)) (to_goal (goal_of step))) in
+        first_bytes (cond b (Some (portal_of step)) None) window cells has previous ≡ new_bytes (portal_of step) window cells has previous
+    go true = refl
+    go false = start_made (portal_of step) has previous cells

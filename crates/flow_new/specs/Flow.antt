@@ -5,6 +5,10 @@ use Rattle.route.specs.Table.{row, first_number}
 use Rattle.route.specs.Step.{step_number}
 use Rattle.flow_byte.specs.New.{flow_new}
 
+-- 12 for a previous field lent as other than 100 numbers
+abbrev pub misfit_number : Bool → List ℕ → ℕ
+misfit_number has previous = cond (has && not (eqb (length previous) 100)) 12 0
+
 -- 2, the step's 3 to 8, and 12 for a previous field lent as other than 100 numbers
 unfoldable pub new_number : List ℕ → Bool → List ℕ → List ℕ → ℕ
 new_number step has previous sheet =

@@ -1,24 +1,29 @@
 // A new flow field: the flags that each cell starts with, and the directions of the window cells.
 #![tactic(auto)]
 
-ghost use Rattle.std.specs.Prelude.{◌≡◌, true, not, ◌&&◌, ◌-◌, ◌<◌, eqb, leb, length};
-ghost use Rattle.route.specs.Inner.{held_cells};
-ghost use Rattle.flow_byte.specs.New.{start_of, facing_bits, facing_value, unless_end, seen_values, facing_choice, window_bits, new_bytes};
-ghost use Rattle.flow_new.specs.Flow.{new_number, new_sheet};
-ghost use Rattle.flow_new.specs.Inner.{NewReady, start_bytes, with_bits};
+ghost use Rattle.std.specs.Prelude.{◌≡◌, ◌<◌, eqb, is_some, IfOk};
+ghost use Rattle.route.specs.Inner.{WindowHeld, held_cells};
+ghost use Rattle.flow_byte.specs.New.{start_of, facing_bits, facing_value, unless_end, seen_values, window_bits};
+ghost use Rattle.flow_byte.specs.Previous.{given};
+ghost use Rattle.refusals.specs.Refusal.{told};
+ghost use Rattle.flow_new.specs.Flow.{misfit_number, new_number, new_sheet};
+ghost use Rattle.flow_new.specs.Inner.{start_bytes, with_bits, first_bytes};
 
+use fields::CellList;
 use flow_bits::{
     BITS_DEFAULT, BITS_GOAL, BITS_HAS_LOS, BITS_IMPASSABLE, BITS_PATHABLE, BITS_PORTAL_GOAL,
 };
 use flow_byte::SeenValues;
 use integration_field::IntegrationField;
-use route::{PortalWindow, RouteStep, WindowCells};
+use refusals::Refusal;
+use route::{PortalWindow, RouteStep};
 use utilities::CompassDir;
 
 // The cost of a cell that is not seen: above every other.
 const UNSEEN: u32 = 0x10000;
 
 // The flags that a cell starts with.
+#[tactic(auto, unfolding(flow_byte::specs::New::start_of))]
 fn starting_flags(word: u32) -> u8
     ensures { result ≡ start_of word }
 {
@@ -37,31 +42,24 @@ fn starting_flags(word: u32) -> u8
     BITS_DEFAULT
 }
 
-// Whether a value is above neither of two others.
-fn not_above(value: u32, one: u32, other: u32) -> bool
-    ensures { result ≡ (leb value one && leb value other) }
-{
-    value <= one && value <= other
-}
-
 // The bits that point at the cheapest of the three cells that a window cell faces.
-fn facing_bits(boundary: CompassDir, lower: u32, straight: u32, higher: u32) -> u8
-    ensures { result ≡ facing_bits boundary lower straight higher }
+#[tactic(auto, unfolding(flow_byte::specs::New::facing_bits))]
+fn facing_bits(boundary: CompassDir, seen: SeenValues) -> u8
+    ensures { result ≡ facing_bits boundary seen.lower seen.straight seen.higher }
 {
     let bits = flow_bits::convert_compass_dir_to_bits_dir(boundary);
     let side = boundary.lower_side();
-    if not_above(straight, lower, higher) {
+    if seen.straight <= seen.lower && seen.straight <= seen.higher {
         return bits;
     }
-    if not_above(lower, straight, higher) {
+    if seen.lower <= seen.straight && seen.lower <= seen.higher {
         return bits + flow_bits::convert_compass_dir_to_bits_dir(side);
     }
     bits + flow_bits::convert_compass_dir_to_bits_dir(side.inverse())
 }
 
 // The cost of the cell that faces a window cell across the boundary, in the field of the sector there.
-fn facing_value(previous: &[u32], boundary: CompassDir, index: usize) -> u32
-    requires { length previous.now ≡ 100 }
+fn facing_value(previous: &[u32; 100], boundary: CompassDir, index: usize) -> u32
     ensures { result ≡ facing_value previous.now boundary index }
 {
     let cell = route::facing_cell(boundary, index);
@@ -70,13 +68,12 @@ fn facing_value(previous: &[u32], boundary: CompassDir, index: usize) -> u32
 
 // The cost of the cell that faces `beside`, which lies next to a window cell on one side. The window's end cell on that side does not see it.
 fn side_value(
-    previous: &[u32],
+    previous: &[u32; 100],
     boundary: CompassDir,
     index: usize,
     end: usize,
     beside: usize,
 ) -> u32
-    requires { length previous.now ≡ 100 }
     ensures { result ≡ unless_end (eqb index end) (facing_value previous.now boundary beside) }
 {
     if index == end {
@@ -85,156 +82,114 @@ fn side_value(
     facing_value(previous, boundary, beside)
 }
 
-// An index less a stride, and 0 where that would be below 0.
-fn lower_by(index: usize, stride: usize) -> usize
-    ensures { result ≡ index - stride }
-{
-    if index < stride {
-        return 0;
-    }
-    index - stride
-}
-
 // The costs that a window cell compares: of the cell that faces it, and of those beside that one.
-pub fn seen_values(window: PortalWindow, previous: &[u32], index: usize) -> SeenValues
-    requires { (length previous.now ≡ 100) × (index < 100) }
+pub fn seen_values(window: PortalWindow, previous: &[u32; 100], index: usize) -> SeenValues
+    requires { index < 100 }
     ensures { result ≡ seen_values window previous.now index }
 {
     let boundary = window.boundary;
-    let start = window.start;
-    let end = window.end;
     let stride = route::stride_of(boundary);
-    let before = lower_by(index, stride);
+    let before = index.saturating_sub(stride);
     let after = index + stride;
-    let lower = side_value(previous, boundary, index, start, before);
-    let straight = facing_value(previous, boundary, index);
-    let higher = side_value(previous, boundary, index, end, after);
     SeenValues {
-        lower,
-        straight,
-        higher,
+        lower: side_value(previous, boundary, index, window.start, before),
+        straight: facing_value(previous, boundary, index),
+        higher: side_value(previous, boundary, index, window.end, after),
     }
-}
-
-// The bits of a window cell, by the costs of the cells that it faces.
-fn optimise_portal_direction(window: PortalWindow, previous: &[u32], index: usize) -> u8
-    requires { (length previous.now ≡ 100) × (index < 100) }
-    ensures { result ≡ facing_choice window previous.now index }
-{
-    let boundary = window.boundary;
-    let seen = seen_values(window, previous, index);
-    facing_bits(boundary, seen.lower, seen.straight, seen.higher)
 }
 
 // The bits of a window cell: straight across the boundary, without a previous field or in a window of one cell; else to the cheapest facing cell.
-fn portal_direction(window: PortalWindow, has_previous: bool, previous: &[u32], index: usize) -> u8
-    requires { (has_previous ≡ true → length previous.now ≡ 100) × (index < 100) }
-    ensures { result ≡ window_bits window has_previous previous.now index }
+#[tactic(auto, unfolding(flow_byte::specs::New::window_bits, flow_byte::specs::New::facing_choice))]
+fn portal_direction(window: PortalWindow, previous: Option<&[u32; 100]>, index: usize) -> u8
+    requires { index < 100 }
+    ensures { result ≡ window_bits window (is_some previous.entry) (given previous.entry) index }
 {
     let boundary = window.boundary;
-    let start = window.start;
-    let end = window.end;
-    if !has_previous {
+    let Some(previous) = previous else {
+        return flow_bits::convert_compass_dir_to_bits_dir(boundary);
+    };
+    if window.start == window.end {
         return flow_bits::convert_compass_dir_to_bits_dir(boundary);
     }
-    if start == end {
-        return flow_bits::convert_compass_dir_to_bits_dir(boundary);
-    }
-    optimise_portal_direction(window, previous, index)
+    facing_bits(boundary, seen_values(window, previous, index))
 }
 
-// The flags that all cells start with.
-fn start_cells(cells: &[u32; 100], sheet: &mut [u8])
-    requires { length sheet.old ≡ 100 }
-    ensures { sheet.new ≡ start_bytes cells.now }
+// The flags that all cells start with. By `map` a new flow field took more than twice the time.
+fn start_cells(cells: &[u32; 100]) -> [u8; 100]
+    ensures { result ≡ start_bytes cells.now }
 {
-    let mut i = 0;
-    while i < 100 {
-        sheet[i] = starting_flags(cells[i]);
-        i += 1;
+    let mut flags = [0; 100];
+    for i in 0..100 {
+        flags[i] = starting_flags(cells[i]);
     }
+    flags
 }
 
 // The bits of the window cells, or-ed on one after the other.
 fn point_portals(
     portal: PortalWindow,
-    window: WindowCells,
-    has_previous: bool,
-    previous: &[u32],
-    sheet: &mut [u8],
+    window: CellList<10>,
+    previous: Option<&[u32; 100]>,
+    sheet: &mut [u8; 100],
 )
-    requires { NewReady window has_previous previous.now sheet.old }
-    ensures { sheet.new ≡ with_bits portal has_previous previous.now (held_cells window) sheet.old }
+    requires { WindowHeld window }
+    ensures { sheet.new ≡ with_bits portal (is_some previous.entry) (given previous.entry) (held_cells window) sheet.old }
 {
-    let listed = window.cells;
-    let count = window.count;
-    let mut i = 0;
-    while i < count {
-        let n = listed[i];
-        let flags = sheet[n];
-        sheet[n] = flags | portal_direction(portal, has_previous, previous, n);
-        i += 1;
+    for cell in &window.cells[..window.count] {
+        let cell = usize::from(*cell);
+        sheet[cell] |= portal_direction(portal, previous, cell);
     }
 }
 
 // The first bytes of all cells: their flags, and the window cells' bits, each by the whole of the step's window.
 pub fn new_cells(
-    portal: PortalWindow,
-    window: WindowCells,
+    portal: Option<PortalWindow>,
+    window: CellList<10>,
     field: IntegrationField,
-    has_previous: bool,
-    previous: &[u32],
-    sheet: &mut [u8],
+    previous: Option<&[u32; 100]>,
+    sheet: &mut [u8; 100],
 )
-    requires { NewReady window has_previous previous.now sheet.old }
-    ensures { sheet.new ≡ new_bytes portal (held_cells window) field.field has_previous previous.now }
+    requires { WindowHeld window }
+    ensures { sheet.new ≡ first_bytes portal (held_cells window) field.field (is_some previous.entry) (given previous.entry) }
 {
     let cells = field.field;
-    start_cells(&cells, sheet);
-    point_portals(portal, window, has_previous, previous, sheet);
+    *sheet = start_cells(&cells);
+    if let Some(portal) = portal {
+        point_portals(portal, window, previous, sheet);
+    }
 }
 
-// Whether a previous field is lent as other than 100 numbers.
-fn is_misfit(has_previous: bool, previous: &[u32]) -> bool
-    ensures { result ≡ (has_previous && not (eqb (length previous.now) 100)) }
+// A previous field as an array: refused where one is lent that is not 100 numbers.
+pub fn of_100(previous: Option<&[u32]>) -> Result<Option<&[u32; 100]>, Refusal>
+    ensures refused { told result ≡ misfit_number (is_some previous.entry) (given previous.entry) }
+    ensures same { IfOk result (λ p. (is_some p ≡ is_some previous.entry) × (given p ≡ given previous.entry)) }
 {
-    if has_previous {
-        return previous.len() != 100;
-    }
-    false
+    let Some(numbers) = previous else {
+        return Ok(None);
+    };
+    let Ok(numbers) = <&[u32; 100]>::try_from(numbers) else {
+        return Err(Refusal::PreviousLength);
+    };
+    Ok(Some(numbers))
 }
 
 // A new flow field for a step of a route, by hand: starting flags and the window's directions.
 pub fn new(
     step: &[u8],
     field: IntegrationField,
-    has_previous: bool,
-    previous: &[u32],
+    previous: Option<&[u32]>,
     sheet: &mut [u8],
-) -> u8
-    ensures number { result ≡ new_number step.now has_previous previous.now sheet.old }
-    ensures sheet { sheet.new ≡ new_sheet step.now field.field has_previous previous.now sheet.old }
+) -> Result<(), Refusal>
+    ensures number { told result ≡ new_number step.now (is_some previous.entry) (given previous.entry) sheet.old }
+    ensures sheet { sheet.new ≡ new_sheet step.now field.field (is_some previous.entry) (given previous.entry) sheet.old }
 {
-    let bytes = sheet.len();
-    if bytes != 100 {
-        return 2;
-    }
-    let number = step_numbers::step_number(step);
-    if 0 < number {
-        return number;
-    }
-    if is_misfit(has_previous, previous) {
-        return 12;
-    }
+    let Some(bytes) = sheet.as_mut_array::<100>() else {
+        return Err(Refusal::Sheet);
+    };
+    step_numbers::step_number(step)?;
+    let previous = of_100(previous)?;
     let route_step = RouteStep::new(step);
-    let target = route_step.as_target();
-    new_cells(
-        route_step.portal,
-        target.window,
-        field,
-        has_previous,
-        previous,
-        sheet,
-    );
-    0
+    let window = route_step.as_target().window();
+    new_cells(route_step.portal, window, field, previous, bytes);
+    Ok(())
 }

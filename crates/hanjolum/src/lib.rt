@@ -84,7 +84,7 @@ pub extern "C" fn hanjolum_sector(
     ensures sixteen { (result.number ≡ 16) ↔ TargetOnWall costs.now step.now sheet.old }
     ensures seventeen { (result.number ≡ 17) ↔ WithoutPrevious costs.now step.now has_previous sheet.old }
 {
-    sector::plan_sector(costs, step, has_previous, previous, sheet)
+    sector::plan_sector(costs, step, has_previous.then_some(previous), sheet)
 }
 
 // A sector planned without sight: a goal is the one listed corner, so that every arrow leads to it; a step with a window is planned as it is with
@@ -114,7 +114,7 @@ pub extern "C" fn hanjolum_sector_without_sight(
     ensures sixteen { (result.number ≡ 16) ↔ TargetOnWall costs.now step.now sheet.old }
     ensures seventeen { (result.number ≡ 17) ↔ WithoutPrevious costs.now step.now has_previous sheet.old }
 {
-    sector::plan_sector_without_sight(costs, step, has_previous, previous, sheet)
+    sector::plan_sector_without_sight(costs, step, has_previous.then_some(previous), sheet)
 }
 
 // The least and greatest built costs over all floors between two, and the cells that are sure, or number 1, 3, 4 to 8, 16, or 18.
@@ -165,7 +165,7 @@ pub extern "C" fn hanjolum_leg(floor: &[u8], steps: &[u8], sheet: &mut [u8]) -> 
     ensures fifteen { (result ≡ 15) ↔ LegClosed true floor.now steps.now sheet.old }
     ensures sixteen { (result ≡ 16) ↔ LegOnWall floor.now steps.now sheet.old }
 {
-    leg::plan_leg(floor, steps, sheet)
+    refusals::number(leg::plan_leg(floor, steps, sheet))
 }
 
 // A leg whose goal's own sector is planned without sight, so that every arrow leads to the goal: 0, or number 1 to 10, 15, or 16.
@@ -178,7 +178,7 @@ pub extern "C" fn hanjolum_leg_without_sight(floor: &[u8], steps: &[u8], sheet: 
     ensures fifteen { (result ≡ 15) ↔ LegClosed false floor.now steps.now sheet.old }
     ensures sixteen { (result ≡ 16) ↔ LegOnWall floor.now steps.now sheet.old }
 {
-    leg::plan_leg_without_sight(floor, steps, sheet)
+    refusals::number(leg::plan_leg_without_sight(floor, steps, sheet))
 }
 
 // For each cell of a sheet, the number of moves after which its arrows arrive, 255 where they never do, or number 2.
@@ -253,7 +253,7 @@ pub extern "C" fn hanjolum_leg_file_write(steps: &[u8], file: &mut [u8]) -> u8
     ensures file { file.new ≡ written_file steps.now file.old }
     ensures back { ReadBack steps.now file.old file.new result }
 {
-    leg_writer::write(steps, file)
+    refusals::number(leg_writer::write(steps, file))
 }
 
 // The place of the steps in a file, or number 14.
@@ -315,7 +315,7 @@ pub extern "C" fn hanjolum_flow_new(
     ensures number { result ≡ new_number step.now has_previous previous.now sheet.old }
     ensures sheet { sheet.new ≡ new_sheet step.now field.field has_previous previous.now sheet.old }
 {
-    flow_new::new(step, field, has_previous, previous, sheet)
+    refusals::number(flow_new::new(step, field, has_previous.then_some(previous), sheet))
 }
 
 // The flow field of an integration field, by hand, from the bytes of the sheet, or number 2.
@@ -325,7 +325,7 @@ pub extern "C" fn hanjolum_flow_build(field: IntegrationField, sheet: &mut [u8])
     ensures sheet { sheet.new ≡ build_sheet field.field sheet.old }
     ensures arrows { BuildArrows field.field sheet.old sheet.new }
 {
-    flow_build::build(field, sheet)
+    refusals::number(flow_build::build(field, sheet))
 }
 
 // The line from one cell to another: its cells and their count, or number 13.
@@ -454,8 +454,7 @@ pub extern "C" fn hanjolum_is_wall(byte: u8) -> bool
 pub extern "C" fn hanjolum_get_compass_dir_from_bits(byte: u8) -> u8
     ensures { result ≡ number_of (dir_of byte) }
 {
-    let dir = flow_bits::get_compass_dir_from_bits(byte);
-    dir.number()
+    flow_bits::get_compass_dir_from_bits(byte).number()
 }
 
 // The version of the library, as one number.

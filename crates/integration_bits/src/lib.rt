@@ -28,6 +28,8 @@ pub const INT_BITS_CORNER: u32 = 0x4000000;
 // The bits of a cell's cost.
 const INT_FILTER_BITS_COST: u32 = 0xffff;
 
+// Each flag has its reader; one for all of them, given the flag, would be as long as the test.
+
 // Whether a cell is in sight of the goal.
 pub fn is_los(word: u32) -> bool
     ensures { result ≡ is_los word }
@@ -75,15 +77,7 @@ pub fn passes_wall(from: FieldCell, to: FieldCell, in_row: u32, in_column: u32) 
     ensures { result ≡ ((not (eqb from.row to.row) && not (eqb from.column to.column))
         && (is_impassable in_row || is_impassable in_column)) }
 {
-    let from_column = from.column;
-    let from_row = from.row;
-    let to_column = to.column;
-    let to_row = to.row;
-    if from_row == to_row {
-        return false;
-    }
-    if from_column == to_column {
-        return false;
-    }
-    is_impassable(in_row) | is_impassable(in_column)
+    from.row != to.row
+        && from.column != to.column
+        && (is_impassable(in_row) || is_impassable(in_column))
 }

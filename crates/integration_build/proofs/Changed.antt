@@ -13,23 +13,23 @@ use mathlib.Core.Bool.{Bool, true, false, cond, ◌&&◌, and-eq-true_iff}
 use mathlib.Core.List.{List, Memᴰ}
 use Prim.Native.Nat.{ℕ, zero, suc, ◌+◌, ◌<◌, ◌≤◌}
 use native.Mathlib.Omega.{arith}
-use native.Mathlib.Nat.{add-zero, zero-add}
-use native.Mathlib.Numerals.{add-one}
+use native.Mathlib.Nat.{zero-add}
 use native.Mathlib.Decide.{dec_lt, ℕ_discrete}
 use lib.Dec.{eqb, ltb}
-use lib.ListN.{length, get_or, set, take, replicate, length-set, get_or-replicate}
+use lib.ListN.{length, get_or, set, replicate, length-set, get_or-replicate}
 use lib.Seq.{get_or-set_same, get_or-set_other, get_or-take, length-take-le}
-use mir.Val.{bool_byte}
 use borrow.Author.Tests.{eqb-true, eqb-false, ltb-true}
 use Rattle.utilities.proofs.Count.{Each, Once, Passes, once_room, count_room, at_set}
+use Rattle.fields.specs.declared.CellList.{CellList}
+use Rattle.fields.specs.CellList.{held, pushed, pushed_if}
 use Rattle.integration_field.specs.Word.{low, is_open}
 use Rattle.integration_field.specs.Wave.{is_written, relaxed, changed_from}
 use Rattle.integration_field.proofs.Offers.{differs_changed, changed_differs}
 use Rattle.integration_field.proofs.Position.{listed_at}
 use Rattle.integration_build.specs.Inner.{Differs, NotBelowAll, Fallen, StandsIn, ChangedCells}
 
-pub changed_none : (cells next : List ℕ) → length cells ≡ 100 → length next ≡ 100 → ChangedCells cells cells next 0
-changed_none cells next full long = record {
+pub changed_none : (cells : List ℕ) (next : CellList 100) → length cells ≡ 100 → length next.cells ≡ 100 → next.count ≡ 0 → ChangedCells cells cells next
+changed_none cells next full long none = record {
   full = full;
   indexes = record { full = long; count_in = omega arith; cells_in = λ i h. absurd (omega arith) };
   once = λ i j h k e. absurd (omega arith);
@@ -66,12 +66,12 @@ least_of l (suc (suc n)) h =
 not_before : (sum old was : ℕ) → sum < low old → low old ≤ low was → sum ≡ was → ⊥
 not_before sum old was h k e = let q : low sum ≡ low was = ap low e in absurd (omega arith)
 
-module _ {before cells next : List ℕ} {found : ℕ} (c : ChangedCells before cells next found) where
-  list_length : length (take found next) ≡ found
-  list_length = length-take-le found next (omega (arith, c.indexes.full, c.indexes.count_in))
+module _ {before cells : List ℕ} {next : CellList 100} (c : ChangedCells before cells next) where
+  list_length : length (held next) ≡ next.count
+  list_length = length-take-le next.count next.cells (omega (arith, c.indexes.full, c.indexes.count_in))
 
-  list_at : (i : ℕ) → i < found → get_or (take found next) i 0 ≡ get_or next i 0
-  list_at i h = get_or-take found next i 0 h
+  list_at : (i : ℕ) → i < next.count → get_or (held next) i 0 ≡ get_or next.cells i 0
+  list_at i h = get_or-take next.count next.cells i 0 h
 
   -- values have only fallen
   fallen : (x : ℕ) → low (get_or cells x 0) ≤ low (get_or before x 0)
@@ -102,41 +102,41 @@ module _ {before cells next : List ℕ} {found : ℕ} (c : ChangedCells before c
     stays : Differs before cells m.cell → ⊥
     stays d = let f = c.lowered m.cell d in absurd (omega (arith, f.lower, f.is_offered_by.no_lower, m.least _ f.is_offered_by.cell_in))
 
-    one_each : Each (Passes is_one ones) (take found next)
+    one_each : Each (Passes is_one ones) (held next)
     one_each i h =
-        let k : i < found = omega (arith, list_length) in
+        let k : i < next.count = omega (arith, list_length) in
         let x-in = c.indexes.cells_in i k in
-        let other : get_or next i 0 ≡ m.cell → ⊥ = λ q. stays (subst (Differs before cells) q (c.differs i k)) in
-        rw (list_at i k) (omega (arith, ones_full, x-in), one_elsewhere (get_or next i 0) x-in other)
+        let other : get_or next.cells i 0 ≡ m.cell → ⊥ = λ q. stays (subst (Differs before cells) q (c.differs i k)) in
+        rw (list_at i k) (omega (arith, ones_full, x-in), one_elsewhere (get_or next.cells i 0) x-in other)
 
-    distinct : Once (take found next)
+    distinct : Once (held next)
     distinct i j h k e =
-        let l : j < found = omega (arith, list_length) in
+        let l : j < next.count = omega (arith, list_length) in
         c.once i j h l (sym (list_at i (omega arith)) ∙ e ∙ list_at j l)
 
-    few : found ≤ 99
+    few : next.count ≤ 99
     few =
         let less = count_room is_one ones m.cell (omega (arith, ones_full, m.cell_in)) zero_there in
-        omega (arith, list_length, ones_full, less, once_room is_one refl (take found next) ones one_each distinct)
+        omega (arith, list_length, ones_full, less, once_room is_one refl (held next) ones one_each distinct)
 
-  pub changed_few : found ≤ 99
+  pub changed_few : next.count ≤ 99
   changed_few = few (least_of before 100 (omega arith))
 
   module _ (x : ℕ) (inside : x < 100) where
-    behind : (i : ℕ) → i < found → get_or (set next found x) i 0 ≡ get_or next i 0
-    behind i h = get_or-set_other next found i x 0 (λ q. absurd (omega arith))
+    behind : (i : ℕ) → i < next.count → get_or (set next.cells next.count x) i 0 ≡ get_or next.cells i 0
+    behind i h = get_or-set_other next.cells next.count i x 0 (λ q. absurd (omega arith))
 
-    last : (i : ℕ) → i ≡ found → get_or (set next found x) i 0 ≡ x
-    last i e = rw e (get_or-set_same next found x 0 (omega (arith, changed_few, c.indexes.full)))
+    last : (i : ℕ) → i ≡ next.count → get_or (set next.cells next.count x) i 0 ≡ x
+    last i e = rw e (get_or-set_same next.cells next.count x 0 (omega (arith, changed_few, c.indexes.full)))
 
-    still_listed : {z : ℕ} → StandsIn next found z → StandsIn (set next found x) found z
+    still_listed : {z : ℕ} → StandsIn next z → StandsIn (pushed_if false x next) z
     still_listed r = record { place = r.place; place_in = r.place_in; there = behind r.place r.place_in ∙ r.there }
 
-    pub changed_behind : ChangedCells before cells (set next found x) found
+    pub changed_behind : ChangedCells before cells (pushed_if false x next)
     changed_behind = record {
       full = c.full;
       indexes = record {
-        full = length-set next found x ∙ c.indexes.full;
+        full = length-set next.cells next.count x ∙ c.indexes.full;
         count_in = c.indexes.count_in;
         cells_in = λ i h. rw (behind i h) (c.indexes.cells_in i h);
       };
@@ -167,14 +167,14 @@ module _ {before cells next : List ℕ} {found : ℕ} (c : ChangedCells before c
       elsewhere : (z : ℕ) → (z ≡ x → ⊥) → Differs before (set cells x sum) z → Differs before cells z
       elsewhere z n d e = d (get_or-set_other cells x z sum 0 n ∙ e)
 
-      pub changed_again : Differs before cells x → ChangedCells before (set cells x sum) next found
+      pub changed_again : Differs before cells x → ChangedCells before (set cells x sum) next
       changed_again was = record {
         full = size;
         indexes = c.indexes;
         once = c.once;
         differs = λ i h.
-            at_set (λ w. w ≡ get_or before (get_or next i 0) 0 → ⊥) cells x sum (get_or next i 0) (omega (arith, c.full))
-            (now_differs (get_or next i 0)) (λ n. c.differs i h);
+            at_set (λ w. w ≡ get_or before (get_or next.cells i 0) 0 → ⊥) cells x sum (get_or next.cells i 0) (omega (arith, c.full))
+            (now_differs (get_or next.cells i 0)) (λ n. c.differs i h);
         listed = λ z d. elim (ℕ_discrete z x) [
           | yes q ↦ rw q (c.listed x was)
           | no n ↦ c.listed z (elsewhere z n d)
@@ -184,50 +184,51 @@ module _ {before cells next : List ℕ} {found : ℕ} (c : ChangedCells before c
 
       module _ (was : get_or cells x 0 ≡ get_or before x 0) where
         -- it is not in the list
-        fresh : (i : ℕ) → i < found → get_or next i 0 ≡ x → ⊥
+        fresh : (i : ℕ) → i < next.count → get_or next.cells i 0 ≡ x → ⊥
         fresh i h q = c.differs i h (rw q was)
 
-        first_once : (i j : ℕ) → i < j → j < suc found → get_or (set next found x) i 0 ≡ get_or (set next found x) j 0 → ⊥
+        first_once : (i j : ℕ) → i < j → j < next.count + 1 → get_or (set next.cells next.count x) i 0 ≡ get_or (set next.cells next.count x) j 0 → ⊥
         first_once i j h k e =
-            let l : i < found = omega arith in
-            elim (dec_lt j found) [
+            let l : i < next.count = omega arith in
+            elim (dec_lt j next.count) [
               | yes m ↦ c.once i j h m (sym (behind i l) ∙ e ∙ behind j m)
               | no m ↦ fresh i l (sym (behind i l) ∙ e ∙ last j (omega arith))
             ]
 
-        first_differs : (i : ℕ) → i < suc found → Differs before (set cells x sum) (get_or (set next found x) i 0)
+        first_differs : (i : ℕ) → i < next.count + 1 → Differs before (set cells x sum) (get_or (set next.cells next.count x) i 0)
         first_differs i h =
-            let z = get_or (set next found x) i 0 in
+            let z = get_or (set next.cells next.count x) i 0 in
             at_set (λ w. w ≡ get_or before z 0 → ⊥) cells x sum z (omega (arith, c.full))
             (now_differs z)
-            (λ n. elim (dec_lt i found) [
+            (λ n. elim (dec_lt i next.count) [
               | yes m ↦ subst (Differs before cells) (sym (behind i m)) (c.differs i m)
               | no m ↦ absurd (n (last i (omega arith)))
             ])
 
-        one_more_law : {l : List ℕ} {z : ℕ} → StandsIn l found z → StandsIn l (suc found) z
+        one_more_law : {z : ℕ} → StandsIn (pushed_if false x next) z → StandsIn (pushed x next) z
         one_more_law r = record { place = r.place; place_in = omega (arith, r.place_in); there = r.there }
 
-        pub changed_first : ChangedCells before (set cells x sum) (set next found x) (suc found)
+        pub changed_first : ChangedCells before (set cells x sum) (pushed x next)
         changed_first = record {
           full = size;
           indexes = record {
-            full = length-set next found x ∙ c.indexes.full;
+            full = length-set next.cells next.count x ∙ c.indexes.full;
             count_in = omega (arith, changed_few);
             cells_in = λ i h.
-                at_set (λ q. q < 100) next found x i (omega (arith, changed_few, c.indexes.full)) (λ q. inside) (λ n. c.indexes.cells_in i (omega arith));
+                at_set (λ q. q < 100) next.cells next.count x i (omega (arith, changed_few, c.indexes.full))
+                (λ q. inside) (λ n. c.indexes.cells_in i (omega arith));
           };
           once = first_once;
           differs = first_differs;
           listed = λ z d. elim (ℕ_discrete z x) [
-            | yes q ↦ record { place = found; place_in = omega arith; there = last found refl ∙ sym q }
+            | yes q ↦ record { place = next.count; place_in = omega arith; there = last next.count refl ∙ sym q }
             | no n ↦ one_more_law (still_listed (c.listed z (elsewhere z n d)))
           ];
           lowered = now_lowered;
         }
 
 -- an offer of this sum to cell x
-module _ {before cells next : List ℕ} {found : ℕ} (c : ChangedCells before cells next found) (x : ℕ) (inside : x < 100) (sum : ℕ)
+module _ {before cells : List ℕ} {next : CellList 100} (c : ChangedCells before cells next) (x : ℕ) (inside : x < 100) (sum : ℕ)
     (offer : NotBelowAll before sum) where
   abbrev old : ℕ
   old = get_or cells x 0
@@ -235,22 +236,22 @@ module _ {before cells next : List ℕ} {found : ℕ} (c : ChangedCells before c
   abbrev was : ℕ
   was = get_or before x 0
 
-  lower : (same : Bool) → eqb old was ≡ same → sum < low old → ChangedCells before (set cells x sum) (set next found x) (found + bool_byte same)
-  lower true q less = rw (add-one found) (changed_first c x inside sum less offer (eqb-true old was q))
-  lower false q less = rw (add-zero found) (changed_again (changed_behind c x inside) x inside sum less offer (eqb-false old was q))
+  lower : (same : Bool) → eqb old was ≡ same → sum < low old → ChangedCells before (set cells x sum) (pushed_if same x next)
+  lower true q less = changed_first c x inside sum less offer (eqb-true old was q)
+  lower false q less = changed_again (changed_behind c x inside) x inside sum less offer (eqb-false old was q)
 
-  offered_once : ChangedCells before (relaxed sum x cells) (set next found x) (found + bool_byte (is_written old sum && eqb old was))
+  offered_once : ChangedCells before (relaxed sum x cells) (pushed_if (is_written old sum && eqb old was) x next)
   unfolding relaxed
   offered_once = go (is_written old sum) (eqb old was) refl refl
     where
       go : (written same : Bool) → is_written old sum ≡ written → eqb old was ≡ same
-          → ChangedCells before (cond written (set cells x sum) cells) (set next found x) (found + bool_byte (written && same))
-      go false same p q = rw (add-zero found) (changed_behind c x inside)
+          → ChangedCells before (cond written (set cells x sum) cells) (pushed_if (written && same) x next)
+      go false same p q = changed_behind c x inside
       go true same p q = lower same q (ltb-true sum (low old) ((and-eq-true_iff (is_open old) (ltb sum (low old))).0 p).1)
 
-  pub changed_offer : {new : List ℕ} {written first : Bool} → new ≡ relaxed sum x cells → written ≡ is_written old sum → first ≡ (written && eqb old was)
-      → ChangedCells before new (set next found x) (found + bool_byte first)
-  changed_offer e w f = rw (e, f, w) offered_once
+  pub changed_offer : {new : List ℕ} {left : CellList 100} {written first : Bool} → new ≡ relaxed sum x cells → written ≡ is_written old sum
+      → first ≡ (written && eqb old was) → left ≡ pushed_if first x next → ChangedCells before new left
+  changed_offer e w f l = rw (e, l, f, w) offered_once
 
 -- ---- the list, and that of the definition
 
@@ -262,22 +263,22 @@ each_member P l e x m = go x l m e
     go x l (Memᴰ.head q) e = subst P (sym q) (e 0 (omega arith))
     go x l (Memᴰ.tail {xs = ys} m) e = go x ys m (λ i h. e (suc i) (omega arith))
 
-module _ {before cells next : List ℕ} {found : ℕ} (c : ChangedCells before cells next found) (was-full : length before ≡ 100) where
+module _ {before cells : List ℕ} {next : CellList 100} (c : ChangedCells before cells next) (was-full : length before ≡ 100) where
   differs_member : (x : ℕ) → Differs before cells x → Memᴰ x (changed_from 0 before cells)
   differs_member x d = rw zero-add at (differs_changed 0 before cells x d (c.full ∙ sym was-full))
 
-  pub changed_first_member : 0 < found → Memᴰ (get_or next 0 0) (changed_from 0 before cells)
-  changed_first_member h = differs_member (get_or next 0 0) (c.differs 0 h)
+  pub changed_first_member : 0 < next.count → Memᴰ (get_or next.cells 0 0) (changed_from 0 before cells)
+  changed_first_member h = differs_member (get_or next.cells 0 0) (c.differs 0 h)
 
-  each_differs : Each (Differs before cells) (take found next)
-  each_differs i h = let k : i < found = omega (arith, list_length c) in rw (list_at c i k) (c.differs i k)
+  each_differs : Each (Differs before cells) (held next)
+  each_differs i h = let k : i < next.count = omega (arith, list_length c) in rw (list_at c i k) (c.differs i k)
 
-  pub changed_member : (x : ℕ) → Memᴰ x (take found next) → Memᴰ x (changed_from 0 before cells)
-  changed_member x m = differs_member x (each_member (Differs before cells) (take found next) each_differs x m)
+  pub changed_member : (x : ℕ) → Memᴰ x (held next) → Memᴰ x (changed_from 0 before cells)
+  changed_member x m = differs_member x (each_member (Differs before cells) (held next) each_differs x m)
 
-  pub member_changed : (x : ℕ) → Memᴰ x (changed_from 0 before cells) → Memᴰ x (take found next)
+  pub member_changed : (x : ℕ) → Memᴰ x (changed_from 0 before cells) → Memᴰ x (held next)
   member_changed x m =
       let d = changed_differs 0 before cells x m in
       let r = c.listed d.0 d.2 in
-      let q : get_or (take found next) r.place 0 ≡ x = list_at c r.place r.place_in ∙ r.there ∙ sym (zero-add d.0) ∙ sym d.1 in
-      subst (λ (z : ℕ). Memᴰ z (take found next)) q (listed_at (take found next) r.place (omega (arith, list_length c, r.place_in)))
+      let q : get_or (held next) r.place 0 ≡ x = list_at c r.place r.place_in ∙ r.there ∙ sym (zero-add d.0) ∙ sym d.1 in
+      subst (λ (z : ℕ). Memᴰ z (held next)) q (listed_at (held next) r.place (omega (arith, list_length c, r.place_in)))

@@ -1,6 +1,7 @@
 -- What holds while a wave's offers are made (01, "Integration: build"). A reader of the promises needs none of it.
 -- Assumes nothing.
 use Rattle.std.specs.Prelude.{◌≡◌, List, ℕ, ◌+◌, ◌<◌, ◌≤◌, length, get_or}
+use Rattle.fields.specs.declared.CellList.{CellList}
 use Rattle.integration_field.specs.Word.{low}
 use Rattle.integration_field.specs.Listed.{Indexes}
 
@@ -19,43 +20,42 @@ pub record Fallen (before : List ℕ) (x word : ℕ) : Type 0 where
   pub lower : low word < low (get_or before x 0)
   pub is_offered_by : NotBelowAll before (low word)
 
--- cell x stands in one of the first `found` places
-pub record StandsIn (next : List ℕ) (found x : ℕ) : Type 0 where
+-- cell x is listed
+pub record StandsIn (next : CellList 100) (x : ℕ) : Type 0 where
   pub place : ℕ
-  pub place_in : place < found
-  pub there : get_or next place 0 ≡ x
+  pub place_in : place < next.count
+  pub there : get_or next.cells place 0 ≡ x
 
--- The first `found` places of `next` hold the cells whose word is no longer the one before the wave, each once; each of them has a lower value than
--- before, which some cell offered.
-pub record ChangedCells (before cells next : List ℕ) (found : ℕ) : Type 0 where
+-- The list holds the cells whose word is no longer the one before the wave, each once; each of them has a lower value than before, which some cell
+-- offered.
+pub record ChangedCells (before cells : List ℕ) (next : CellList 100) : Type 0 where
   pub full : length cells ≡ 100
-  pub indexes : Indexes 100 next found
-  pub once : (i j : ℕ) → i < j → j < found → get_or next i 0 ≡ get_or next j 0 → ⊥
-  pub differs : (i : ℕ) → i < found → Differs before cells (get_or next i 0)
-  pub listed : (x : ℕ) → Differs before cells x → StandsIn next found x
+  pub indexes : Indexes 100 next.cells next.count
+  pub once : (i j : ℕ) → i < j → j < next.count → get_or next.cells i 0 ≡ get_or next.cells j 0 → ⊥
+  pub differs : (i : ℕ) → i < next.count → Differs before cells (get_or next.cells i 0)
+  pub listed : (x : ℕ) → Differs before cells x → StandsIn next x
   pub lowered : (x : ℕ) → Differs before cells x → Fallen before x (get_or cells x 0)
 
 -- what a cell is given that a sum is offered to
-pub record RelaxReady (before cells next : List ℕ) (found index sum : ℕ) : Type 0 where
+pub record RelaxReady (before cells : List ℕ) (next : CellList 100) (index sum : ℕ) : Type 0 where
   pub inside : index < 100
   pub not_below : NotBelowAll before sum
-  pub changed : ChangedCells before cells next found
+  pub changed : ChangedCells before cells next
 
 -- what an offer of a value is given: the value is a cell's, and the cells that changed so far in this wave are listed
-pub record OfferReady (before cells next : List ℕ) (found value : ℕ) : Type 0 where
+pub record OfferReady (before cells : List ℕ) (next : CellList 100) (value : ℕ) : Type 0 where
   pub value_in : value < 65536
   pub not_below : NotBelowAll before value
-  pub changed : ChangedCells before cells next found
+  pub changed : ChangedCells before cells next
 
--- what all waves are given: a hundred costs and cells, and the first wave
-pub record WavesReady (costs cells wavefront : List ℕ) (count : ℕ) : Type 0 where
-  pub costs_hundred : length costs ≡ 100
+-- what all waves are given: a hundred cells, and the first wave
+pub record WavesReady (cells : List ℕ) (wavefront : CellList 100) : Type 0 where
   pub full : length cells ≡ 100
-  pub wave_in : Indexes 100 wavefront count
+  pub wave_in : Indexes 100 wavefront.cells wavefront.count
 
 -- what a wave is given: its cells, room for the next wave's, and a number of waves left that with those counted is at most 100
-pub record WaveReady (cells wavefront : List ℕ) (count : ℕ) (next : List ℕ) (waves falling : ℕ) : Type 0 where
+pub record WaveReady (cells : List ℕ) (wavefront next : CellList 100) (waves falling : ℕ) : Type 0 where
   pub full : length cells ≡ 100
-  pub wave_in : Indexes 100 wavefront count
-  pub room : length next ≡ 100
+  pub wave_in : Indexes 100 wavefront.cells wavefront.count
+  pub room : length next.cells ≡ 100
   pub at_most : waves + falling ≤ 100

@@ -6,7 +6,7 @@ use Prim.Native.Nat.{ℕ}
 use lib.Dec.{eqb}
 use lib.ListN.{replicate}
 use Rattle.fields.specs.Cell.{cell, stepped}
-use Rattle.fields.specs.declared.Stepped.TheVariants.{Cell}
+use Rattle.std.specs.Prelude.{Some}
 use Rattle.integration_field.specs.declared.IntegrationField.{IntegrationField}
 use Rattle.integration_field.specs.Listed.{with_corners}
 use Rattle.integration_field.specs.Wave.{relaxed, offered, offered_around, offered_by, changed_from, next, wave_at}
@@ -29,7 +29,7 @@ unfolding relaxed
 equal_passed = refl
 
 -- 65535 and a cost of 1 are 65536, which is not below 5
-pub whole_sum : offered (1 ∷ []) 65535 (Cell (cell 0 0)) (5 ∷ []) ≡ 5 ∷ []
+pub whole_sum : offered (1 ∷ []) 65535 (Some (cell 0 0)) (5 ∷ []) ≡ 5 ∷ []
 unfolding relaxed
 whole_sum = refl
 

@@ -6,7 +6,7 @@ use Prim.Native.Nat.{ℕ, ◌<◌}
 use Rattle.utilities.specs.declared.CompassDir.{CompassDir}
 use Rattle.utilities.specs.Compass.{orthogonal}
 use Rattle.fields.specs.declared.FieldCell.{FieldCell}
-use Rattle.fields.specs.declared.Stepped.TheVariants.{Cell}
+use Rattle.std.specs.Prelude.{Some}
 use Rattle.fields.specs.Cell.{index_of, cell_at, stepped}
 use Rattle.fields.specs.Neighbours.{BesideAt}
 use Rattle.fields.proofs.Steps.{cell_inside, cell_of_index, index_of_cell}
@@ -17,7 +17,7 @@ pub record Neighbour (c : FieldCell) (ds : List CompassDir) (x : ℕ) : Type 0 w
   pub way : CompassDir
   pub listed : Memᴰ way ds
   pub cell : FieldCell
-  pub step : stepped c way ≡ Cell cell
+  pub step : stepped c way ≡ Some cell
   pub index : x ≡ index_of cell
 
 pub later : {c : FieldCell} {d : CompassDir} {ds : List CompassDir} {x : ℕ} → Neighbour c ds x → Neighbour c (d ∷ ds) x

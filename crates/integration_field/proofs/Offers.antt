@@ -20,8 +20,7 @@ use Rattle.utilities.specs.Lists.{cons_if}
 use Rattle.utilities.specs.declared.CompassDir.{CompassDir}
 use Rattle.utilities.specs.Compass.{orthogonal}
 use Rattle.fields.specs.declared.FieldCell.{FieldCell}
-use Rattle.fields.specs.declared.Stepped.{Stepped}
-use Rattle.fields.specs.declared.Stepped.TheVariants.{Cell, Outside}
+use Rattle.std.specs.Prelude.{Option, Some, None}
 use Rattle.fields.specs.Cell.{index_of, cell_at, stepped}
 use Rattle.integration_field.specs.Word.{low, is_open}
 use Rattle.integration_field.specs.Wave.{relaxed, offered, offered_around, offered_by, changed_from}
@@ -115,12 +114,12 @@ module _ (costs : List ℕ) (v : ℕ) where
     abbrev Around : List CompassDir → ℕ → ℕ → Type 0
     Around ds z s = Neighbour c ds z × (s ≡ v + get_or costs z 0)
 
-    step_made : (d : CompassDir) (ds : List CompassDir) (t : Stepped) (cells : List ℕ) → stepped c d ≡ t
+    step_made : (d : CompassDir) (ds : List CompassDir) (t : Option FieldCell) (cells : List ℕ) → stepped c d ≡ t
         → Made (Around (d ∷ ds)) cells (offered costs v t cells)
-    step_made d ds (Cell n) cells e = made_map
+    step_made d ds (Some n) cells e = made_map
         (λ z s o. (record { way = d; listed = Memᴰ.head refl; cell = n; step = e; index = o.0 }, o.1))
         (taken_made (index_of n) cells (taken (index_of n) cells))
-    step_made d ds Outside cells e = made_none cells
+    step_made d ds None cells e = made_none cells
 
     around_made : (ds : List CompassDir) (cells : List ℕ) → Made (Around ds) cells (offered_around costs v c ds cells)
     unfolding offered_around
@@ -129,13 +128,13 @@ module _ (costs : List ℕ) (v : ℕ) where
         (step_made d ds (stepped c d) cells refl)
         (made_map (λ z s o. (later o.0, o.1)) (around_made ds (offered costs v (stepped c d) cells)))
 
-    step_taken : (t : Stepped) (cells : List ℕ) (z : ℕ) (m : FieldCell) → t ≡ Cell m → z ≡ index_of m → is_open (get_or cells z 0) ≡ true
+    step_taken : (t : Option FieldCell) (cells : List ℕ) (z : ℕ) (m : FieldCell) → t ≡ Some m → z ≡ index_of m → is_open (get_or cells z 0) ≡ true
         → low (get_or (offered costs v t cells) z 0) ≤ v + get_or costs z 0
-    step_taken (Cell k) cells z m e q o =
+    step_taken (Some k) cells z m e q o =
         let same : m ≡ k = cc in
         let p : z ≡ index_of k = q ∙ ap index_of same in
         rw p (taken_le (index_of k) cells (taken (index_of k) cells) (rw p at o))
-    step_taken Outside cells z m e q o = let n : ◌≡◌ {A = ℕ} 0 1 = cc in absurd (omega arith)
+    step_taken None cells z m e q o = let n : ◌≡◌ {A = ℕ} 0 1 = cc in absurd (omega arith)
 
     around_taken : (ds : List CompassDir) (cells : List ℕ) (z : ℕ) → Neighbour c ds z → is_open (get_or cells z 0) ≡ true
         → low (get_or (offered_around costs v c ds cells) z 0) ≤ v + get_or costs z 0

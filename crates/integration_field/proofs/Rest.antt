@@ -1,7 +1,7 @@
 -- Waves come to rest: each wave that changes a cell lowers the total of the values, so that one changes none. The definition of the built field leans on
 -- the same by the sum of the words (`comes_to_rest`, `specs/Rest.antt`); how soon waves come to rest is `Least`.
 -- Assumes nothing.
-use Rattle.std.specs.Prelude.{◌≡◌, Bool, true, false, cond, ◌⊎◌, get_or, set}
+use Rattle.std.specs.Prelude.{◌≡◌, Bool, true, false, cond, ◌⊎◌, get_or, set, Option, Some, None}
 use Rattle.std.proofs.Math.Path.{refl}
 use Rattle.std.proofs.Common.{ap, ◌∙◌, inr, arith, ltb-true}
 use Rattle.std.proofs.Math.Bool.{and-eq-true_iff}
@@ -11,8 +11,6 @@ use Prim.Native.Nat.{ℕ, zero, suc, ◌≤◌, ◌<◌}
 use Rattle.utilities.specs.declared.CompassDir.{CompassDir}
 use Rattle.utilities.specs.Compass.{orthogonal}
 use Rattle.fields.specs.declared.FieldCell.{FieldCell}
-use Rattle.fields.specs.declared.Stepped.{Stepped}
-use Rattle.fields.specs.declared.Stepped.TheVariants.{Cell, Outside}
 use Rattle.fields.specs.Cell.{index_of, cell_at, stepped}
 use Rattle.integration_field.specs.Word.{low, is_open}
 use Rattle.integration_field.specs.Wave.{is_written, relaxed, offered, offered_around, offered_by, Wave, next}
@@ -45,9 +43,9 @@ relaxed_lowered s x cells =
     (λ e. set_lower cells x _ (omega (arith, ltb-true s (low (get_or cells x 0)) ((and-eq-true_iff (is_open (get_or cells x 0)) _).0 e).1)))
 
 module _ (costs : List ℕ) where
-  step_lowered : (v : ℕ) (t : Stepped) (cells : List ℕ) → Lowered cells (offered costs v t cells)
-  step_lowered v (Cell c) cells = relaxed_lowered _ (index_of c) cells
-  step_lowered v Outside cells = inl refl
+  step_lowered : (v : ℕ) (t : Option FieldCell) (cells : List ℕ) → Lowered cells (offered costs v t cells)
+  step_lowered v (Some c) cells = relaxed_lowered _ (index_of c) cells
+  step_lowered v None cells = inl refl
 
   around_lowered : (v : ℕ) (c : FieldCell) (ds : List CompassDir) (cells : List ℕ) → Lowered cells (offered_around costs v c ds cells)
   unfolding offered_around

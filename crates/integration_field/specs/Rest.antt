@@ -2,7 +2,7 @@
 -- built field leans on this, and on nothing else, to be a total function. That the total of the values falls too is `proofs/Rest.antt`,
 -- and how soon waves come to rest `proofs/Least.antt`.
 -- Assumes nothing.
-use Rattle.std.specs.Prelude.{◌≡◌, Bool, true, false, cond, ◌⊎◌, get_or, set}
+use Rattle.std.specs.Prelude.{◌≡◌, Bool, true, false, cond, ◌⊎◌, get_or, set, Option, Some, None}
 use Rattle.std.proofs.Math.Path.{refl}
 use Rattle.std.proofs.Common.{ap, ◌∙◌, inr, arith, ltb-true, eq-eqb}
 use Rattle.std.proofs.Math.Bool.{and-eq-true_iff}
@@ -13,8 +13,6 @@ use Prim.Native.Nat.{ℕ, zero, suc, ◌+◌, ◌≤◌, ◌<◌}
 use Rattle.utilities.specs.declared.CompassDir.{CompassDir}
 use Rattle.utilities.specs.Compass.{orthogonal}
 use Rattle.fields.specs.declared.FieldCell.{FieldCell}
-use Rattle.fields.specs.declared.Stepped.{Stepped}
-use Rattle.fields.specs.declared.Stepped.TheVariants.{Cell, Outside}
 use Rattle.fields.specs.Cell.{index_of, cell_at, stepped}
 use Rattle.integration_field.specs.Word.{low, is_open}
 use Rattle.integration_field.specs.Wave.{is_written, relaxed, offered, offered_around, offered_by, changed_from, Wave, next}
@@ -71,9 +69,9 @@ relaxed_lowered s x cells =
     (λ e. put_lowered cells x _ (omega (arith, ltb-true s _ ((and-eq-true_iff (is_open (get_or cells x 0)) _).0 e).1)))
 
 module _ (costs : List ℕ) where
-  step_lowered : (v : ℕ) (t : Stepped) (cells : List ℕ) → Lowered cells (offered costs v t cells)
-  step_lowered v (Cell c) cells = relaxed_lowered _ (index_of c) cells
-  step_lowered v Outside cells = inl refl
+  step_lowered : (v : ℕ) (t : Option FieldCell) (cells : List ℕ) → Lowered cells (offered costs v t cells)
+  step_lowered v (Some c) cells = relaxed_lowered _ (index_of c) cells
+  step_lowered v None cells = inl refl
 
   around_lowered : (v : ℕ) (c : FieldCell) (ds : List CompassDir) (cells : List ℕ) → Lowered cells (offered_around costs v c ds cells)
   unfolding offered_around

@@ -1,13 +1,11 @@
 -- Wave after wave (01, "Integration: build"): wave 0 is the listed corners. Wave k offers, from each cell that wave k - 1 changed, the low
 -- 16 bits that wave left plus the neighbour's cost to orthogonal neighbours neither wall nor LOS; strictly smaller is written, without flags.
 -- Assumes nothing.
-use Rattle.std.specs.Prelude.{Bool, not, cond, ◌&&◌, List, [], ◌∷◌, ℕ, zero, suc, ◌+◌, ltb, eqb, get_or, set}
+use Rattle.std.specs.Prelude.{Bool, not, cond, ◌&&◌, List, [], ◌∷◌, ℕ, zero, suc, ◌+◌, ltb, eqb, get_or, set, Option, Some, None}
 use Rattle.utilities.specs.declared.CompassDir.{CompassDir}
 use Rattle.utilities.specs.Compass.{orthogonal}
 use Rattle.utilities.specs.Lists.{cons_if}
 use Rattle.fields.specs.declared.FieldCell.{FieldCell}
-use Rattle.fields.specs.declared.Stepped.{Stepped}
-use Rattle.fields.specs.declared.Stepped.TheVariants.{Cell, Outside}
 use Rattle.fields.specs.Cell.{index_of, cell_at, stepped}
 use Rattle.integration_field.specs.Word.{low, is_open}
 
@@ -20,9 +18,9 @@ unfoldable pub relaxed : ℕ → ℕ → List ℕ → List ℕ
 relaxed s x cells = cond (is_written (get_or cells x 0) s) (set cells x s) cells
 
 -- the cells after the value v is offered to where a step arrives: v and the cost of the cell entered
-abbrev pub offered : List ℕ → ℕ → Stepped → List ℕ → List ℕ
-offered costs v (Cell c) cells = relaxed (v + get_or costs (index_of c) 0) (index_of c) cells
-offered costs v Outside cells = cells
+abbrev pub offered : List ℕ → ℕ → Option FieldCell → List ℕ → List ℕ
+offered costs v (Some c) cells = relaxed (v + get_or costs (index_of c) 0) (index_of c) cells
+offered costs v None cells = cells
 
 -- the cells after v is offered from a cell in each of these directions in turn
 unfoldable pub offered_around : List ℕ → ℕ → FieldCell → List CompassDir → List ℕ → List ℕ

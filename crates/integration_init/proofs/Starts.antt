@@ -1,19 +1,20 @@
 -- What sight starts with.
 --     wall_step, wall_end            walls, cell by cell
 --     portal_step .. portal_put      a window's cells, marked and listed one after another
---     goal_sight .. goal_wavefront   the goal and the first wave
+--     goal_sight, goal_ready         the goal in the walls
 -- Assumes nothing.
 use mathlib.Core.Path.{◌≡◌, refl, sym, ap, ap₂, ◌∙◌}
 use mathlib.Core.List.{List, [], ◌∷◌, ◌++◌}
-use Prim.Native.Nat.{ℕ, zero, suc, ◌+◌, ◌<◌}
+use Prim.Native.Nat.{ℕ, ◌+◌, ◌<◌}
 use native.Mathlib.Numerals.{add-one}
 use native.Mathlib.Omega.{arith}
-use lib.ListN.{length, get_or, set, take, replicate, get_or-map}
+use lib.ListN.{length, get_or, set, take, get_or-map}
 use lib.Seq.{slice, slice-cons, slice_empty, take-suc, take-suc-set, take_all, length-take-le}
-use Rattle.route.specs.declared.WindowCells.{WindowCells}
+use Rattle.fields.specs.declared.CellList.{CellList}
 use Rattle.route.specs.Inner.{held_cells, WindowHeld}
 use Rattle.route.proofs.Targets.{held_length}
-use Rattle.integration_field.specs.Listed.{padded, Indexes, no_positions}
+use Rattle.integration_field.specs.declared.IntegrationField.{IntegrationField}
+use Rattle.integration_field.specs.Listed.{padded, no_positions, with_corners}
 use Rattle.integration_field.proofs.Lists.{padded_push}
 use Rattle.integration_started.specs.Sight.{wall_or, walls, with_portals, with_goal, sight_after}
 use Rattle.integration_started.specs.Started.{started_at}
@@ -36,7 +37,7 @@ module _ (costs cells : List ℕ) (hundred : length costs ≡ 100) (full : lengt
   pub wall_end : take 100 cells ≡ take 100 (walls costs) → cells ≡ walls costs
   wall_end t = sym (take_all 100 cells (omega arith)) ∙ t ∙ take_all 100 (walls costs) (omega (arith, walls_length costs))
 
-module _ (held : WindowCells) (w : WindowHeld held) where
+module _ (held : CellList 10) (w : WindowHeld held) where
   abbrev window : List ℕ
   window = held.cells
 
@@ -72,22 +73,18 @@ module _ (held : WindowCells) (w : WindowHeld held) where
       ∙ ap₂ (λ (n : ℕ) (z : List ℕ). record { field = with_portals l (walls costs); los_corners = padded l; count = n; positions = z })
       (sym (held_length held w)) h
 
--- the walls with the goal in them, no corner, and the goal as the first wave
-module _ (costs cells : List ℕ) (e : cells ≡ walls costs) (goal : ℕ) where
-  pub goal_sight : sight_of (set cells goal 0x20000) (replicate 100 0) 0 (goal ∷ []) ≡ sight_after (corner_line goal) (walls costs) goal 0
-  unfolding sight_after with_goal
-  goal_sight = ap (λ (l : List ℕ). record { cells = set l goal 0x20000; corners = []; queue = goal ∷ [] }) e
+-- the walls with the goal in them, and no corner
+module _ (costs : List ℕ) (goal : ℕ) where
+  abbrev begun : IntegrationField
+  begun = with_corners (set (walls costs) goal 0x20000) []
 
-  pub goal_ready : length costs ≡ 100 → goal < 100 → Ready (set cells goal 0x20000) (replicate 100 0) 0
+  pub goal_sight : sight_of begun (goal ∷ []) ≡ sight_after (corner_line goal) (walls costs) goal 0
   unfolding sight_after with_goal
-  goal_ready hundred inside = rw e record {
+  goal_sight = refl
+
+  pub goal_ready : length costs ≡ 100 → goal < 100 → Ready begun
+  unfolding sight_after with_goal
+  goal_ready hundred inside = record {
     room = sight_room goal inside costs hundred (corner_line goal) (corner_lines goal) 0;
-    held = record { cells_held = refl; corners_held = refl; count_held = refl };
+    held = record { cells_held = refl; corners_held = refl; count_held = refl; no_positions_held = refl };
   }
-
-pub goal_wavefront : (goal : ℕ) → goal < 100 → Indexes 100 (set (replicate 100 0) 0 goal) 1
-goal_wavefront goal inside = record { full = refl; count_in = omega arith; cells_in = first }
-  where
-    first : (i : ℕ) → i < 1 → get_or (set (replicate 100 0) 0 goal) i 0 < 100
-    first zero h = inside
-    first (suc i) h = absurd (omega arith)

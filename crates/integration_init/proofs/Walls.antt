@@ -11,8 +11,8 @@ use native.Mathlib.Omega.{arith}
 use lib.ListN.{get_or, set}
 use Rattle.utilities.specs.declared.CompassDir.{CompassDir}
 use Rattle.utilities.specs.Compass.{orthogonal}
-use Rattle.fields.specs.declared.Stepped.{Stepped}
-use Rattle.fields.specs.declared.Stepped.TheVariants.{Cell, Outside}
+use Rattle.std.specs.Prelude.{Option, Some, None}
+use Rattle.fields.specs.declared.FieldCell.{FieldCell}
 use Rattle.fields.specs.Cell.{cell_at, index_of, stepped}
 use Rattle.integration_field.specs.Word.{is_los, is_goal, is_blocked, is_impassable}
 use Rattle.integration_field.specs.Diagonal.{wall_at}
@@ -42,9 +42,9 @@ module _ (line : ℕ → List ℕ) (wave : ℕ) (wave_in : wave ≤ 100) where
       go false true = w
       go false false = no_wall_set s.cells n (sight_word wave) (seen_flags wave (omega arith)).impassable_is w
 
-  open_towards : (from : ℕ) (d : CompassDir) (to : Stepped) (s : Sight) → NoWall s.cells → NoWall (spread_towards line wave from d to s).cells
-  open_towards from d (Cell n) s w = open_neighbour from d (index_of n) s w
-  open_towards from d Outside s w = w
+  open_towards : (from : ℕ) (d : CompassDir) (to : Option FieldCell) (s : Sight) → NoWall s.cells → NoWall (spread_towards line wave from d to s).cells
+  open_towards from d (Some n) s w = open_neighbour from d (index_of n) s w
+  open_towards from d None s w = w
 
   open_around : (from : ℕ) (ds : List CompassDir) (s : Sight) → NoWall s.cells → NoWall (spread_around line wave from ds s).cells
   unfolding spread_around
@@ -57,7 +57,7 @@ module _ (line : ℕ → List ℕ) (wave : ℕ) (wave_in : wave ≤ 100) where
   open_wave (i ∷ is) s w = open_wave is _ (open_around i orthogonal s w)
 
   module _ (goal : ℕ) (ends : List ℕ) (s : Sight) where
-    pub lent_towards : (from : ℕ) (d : CompassDir) (to : Stepped) → Lent goal ends s.cells → Lent goal ends (spread_towards line wave from d to s).cells
+    pub lent_towards : (from : ℕ) (d : CompassDir) (to : Option FieldCell) → Lent goal ends s.cells → Lent goal ends (spread_towards line wave from d to s).cells
     lent_towards from d to (inl w) = inl (open_towards from d to s w)
     lent_towards from d to (inr h) = inr h
 

@@ -1,54 +1,56 @@
--- Sight in lent arrays (01, "From Rust's form to Rattle's"): 100 cells, and lists of 100 places with a count.
+-- Sight in a lent field (01, "From Rust's form to Rattle's"): its 100 cells, and lists of 100 places with a count.
 -- Assumes nothing.
-use Rattle.std.specs.Prelude.{◌≡◌, false, List, [], ◌⊎◌, ℕ, ◌<◌, ◌≤◌, length, take}
+use Rattle.std.specs.Prelude.{◌≡◌, false, List, [], ◌⊎◌, ℕ, ◌<◌, ◌≤◌, length}
+use Rattle.fields.specs.declared.CellList.{CellList}
+use Rattle.fields.specs.CellList.{held as cells_of}
+use Rattle.integration_field.specs.declared.IntegrationField.{IntegrationField}
 use Rattle.integration_field.specs.Diagonal.{wall_at}
-use Rattle.integration_field.specs.Listed.{padded}
+use Rattle.integration_field.specs.Listed.{padded, list_of, no_positions}
 use Rattle.line_end_table.specs.Ends.{EndsFor}
 use Rattle.integration_started.specs.Sight.{Sight}
 use Rattle.integration_started.specs.Room.{Room}
 
--- the sight of these cells, of the corners before their count, and of a queue
-abbrev pub sight_of : List ℕ → List ℕ → ℕ → List ℕ → Sight
-sight_of cells corners count queue = record { cells = cells; corners = take count corners; queue = queue }
+-- the sight of a field's cells, of the corners that it lists, and of a queue
+abbrev pub sight_of : IntegrationField → List ℕ → Sight
+sight_of f queue = record { cells = f.field; corners = list_of f; queue = queue }
 
--- these arrays hold a sight's cells and its corners; places beyond the count hold 0
-pub record Holds (s : Sight) (cells corners : List ℕ) (count : ℕ) : Type 0 where
-  pub cells_held : cells ≡ s.cells
-  pub corners_held : corners ≡ padded s.corners
-  pub count_held : count ≡ length s.corners
+-- this field holds a sight's cells and its corners; places beyond the count hold 0, and no cell has a position
+pub record Holds (s : Sight) (f : IntegrationField) : Type 0 where
+  pub cells_held : f.field ≡ s.cells
+  pub corners_held : f.los_corners ≡ padded s.corners
+  pub count_held : f.count ≡ length s.corners
+  pub no_positions_held : f.positions ≡ no_positions
 
--- what a function that marks cells is given: its cells and corners are held, and there is room
-pub record Ready (cells corners : List ℕ) (count : ℕ) : Type 0 where
-  pub room : Room (sight_of cells corners count [])
-  pub held : Holds (sight_of cells corners count []) cells corners count
+-- what a function that marks cells is given: its field's cells and corners are held, and there is room
+pub record Ready (f : IntegrationField) : Type 0 where
+  pub room : Room (sight_of f [])
+  pub held : Holds (sight_of f []) f
 
 -- what it leaves, where it goes from sight s to sight t: t is held, with the same queue, and there is room again
-pub record Leaves (s t : Sight) (cells corners : List ℕ) (count : ℕ) : Type 0 where
+pub record Leaves (s t : Sight) (f : IntegrationField) : Type 0 where
   pub room : Room s → Room t
   pub queued : t.queue ≡ s.queue
-  pub held : Holds t cells corners count
+  pub held : Holds t f
 
--- the arrays at entry go to those at exit as a definition says, whatever is queued
-abbrev pub Applied : (Sight → Sight) → List ℕ → List ℕ → ℕ → List ℕ → List ℕ → ℕ → Type 0
-Applied step cells corners count cells' corners' count' =
-    (queue : List ℕ) → Leaves (sight_of cells corners count queue) (step (sight_of cells corners count queue)) cells' corners' count'
+-- the field at entry goes to that at exit as a definition says, whatever is queued
+abbrev pub Applied : (Sight → Sight) → IntegrationField → IntegrationField → Type 0
+Applied step old new = (queue : List ℕ) → Leaves (sight_of old queue) (step (sight_of old queue)) new
 
--- these arrays hold a sight with its queue, and there is room in both lists
-pub record HoldsAll (s : Sight) (cells corners : List ℕ) (count : ℕ) (queue : List ℕ) (queued : ℕ) : Type 0 where
+-- a field and a list hold a sight with its queue, and there is room in both lists
+pub record HoldsAll (s : Sight) (f : IntegrationField) (queue : CellList 100) : Type 0 where
   pub room : Room s
-  pub held : Holds s cells corners count
-  pub full : length queue ≡ 100
-  pub queue_held : take queued queue ≡ s.queue
-  pub queued_held : queued ≡ length s.queue
+  pub held : Holds s f
+  pub full : length queue.cells ≡ 100
+  pub queue_held : cells_of queue ≡ s.queue
+  pub queued_held : queue.count ≡ length s.queue
 
 -- what sight is given where it comes to a neighbour
-abbrev pub ReadyAll : List ℕ → List ℕ → ℕ → List ℕ → ℕ → Type 0
-ReadyAll cells corners count queue queued = HoldsAll (sight_of cells corners count (take queued queue)) cells corners count queue queued
+abbrev pub ReadyAll : IntegrationField → CellList 100 → Type 0
+ReadyAll f queue = HoldsAll (sight_of f (cells_of queue)) f queue
 
--- the arrays at entry go to those at exit as a definition says, with their queue
-abbrev pub AppliedAll : (Sight → Sight) → List ℕ → List ℕ → ℕ → List ℕ → ℕ → List ℕ → List ℕ → ℕ → List ℕ → ℕ → Type 0
-AppliedAll step cells corners count queue queued cells' corners' count' queue' queued' =
-    HoldsAll (step (sight_of cells corners count (take queued queue))) cells' corners' count' queue' queued'
+-- the field and the queue at entry go to those at exit as a definition says
+abbrev pub AppliedAll : (Sight → Sight) → IntegrationField → CellList 100 → IntegrationField → CellList 100 → Type 0
+AppliedAll step old queue new queue' = HoldsAll (step (sight_of old (cells_of queue))) new queue'
 
 -- no cell is a wall
 abbrev pub NoWall : List ℕ → Type 0

@@ -19,8 +19,7 @@ use Rattle.utilities.specs.declared.CompassDir.{CompassDir}
 use Rattle.utilities.specs.Compass.{orthogonal}
 use Rattle.utilities.proofs.Lists.{table_at}
 use Rattle.fields.specs.declared.FieldCell.{FieldCell}
-use Rattle.fields.specs.declared.Stepped.{Stepped}
-use Rattle.fields.specs.declared.Stepped.TheVariants.{Cell, Outside}
+use Rattle.std.specs.Prelude.{Option, Some, None}
 use Rattle.fields.specs.Cell.{index_of, cell_at, stepped}
 use Rattle.fields.specs.Neighbours.{BesideAt}
 use Rattle.fields.proofs.Steps.{stepped_cell, index_below}
@@ -197,15 +196,15 @@ module _ (costs before corners built entered : List ℕ) (f : BuiltOn costs befo
       pub around_least : (z : ℕ) → Neighbour c ds z → get_or entered z 0 ≡ value → get_or t.places z 0 ≤ i
 
     -- trying the cell where one step arrives, if it arrives at one
-    record Stepping (t : Stepped) (s u : Placing) : Type 0 where
+    record Stepping (t : Option FieldCell) (s u : Placing) : Type 0 where
       floods : Floods u
       grown : Grown s u
-      least_there : (n : FieldCell) → t ≡ Cell n → get_or entered (index_of n) 0 ≡ value → get_or u.places (index_of n) 0 ≤ i
+      least_there : (n : FieldCell) → t ≡ Some n → get_or entered (index_of n) 0 ≡ value → get_or u.places (index_of n) 0 ≤ i
 
-    step_on : (c : FieldCell) (d : CompassDir) (t : Stepped) → stepped c d ≡ t → (s : Placing) → QueueRoom s
-        → ((n : FieldCell) → t ≡ Cell n → get_or entered (index_of n) 0 ≡ value → Mine costs before corners built entered (index_of n) i) → Floods s
+    step_on : (c : FieldCell) (d : CompassDir) (t : Option FieldCell) → stepped c d ≡ t → (s : Placing) → QueueRoom s
+        → ((n : FieldCell) → t ≡ Some n → get_or entered (index_of n) 0 ≡ value → Mine costs before corners built entered (index_of n) i) → Floods s
         → Stepping t s (placed_to entered value i t s)
-    step_on c d (Cell n) e s r m q =
+    step_on c d (Some n) e s r m q =
         let x = index_of n in
         let h : x < 100 = index_below n (stepped_cell c d n e).within in
         let t = tried entered value i x s in
@@ -214,7 +213,7 @@ module _ (costs before corners built entered : List ℕ) (f : BuiltOn costs befo
           grown = grown_at entered value i x s t;
           least_there = λ o w v. (let same : o ≡ n = cc in rw same (tried_least x s h r q t (rw same at v)));
         }
-    step_on c d Outside e s r m q = record {
+    step_on c d None e s r m q = record {
       floods = q;
       grown = grown_none s;
       least_there = λ n w v. (let zero_one : ◌≡◌ {A = ℕ} 0 1 = cc in absurd (omega arith));
@@ -226,7 +225,7 @@ module _ (costs before corners built entered : List ℕ) (f : BuiltOn costs befo
     unfolding placed_around
     around c [] s r m q = record { around_flood = q; around_grown = grown_none s; around_least = λ z b v. absurd (Memᴰ.not-nil b.listed) }
     around c (d ∷ ds) s r m q =
-        let here : (n : FieldCell) → stepped c d ≡ Cell n → Neighbour c (d ∷ ds) (index_of n) =
+        let here : (n : FieldCell) → stepped c d ≡ Some n → Neighbour c (d ∷ ds) (index_of n) =
         λ n e. record { way = d; listed = Memᴰ.head refl; cell = n; step = e; index = refl } in
         let one = step_on c d (stepped c d) refl s r (λ n e. m (index_of n) (here n e)) q in
         let rest = around c ds _ (room_to entered value i small c d (stepped c d) refl s r) (λ z b. m z (later b)) one.floods in

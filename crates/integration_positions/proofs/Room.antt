@@ -17,8 +17,7 @@ use Rattle.utilities.specs.declared.CompassDir.{CompassDir}
 use Rattle.utilities.specs.Count.{bit}
 use Rattle.utilities.proofs.Count.{count_set, count_length, count_room, at_set}
 use Rattle.fields.specs.declared.FieldCell.{FieldCell}
-use Rattle.fields.specs.declared.Stepped.{Stepped}
-use Rattle.fields.specs.declared.Stepped.TheVariants.{Cell, Outside}
+use Rattle.std.specs.Prelude.{Option, Some, None}
 use Rattle.fields.specs.Cell.{index_of, stepped}
 use Rattle.fields.proofs.Steps.{stepped_cell, index_below}
 use Rattle.integration_positions.specs.Inner.{is_placed, Placing, placing, QueueRoom, Grown, placed_at, placed_to, placed_around}
@@ -111,13 +110,13 @@ module _ (entered : List ℕ) (value p : ℕ) where
           };
         })
 
-    pub room_to : (c : FieldCell) (d : CompassDir) (t : Stepped) → stepped c d ≡ t → (s : Placing) → QueueRoom s → QueueRoom (placed_to entered value p t s)
-    room_to c d (Cell n) e s r = room_at (index_of n) s (index_below n (stepped_cell c d n e).within) r (tried entered value p (index_of n) s)
-    room_to c d Outside e s r = r
+    pub room_to : (c : FieldCell) (d : CompassDir) (t : Option FieldCell) → stepped c d ≡ t → (s : Placing) → QueueRoom s → QueueRoom (placed_to entered value p t s)
+    room_to c d (Some n) e s r = room_at (index_of n) s (index_below n (stepped_cell c d n e).within) r (tried entered value p (index_of n) s)
+    room_to c d None e s r = r
 
-  grown_to : (t : Stepped) (s : Placing) → Grown s (placed_to entered value p t s)
-  grown_to (Cell n) s = grown_at (index_of n) s (tried entered value p (index_of n) s)
-  grown_to Outside s = grown_none s
+  grown_to : (t : Option FieldCell) (s : Placing) → Grown s (placed_to entered value p t s)
+  grown_to (Some n) s = grown_at (index_of n) s (tried entered value p (index_of n) s)
+  grown_to None s = grown_none s
 
   pub grown_around : (c : FieldCell) (ds : List CompassDir) (s : Placing) → Grown s (placed_around entered value p c ds s)
   unfolding placed_around

@@ -1,13 +1,11 @@
 -- How positions are handed on (02, "Job 10"): the forms that the code goes by. A reader of the promises needs none of them.
 -- Assumes nothing.
-use Rattle.std.specs.Prelude.{◌≡◌, Bool, not, cond, ◌&&◌, ℕ, suc, ◌-◌, ◌≤◌, ◌<◌, eqb, length, get_or, set, take}
+use Rattle.std.specs.Prelude.{◌≡◌, Bool, not, cond, ◌&&◌, ℕ, suc, ◌-◌, ◌≤◌, ◌<◌, eqb, length, get_or, set, take, Option, Some, None}
 use mathlib.Core.List.{List, [], ◌∷◌, map, Memᴰ}
 use Rattle.utilities.specs.declared.CompassDir.{CompassDir}
 use Rattle.utilities.specs.Lists.{below}
 use Rattle.utilities.specs.Count.{count}
 use Rattle.fields.specs.declared.FieldCell.{FieldCell}
-use Rattle.fields.specs.declared.Stepped.{Stepped}
-use Rattle.fields.specs.declared.Stepped.TheVariants.{Cell, Outside}
 use Rattle.fields.specs.Cell.{index_of, stepped}
 use Rattle.fields.specs.Neighbours.{BesideAt}
 use Rattle.integration_field.specs.Word.{low}
@@ -65,9 +63,9 @@ placed_at entered value p x s =
     placing (cond b (set s.places x p) s.places) (set s.queue s.queued x) (cond b (suc s.queued) s.queued)
 
 -- the cell where a step arrives takes a position, if there is such a cell
-abbrev pub placed_to : List ℕ → ℕ → ℕ → Stepped → Placing → Placing
-placed_to entered value p (Cell c) s = placed_at entered value p (index_of c) s
-placed_to entered value p Outside s = s
+abbrev pub placed_to : List ℕ → ℕ → ℕ → Option FieldCell → Placing → Placing
+placed_to entered value p (Some c) s = placed_at entered value p (index_of c) s
+placed_to entered value p None s = s
 
 -- the neighbours of a cell take a position, in each of these directions in turn
 unfoldable pub placed_around : List ℕ → ℕ → ℕ → FieldCell → List CompassDir → Placing → Placing
@@ -135,7 +133,6 @@ pub record Written (gone : ℕ) (positions : List ℕ) (s : Placing) : Type 0 wh
 
 -- what positions are sought for: a field's costs, its cells before building and after, and the corners that it was built from
 pub record BuiltFrom (costs before built corners : List ℕ) (count : ℕ) : Type 0 where
-  pub costs_hundred : length costs ≡ 100
   pub full : length before ≡ 100
   pub listed : Indexes 100 corners count
   pub is_built : built ≡ (build costs before (take count corners)).cells

@@ -15,7 +15,7 @@ use Rattle.utilities.specs.declared.CompassDir.{CompassDir}
 use Rattle.utilities.specs.declared.CompassDir.TheVariants.{North, East, South, West}
 use Rattle.utilities.specs.Compass.{points, orthogonal}
 use Rattle.fields.specs.declared.FieldCell.{FieldCell}
-use Rattle.fields.specs.declared.Stepped.TheVariants.{Cell}
+use Rattle.std.specs.Prelude.{Some}
 use Rattle.fields.specs.Cell.{cell, Inside, cell_at, index_of, stepped}
 use Rattle.fields.proofs.Steps.{Told, stepped_cell, steps_by, index_below, cell_inside}
 use Rattle.integration_field.specs.Word.{is_los, is_goal, is_blocked, is_impassable}
@@ -33,7 +33,7 @@ record Neighbour (c : FieldCell) : Type 0 where
   way : CompassDir
   at : FieldCell
   is_side_law : is_side way ≡ true
-  step : stepped c way ≡ Cell at
+  step : stepped c way ≡ Some at
 
 abbrev neighbour : (c : FieldCell) (d : CompassDir) (n : FieldCell) → is_side d ≡ true → points d ≡ true → Told c d n → Inside n → Neighbour c
 neighbour c d n o p t i = record { way = d; at = n; is_side_law = o; step = steps_by c d n p t i }
@@ -64,7 +64,7 @@ three f cells a b c z pa pb pc ab ac bc =
     (each_more (a ∷ []) b (λ m. m ≡ c → ⊥) (each_one (λ m. m ≡ c → ⊥) a ac) bc))
 
 module _ (goal : ℕ) (goal_in : goal < 100) (walls : ℕ → Bool) (corner_line : ℕ → List ℕ) (lines : Lines goal corner_line) where
-  module _ (d : CompassDir) (n : FieldCell) (is_side_law : is_side d ≡ true) (step : stepped (cell_at goal) d ≡ Cell n) where
+  module _ (d : CompassDir) (n : FieldCell) (is_side_law : is_side d ≡ true) (step : stepped (cell_at goal) d ≡ Some n) where
     abbrev This : ℕ → Type 0
     This m = m ≡ index_of n
 

@@ -26,7 +26,7 @@ use Rattle.utilities.specs.declared.CompassDir.{CompassDir}
 use Rattle.utilities.specs.declared.CompassDir.TheVariants.{North, East, South, West}
 use Rattle.utilities.specs.Compass.{orthogonal, opposite, lower_side}
 use Rattle.fields.specs.declared.FieldCell.{FieldCell}
-use Rattle.fields.specs.declared.Stepped.TheVariants.{Cell}
+use Rattle.std.specs.Prelude.{Some}
 use Rattle.fields.specs.Cell.{Inside, cell_at, index_of, stepped}
 use Rattle.fields.proofs.Steps.{stepped_cell, step_back, index_below, index_of_cell, cell_inside, cell_of_index}
 use Rattle.integration_field.specs.Word.{is_blocked}
@@ -68,7 +68,7 @@ module _ (goal : ℕ) (walls : ℕ → Bool) where
 
   -- a corner is found beside the wall: one step from the wall cell
   corner_step : (from : ℕ) (d : CompassDir) (wall : FieldCell) (side : CompassDir) (a corner : FieldCell) → Found walls from d wall side a corner
-      → stepped wall side ≡ Cell corner
+      → stepped wall side ≡ Some corner
   corner_step from d wall side a corner f =
       ap (λ (y : FieldCell). stepped y side) (sym (cell_of_index wall (stepped_cell (cell_at from) d wall f.ahead).within)) ∙ f.cornered
 
@@ -95,7 +95,7 @@ module _ (goal : ℕ) (walls : ℕ → Bool) where
     side_side : is_side h.side ≡ true
     side_side = side_sideways h.way h.side h.is_side_law h.found.sideways
 
-    to_goal : stepped h.wall_cell h.side ≡ Cell (cell_at goal)
+    to_goal : stepped h.wall_cell h.side ≡ Some (cell_at goal)
     to_goal = corner_step c h.way h.wall_cell h.side h.free_cell (cell_at goal) h.found
 
     pub hides_even : Odd c → ⊥
@@ -107,7 +107,7 @@ module _ (goal : ℕ) (walls : ℕ → Bool) where
     hides_not_goal : c ≡ goal → ⊥
     hides_not_goal same =
         sideways_away (cell_at c) h.wall_cell h.way h.side h.is_side_law h.found.sideways h.found.ahead
-        (to_goal ∙ ap (λ (n : ℕ). Cell (cell_at n)) (sym same))
+        (to_goal ∙ ap (λ (n : ℕ). Some (cell_at n)) (sym same))
 
   -- the first wave, in which cells `Kept` stay BLOCKED and cells `Met` stay met
   abbrev pub First : (ℕ → Type 0) → (ℕ → Type 0) → Sight → Type 0
@@ -135,7 +135,7 @@ module _ (goal : ℕ) (walls : ℕ → Bool) where
     away from d wall side a corner from-goal is_side_law f is-goal = hides_not_goal from (goal_hidden from d wall side a corner is_side_law f is-goal) from-goal
 
     -- what it queues is one step from the goal
-    next : (Kept : ℕ → Type 0) (from : ℕ) (d : CompassDir) (n : FieldCell) → IsGoal from → is_side d ≡ true → stepped (cell_at from) d ≡ Cell n
+    next : (Kept : ℕ → Type 0) (from : ℕ) (d : CompassDir) (n : FieldCell) → IsGoal from → is_side d ≡ true → stepped (cell_at from) d ≡ Some n
         → walls (index_of n) ≡ false → (Kept (index_of n) → ⊥) → Odd (index_of n)
     next Kept from d n from-goal is_side_law step free not-kept =
         let apart = subst (λ (m : ℕ). (m % 10 + m / 10 + n.column + n.row) % 2 ≡ 1) from-goal (odd d (cell_at from) n is_side_law step) in
@@ -181,15 +181,15 @@ module _ (goal : ℕ) (walls : ℕ → Bool) where
       wall_inside : Inside h.wall_cell
       wall_inside = (stepped_cell (cell_at c) h.way h.wall_cell h.found.ahead).within
 
-      sees_wall : stepped (cell_at goal) (opposite h.side) ≡ Cell h.wall_cell
+      sees_wall : stepped (cell_at goal) (opposite h.side) ≡ Some h.wall_cell
       sees_wall = step_back h.wall_cell h.side (cell_at goal) wall_inside (to_goal c h)
 
-      sees_free : stepped (cell_at goal) (opposite h.way) ≡ Cell h.free_cell
+      sees_free : stepped (cell_at goal) (opposite h.way) ≡ Some h.free_cell
       sees_free =
           step_back h.free_cell h.way (cell_at goal) (stepped_cell (cell_at c) h.side h.free_cell h.found.beside).within
           (square h.way h.side (cell_at c) h.wall_cell h.free_cell (cell_at goal) h.found.ahead (to_goal c h) h.found.beside)
 
-      sees_this : stepped (cell_at (index_of h.wall_cell)) (opposite h.way) ≡ Cell (cell_at c)
+      sees_this : stepped (cell_at (index_of h.wall_cell)) (opposite h.way) ≡ Some (cell_at c)
       sees_this =
           ap (λ (y : FieldCell). stepped y (opposite h.way)) (cell_of_index h.wall_cell wall_inside)
           ∙ step_back (cell_at c) h.way h.wall_cell (cell_inside c c-in) h.found.ahead

@@ -11,8 +11,7 @@ use Rattle.utilities.specs.declared.CompassDir.{CompassDir}
 use Rattle.utilities.specs.declared.CompassDir.TheVariants.{North, East, South, West}
 use Rattle.utilities.specs.Compass.{orthogonal, opposite, lower_side}
 use Rattle.fields.specs.declared.FieldCell.{FieldCell}
-use Rattle.fields.specs.declared.Stepped.{Stepped}
-use Rattle.fields.specs.declared.Stepped.TheVariants.{Cell, Outside}
+use Rattle.std.specs.Prelude.{Option, Some, None}
 use Rattle.fields.specs.Cell.{cell_at, index_of, stepped}
 use Rattle.integration_field.specs.Word.{is_los, is_goal, is_blocked, is_impassable}
 use Rattle.integration_field.specs.Diagonal.{wall_at}
@@ -24,19 +23,19 @@ use Rattle.integration_started.proofs.Sides.{is_side, Sideways}
 
 -- the wave cell `from` meets the wall x in direction d, and tries a side: cell a is beside the wave cell, the corner b beside the wall
 pub record Found (walls : ℕ → Bool) (from : ℕ) (d : CompassDir) (x : FieldCell) (side : CompassDir) (a b : FieldCell) : Type 0 where
-  pub ahead : stepped (cell_at from) d ≡ Cell x
+  pub ahead : stepped (cell_at from) d ≡ Some x
   pub wall : walls (index_of x) ≡ true
   pub sideways : Sideways d side
-  pub beside : stepped (cell_at from) side ≡ Cell a
+  pub beside : stepped (cell_at from) side ≡ Some a
   pub beside_free : walls (index_of a) ≡ false
-  pub cornered : stepped (cell_at (index_of x)) side ≡ Cell b
+  pub cornered : stepped (cell_at (index_of x)) side ≡ Some b
 
 -- The facts `P` of sight are kept in a wave: over cells `From`, where the cells of lines are `Free`, and the walls stay `walls`.
 pub record Keeps (corner_line : ℕ → List ℕ) (wave : ℕ) (walls : ℕ → Bool) (From Free : ℕ → Type 0) (P : Sight → Type 0) : Type 0 where
   pub same_walls : (s : Sight) → P s → (n : ℕ) → wall_at s.cells n ≡ walls n
   pub marks : (value n : ℕ) (s : Sight) → P s → Free n → value ≤ wave + 10 → wall_at s.cells n ≡ false → is_blocked (get_or s.cells n 0) ≡ false
       → P (listed value n s)
-  pub sees : (from : ℕ) (d : CompassDir) (n : FieldCell) (s : Sight) → P s → From from → is_side d ≡ true → stepped (cell_at from) d ≡ Cell n
+  pub sees : (from : ℕ) (d : CompassDir) (n : FieldCell) (s : Sight) → P s → From from → is_side d ≡ true → stepped (cell_at from) d ≡ Some n
       → Flags (get_or s.cells (index_of n) 0) false false false false → P (seen wave (index_of n) s)
   pub draws : (from : ℕ) (d : CompassDir) (x : FieldCell) (side : CompassDir) (a b : FieldCell) → From from → is_side d ≡ true
       → Found walls from d x side a b
@@ -76,14 +75,14 @@ module _ {corner_line : ℕ → List ℕ} {wave : ℕ} {walls : ℕ → Bool} {F
 
   -- the wave cell meets a wall, in one of the four directions
   module _ (from : ℕ) (d : CompassDir) (x : FieldCell) (inWave : From from) (side-way : is_side d ≡ true)
-      (ahead : stepped (cell_at from) d ≡ Cell x) (wall : walls (index_of x) ≡ true) where
+      (ahead : stepped (cell_at from) d ≡ Some x) (wall : walls (index_of x) ≡ true) where
     pub kept_side : (side : CompassDir) (s : Sight) → Sideways d side → P s → P (side_tried corner_line wave from (index_of x) side s)
     unfolding side_tried
     kept_side side s w p = go (stepped (cell_at from) side) (stepped (cell_at (index_of x)) side) refl refl
       where
-        corner : (a b : FieldCell) → stepped (cell_at from) side ≡ Cell a → stepped (cell_at (index_of x)) side ≡ Cell b → (t u : Bool)
+        corner : (a b : FieldCell) → stepped (cell_at from) side ≡ Some a → stepped (cell_at (index_of x)) side ≡ Some b → (t u : Bool)
             → wall_at s.cells (index_of a) ≡ t → wall_at s.cells (index_of b) ≡ u
-            → P (corner_of corner_line wave (cond t Outside (Cell a)) (cond u Outside (Cell b)) s)
+            → P (corner_of corner_line wave (cond t None (Some a)) (cond u None (Some b)) s)
         corner a b ea eb true u et eu = p
         corner a b ea eb false true et eu = p
         corner a b ea eb false false et eu =
@@ -97,15 +96,15 @@ module _ {corner_line : ℕ → List ℕ} {wave : ℕ} {walls : ℕ → Bool} {F
             }) in
             kept_extended (index_of b) s p line.0 line.1
 
-        half : (t : Bool) (a : FieldCell) → P (corner_of corner_line wave (cond t Outside (Cell a)) Outside s)
+        half : (t : Bool) (a : FieldCell) → P (corner_of corner_line wave (cond t None (Some a)) None s)
         half true a = p
         half false a = p
 
-        go : (a b : Stepped) → stepped (cell_at from) side ≡ a → stepped (cell_at (index_of x)) side ≡ b
+        go : (a b : Option FieldCell) → stepped (cell_at from) side ≡ a → stepped (cell_at (index_of x)) side ≡ b
             → P (corner_of corner_line wave (unless_wall s.cells a) (unless_wall s.cells b) s)
-        go (Cell a) (Cell b) ea eb = corner a b ea eb (wall_at s.cells (index_of a)) (wall_at s.cells (index_of b)) refl refl
-        go (Cell a) Outside ea eb = half (wall_at s.cells (index_of a)) a
-        go Outside b ea eb = p
+        go (Some a) (Some b) ea eb = corner a b ea eb (wall_at s.cells (index_of a)) (wall_at s.cells (index_of b)) refl refl
+        go (Some a) None ea eb = half (wall_at s.cells (index_of a)) a
+        go None b ea eb = p
 
     pub kept_wall : (s : Sight) → P s → P (wall_met corner_line wave from (index_of x) d s)
     unfolding wall_met
@@ -114,7 +113,7 @@ module _ {corner_line : ℕ → List ℕ} {wave : ℕ} {walls : ℕ → Bool} {F
         (kept_side (lower_side d) s (inl refl) p)
 
   module _ (from : ℕ) (inWave : From from) where
-    pub kept_neighbour : (d : CompassDir) (n : FieldCell) (s : Sight) → is_side d ≡ true → stepped (cell_at from) d ≡ Cell n → P s
+    pub kept_neighbour : (d : CompassDir) (n : FieldCell) (s : Sight) → is_side d ≡ true → stepped (cell_at from) d ≡ Some n → P s
         → P (spread_to corner_line wave from d (index_of n) s)
     unfolding spread_to
     kept_neighbour d n s o e p = go (is_blocked x) refl (is_goal x) refl (is_impassable x) refl (is_los x) refl
@@ -133,9 +132,9 @@ module _ {corner_line : ℕ → List ℕ} {wave : ℕ} {walls : ℕ → Bool} {F
     pub kept_towards : (d : CompassDir) (s : Sight) → is_side d ≡ true → P s → P (spread_towards corner_line wave from d (stepped (cell_at from) d) s)
     kept_towards d s o p = go (stepped (cell_at from) d) refl
       where
-        go : (n : Stepped) → stepped (cell_at from) d ≡ n → P (spread_towards corner_line wave from d n s)
-        go (Cell n) e = kept_neighbour d n s o e p
-        go Outside e = p
+        go : (n : Option FieldCell) → stepped (cell_at from) d ≡ n → P (spread_towards corner_line wave from d n s)
+        go (Some n) e = kept_neighbour d n s o e p
+        go None e = p
 
     pub kept_around : (s : Sight) → P s → P (spread_around corner_line wave from orthogonal s)
     unfolding spread_around

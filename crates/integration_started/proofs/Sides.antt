@@ -13,7 +13,7 @@ use Rattle.utilities.specs.declared.CompassDir.{CompassDir}
 use Rattle.utilities.specs.declared.CompassDir.TheVariants.{North, East, South, West, NorthEast, SouthEast, SouthWest, NorthWest, Zero}
 use Rattle.utilities.specs.Compass.{opposite, lower_side}
 use Rattle.fields.specs.declared.FieldCell.{FieldCell}
-use Rattle.fields.specs.declared.Stepped.TheVariants.{Cell}
+use Rattle.std.specs.Prelude.{Some}
 use Rattle.fields.specs.Cell.{stepped}
 use Rattle.fields.proofs.Steps.{Told, stepped_cell, told, steps_by}
 
@@ -40,8 +40,8 @@ by_side Q n e s w SouthWest o = absurd (true≢false (sym o))
 by_side Q n e s w NorthWest o = absurd (true≢false (sym o))
 by_side Q n e s w Zero o = absurd (true≢false (sym o))
 
-pub square : (d side : CompassDir) (c x a g : FieldCell) → stepped c d ≡ Cell x → stepped x side ≡ Cell g → stepped c side ≡ Cell a
-    → stepped a d ≡ Cell g
+pub square : (d side : CompassDir) (c x a g : FieldCell) → stepped c d ≡ Some x → stepped x side ≡ Some g → stepped c side ≡ Some a
+    → stepped a d ≡ Some g
 square d side c x a g ex eg ea =
     let p = stepped_cell c d x ex in
     let q = stepped_cell x side g eg in
@@ -50,7 +50,7 @@ square d side c x a g ex eg ea =
     let w = told c side a (stepped_cell c side a ea) in
     steps_by a d g p.pointing (omega arith) q.within
 
-pub odd : (d : CompassDir) (c n : FieldCell) → is_side d ≡ true → stepped c d ≡ Cell n → (c.column + c.row + n.column + n.row) % 2 ≡ 1
+pub odd : (d : CompassDir) (c n : FieldCell) → is_side d ≡ true → stepped c d ≡ Some n → (c.column + c.row + n.column + n.row) % 2 ≡ 1
 odd d c n o e =
     by_side (λ d. Told c d n → (c.column + c.row + n.column + n.row) % 2 ≡ 1)
     (λ a. omega arith) (λ a. omega arith) (λ a. omega arith) (λ a. omega arith)
@@ -82,7 +82,7 @@ sideways_back =
     by_sideways (λ d side. Sideways (opposite side) (opposite d))
     (inr refl) (inr refl) (inl refl) (inl refl) (inl refl) (inl refl) (inr refl) (inr refl)
 
-pub sideways_away : (c x : FieldCell) (d side : CompassDir) → is_side d ≡ true → Sideways d side → stepped c d ≡ Cell x → stepped x side ≡ Cell c → ⊥
+pub sideways_away : (c x : FieldCell) (d side : CompassDir) → is_side d ≡ true → Sideways d side → stepped c d ≡ Some x → stepped x side ≡ Some c → ⊥
 sideways_away c x d side o w e f = by_sideways (λ d side. Told c d x → Told x side c → ⊥)
     (λ a b. omega arith) (λ a b. omega arith) (λ a b. omega arith) (λ a b. omega arith)
     (λ a b. omega arith) (λ a b. omega arith) (λ a b. omega arith) (λ a b. omega arith)

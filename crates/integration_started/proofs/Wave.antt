@@ -8,7 +8,7 @@ use native.Mathlib.Omega.{arith}
 use lib.ListN.{length, get_or, set}
 use Rattle.utilities.specs.declared.CompassDir.{CompassDir}
 use Rattle.fields.specs.declared.FieldCell.{FieldCell}
-use Rattle.fields.specs.declared.Stepped.TheVariants.{Cell}
+use Rattle.std.specs.Prelude.{Some}
 use Rattle.fields.specs.Cell.{cell_at, index_of, stepped}
 use Rattle.fields.proofs.Steps.{stepped_cell, index_below}
 use Rattle.integration_field.specs.Word.{is_los, is_goal, is_blocked, is_impassable}
@@ -120,7 +120,7 @@ module _ (goal : ℕ) (walls : ℕ → Bool) where
       (first : 1 ≤ wave) (hundred : wave ≤ 100) (under : wave ≤ least) (From Next Kept Met : ℕ → Type 0)
       (away : (from : ℕ) (d : CompassDir) (x : FieldCell) (side : CompassDir) (a b : FieldCell) → From from → is_side d ≡ true
       → Found walls from d x side a b → index_of b ≡ goal → ⊥)
-      (next : (from : ℕ) (d : CompassDir) (n : FieldCell) → From from → is_side d ≡ true → stepped (cell_at from) d ≡ Cell n
+      (next : (from : ℕ) (d : CompassDir) (n : FieldCell) → From from → is_side d ≡ true → stepped (cell_at from) d ≡ Some n
       → walls (index_of n) ≡ false → (Kept (index_of n) → ⊥) → Next (index_of n)) where
     marks : (value n : ℕ) (s : Sight) → Wave least Next Kept Met s → Free n → value ≤ wave + 10 → wall_at s.cells n ≡ false
         → is_blocked (get_or s.cells n 0) ≡ false → Wave least Next Kept Met (listed value n s)
@@ -143,7 +143,7 @@ module _ (goal : ℕ) (walls : ℕ → Bool) where
         }
 
     sees : (from : ℕ) (d : CompassDir) (n : FieldCell) (s : Sight) → Wave least Next Kept Met s → From from → is_side d ≡ true
-        → stepped (cell_at from) d ≡ Cell n
+        → stepped (cell_at from) d ≡ Some n
         → Flags (get_or s.cells (index_of n) 0) false false false false → Wave least Next Kept Met (seen wave (index_of n) s)
     unfolding seen
     sees from d n s p inWave o e f =

@@ -15,7 +15,7 @@ use lib.ListN.{length, get_or, length-set}
 use lib.Seq.{get_or-set_same}
 use Rattle.utilities.specs.declared.CompassDir.{CompassDir}
 use Rattle.fields.specs.declared.FieldCell.{FieldCell}
-use Rattle.fields.specs.declared.Stepped.TheVariants.{Cell}
+use Rattle.std.specs.Prelude.{Some}
 use Rattle.fields.specs.Cell.{cell_at, index_of, stepped}
 use Rattle.integration_field.specs.Word.{is_los, is_goal, is_blocked, is_impassable}
 use Rattle.integration_field.specs.Diagonal.{wall_at}
@@ -155,7 +155,7 @@ module _ (goal : ℕ) (goal_in : goal < 100) (costs : List ℕ) (hundred : lengt
         → Found walls_of from d x side a b → index_of b ≡ goal → ⊥
     away from d x side a b not-hiding o f e = not-hiding (goal_hidden goal walls_of from d x side a b o f e)
 
-    next : (from : ℕ) (d : CompassDir) (n : FieldCell) → NotHiding from → is_side d ≡ true → stepped (cell_at from) d ≡ Cell n
+    next : (from : ℕ) (d : CompassDir) (n : FieldCell) → NotHiding from → is_side d ≡ true → stepped (cell_at from) d ≡ Some n
         → walls_of (index_of n) ≡ false → (Blocked (index_of n) → ⊥) → NotHiding (index_of n)
     next from d n f o e w b h = b (h, w)
 

@@ -1,11 +1,10 @@
 -- How a field is started (01, "Integration: init"). Lists here have any length, and there is a wave k for every k:
 -- that 100 places and 100 waves always do is a theorem (Sizes).
 -- Assumes nothing.
-use Rattle.std.specs.Prelude.{Bool, cond, ◌||◌, List, [], ◌∷◌, ◌++◌, map, ℕ, zero, suc, ◌+◌, eqb, get_or, set}
+use Rattle.std.specs.Prelude.{Bool, cond, ◌||◌, List, [], ◌∷◌, ◌++◌, map, ℕ, zero, suc, ◌+◌, eqb, get_or, set, Option, Some, None}
 use Rattle.utilities.specs.declared.CompassDir.{CompassDir}
 use Rattle.utilities.specs.Compass.{orthogonal, opposite, lower_side}
-use Rattle.fields.specs.declared.Stepped.{Stepped}
-use Rattle.fields.specs.declared.Stepped.TheVariants.{Cell, Outside}
+use Rattle.fields.specs.declared.FieldCell.{FieldCell}
 use Rattle.fields.specs.Cell.{cell_at, index_of, stepped}
 use Rattle.integration_field.specs.Word.{is_los, is_goal, is_blocked, is_impassable}
 use Rattle.integration_field.specs.Diagonal.{wall_at, passes_wall}
@@ -62,9 +61,9 @@ unfoldable pub seen : ℕ → ℕ → Sight → Sight
 seen wave n s = record { cells = set s.cells n (sight_word wave); corners = s.corners; queue = s.queue ++ (n ∷ []) }
 
 -- a cell that exists and is no wall
-abbrev pub unless_wall : List ℕ → Stepped → Stepped
-unless_wall cells (Cell n) = cond (wall_at cells (index_of n)) Outside (Cell n)
-unless_wall cells Outside = Outside
+abbrev pub unless_wall : List ℕ → Option FieldCell → Option FieldCell
+unless_wall cells (Some n) = cond (wall_at cells (index_of n)) None (Some n)
+unless_wall cells None = None
 
 -- what a wave begins with: nothing is queued yet
 abbrev pub begun : Sight → Sight
@@ -77,10 +76,10 @@ module _ (corner_line : ℕ → List ℕ) where
   extended wave corner s = line_marked wave 0 corner (corner_line corner) s
 
   -- where the wave cell's side cell and the wall's side cell exist and are no walls, the latter is a corner
-  abbrev pub corner_of : ℕ → Stepped → Stepped → Sight → Sight
-  corner_of wave (Cell a) (Cell b) s = extended wave (index_of b) s
-  corner_of wave (Cell a) Outside s = s
-  corner_of wave Outside b s = s
+  abbrev pub corner_of : ℕ → Option FieldCell → Option FieldCell → Sight → Sight
+  corner_of wave (Some a) (Some b) s = extended wave (index_of b) s
+  corner_of wave (Some a) None s = s
+  corner_of wave None b s = s
 
   -- one sideways pair is tried
   unfoldable pub side_tried : ℕ → ℕ → ℕ → CompassDir → Sight → Sight
@@ -98,9 +97,9 @@ module _ (corner_line : ℕ → List ℕ) where
       cond (is_blocked x || is_goal x) s (cond (is_impassable x) (wall_met wave from n d s) (cond (is_los x) s (seen wave n s)))
 
   -- to where a step arrives, if inside
-  abbrev pub spread_towards : ℕ → ℕ → CompassDir → Stepped → Sight → Sight
-  spread_towards wave from d (Cell n) s = spread_to wave from d (index_of n) s
-  spread_towards wave from d Outside s = s
+  abbrev pub spread_towards : ℕ → ℕ → CompassDir → Option FieldCell → Sight → Sight
+  spread_towards wave from d (Some n) s = spread_to wave from d (index_of n) s
+  spread_towards wave from d None s = s
 
   -- neighbours N, E, S, W
   unfoldable pub spread_around : ℕ → ℕ → List CompassDir → Sight → Sight

@@ -1,9 +1,8 @@
 -- What starting and building a target's field comes to. A reader of the promises needs none of it.
 -- Assumes nothing.
-use Rattle.std.specs.Prelude.{◌≡◌, true, List, ℕ}
+use Rattle.std.specs.Prelude.{List, ℕ}
 use Rattle.route.specs.declared.Target.{Target}
-use Rattle.route.specs.Target.{by_window}
-use Rattle.route.specs.Inner.{held_target, TargetHeld}
+use Rattle.route.specs.Inner.{held_target}
 use Rattle.integration_field.specs.declared.IntegrationField.{IntegrationField}
 use Rattle.integration_started.specs.Started.{started}
 use Rattle.integration_build.specs.Without.{built_without}
@@ -11,8 +10,3 @@ use Rattle.integration_build.specs.Without.{built_without}
 -- the field that a target starts, built without positions
 abbrev pub target_field : List ℕ → Target → IntegrationField
 target_field costs target = built_without costs (started costs (held_target target))
-
--- a target inside the sector that is a window
-pub record WindowTarget (target : Target) : Type 0 where
-  pub held : TargetHeld target
-  pub is_by_window : by_window (held_target target) ≡ true

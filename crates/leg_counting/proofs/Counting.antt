@@ -2,21 +2,17 @@
 --     counting_in      the cells of its window that count are cells of the sector, no cell twice, at most 10
 --     leg_target_in    so the target of a step that is not refused is inside the sector
 --     leg_target_on    and its window cells lie on the edge of the step's boundary
---     made_is          and it is what the program makes of the parsed step
 --     closed_listed    in the program: a window is closed exactly if it has no cells
 -- Assumes nothing.
-use mathlib.Core.Path.{◌≡◌, refl, ap, ◌∙◌}
-use mathlib.Core.Bool.{Bool, true, false, ◌&&◌}
+use mathlib.Core.Path.{◌≡◌, refl}
+use mathlib.Core.Bool.{Bool, true, false}
 use mathlib.Core.List.{List, [], ◌∷◌, Memᴰ}
 use Prim.Native.Nat.{ℕ}
 use native.Mathlib.Omega.{arith}
-use lib.Dec.{eqb}
 use lib.ListN.{length}
 use borrow.Author.Tests.{ne_eqb}
-use Rattle.route.specs.declared.RouteStep.{RouteStep}
-use Rattle.route.specs.declared.Target as program
 use Rattle.route.specs.Window.{on_edge}
-use Rattle.route.specs.Step.{first_of, last_of, boundary_of, window_cells, portal_of, route_step, step_number}
+use Rattle.route.specs.Step.{first_of, last_of, boundary_of, window_cells, portal_of, step_number}
 use Rattle.route.specs.Target.{Target, to_goal, to_window, to_corner, WindowIn, TargetIn, target_of}
 use Rattle.route.specs.Inner.{listed_target}
 use Rattle.route.proofs.Cells.{cells_in}
@@ -24,7 +20,7 @@ use Rattle.route.proofs.Targets.{target_in, sight_in, sight_window}
 use Rattle.route.proofs.Selected.{select_in, selected_from}
 use Rattle.flow_arrows.proofs.Clear.{OnEdge, window_on, target_on}
 use Rattle.leg_counting.specs.Counting.{counting_cells, leg_target, is_closed}
-use Rattle.leg_counting.specs.Inner.{route_leg_target}
+use Rattle.leg_counting.specs.Inner.{found_closed}
 
 pub counting_in : (previous step : List ℕ) → WindowIn (counting_cells previous step)
 unfolding counting_cells
@@ -42,18 +38,7 @@ pub leg_target_on : (sight has : Bool) (previous step : List ℕ) → OnEdge (po
 leg_target_on sight false previous step x m = target_on step x (rw (sight_window sight (target_of step)) at m)
 leg_target_on sight true previous step x m = counting_on previous step x m
 
-same_target : (step : List ℕ) (sight has : Bool) (previous : List ℕ) → route_leg_target (route_step step) sight has previous ≡ leg_target sight has previous step
-unfolding target_of counting_cells
-same_target step sight false previous = refl
-same_target step sight true previous = refl
-
-pub made_is : {s : RouteStep} {t : program.Target} (step : List ℕ) (sight has : Bool) (previous : List ℕ)
-    → s ≡ route_step step → t ≡ listed_target (route_leg_target s sight has previous)
-    → t ≡ listed_target (leg_target sight has previous step)
-made_is step sight has previous parsed made =
-    made ∙ ap (λ (r : RouteStep). listed_target (route_leg_target r sight has previous)) parsed ∙ ap listed_target (same_target step sight has previous)
-
-pub closed_listed : (target : Target) → ((listed_target target).has_window && eqb (listed_target target).window.count 0) ≡ is_closed target
+pub closed_listed : (target : Target) → found_closed (listed_target target) ≡ is_closed target
 closed_listed (to_goal n) = refl
 closed_listed (to_window []) = refl
 closed_listed (to_corner n) = refl

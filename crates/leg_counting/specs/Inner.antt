@@ -1,13 +1,11 @@
--- A step's target in a leg, of the parsed step: for the contracts of this crate's functions.
+-- A step's target in a leg, as the program holds it: for the contracts of this crate's functions.
 -- Assumes nothing.
-use Rattle.std.specs.Prelude.{Bool, true, false, List, ℕ}
-use Rattle.route.specs.declared.RouteStep.{RouteStep}
-use Rattle.route.specs.Window.{select, cells_between}
-use Rattle.route.specs.Target.{Target, to_window, by_sight}
-use Rattle.route.specs.Inner.{route_target}
-use Rattle.leg_counting.specs.Counting.{counts}
+use Rattle.std.specs.Prelude.{Bool, false, eqb}
+use Rattle.route.specs.declared.Target.{Target}
+use Rattle.route.specs.declared.Target.TheVariants.{Goal, Window, Corner}
 
-abbrev pub route_leg_target : RouteStep → Bool → Bool → List ℕ → Target
-route_leg_target s sight false previous = by_sight sight (route_target s)
-route_leg_target s sight true previous =
-    to_window (select (counts s.portal previous) (cells_between s.portal.boundary s.portal.start s.portal.end))
+-- the program's test of a target: a window without cells
+abbrev pub found_closed : Target → Bool
+found_closed (Goal n) = false
+found_closed (Window w) = eqb w.count 0
+found_closed (Corner n) = false

@@ -2,77 +2,57 @@
 // the sector before.
 #![tactic(auto)]
 
-ghost use Rattle.std.specs.Prelude.{◌≡◌, ◌&&◌, ◌<◌, eqb};
+ghost use Rattle.std.specs.Prelude.{◌≡◌, ◌<◌, is_some};
 ghost use Rattle.route.specs.Window.{select, cells_between, listed};
 ghost use Rattle.route.specs.Inner.{listed_target};
-ghost use Rattle.leg_counting.specs.Counting.{counts};
-ghost use Rattle.leg_counting.specs.Inner.{route_leg_target};
+ghost use Rattle.flow_byte.specs.Previous.{given};
+ghost use Rattle.leg_counting.specs.Counting.{counts, leg_target};
+ghost use Rattle.leg_counting.specs.Inner.{found_closed};
 
-use route::{PortalWindow, RouteStep, Target, WindowCells};
+use fields::CellList;
+use route::{PortalWindow, RouteStep, Target};
 
 // Whether a window cell counts: some facing cell that it compares was reached. `previous` is the built field of the step before.
+#[tactic(auto, unfolding(crate::specs::Counting::counts))]
 fn counts(portal: PortalWindow, previous: &[u32; 100], index: usize) -> bool
     requires { index < 100 }
     ensures { result ≡ counts portal previous.now index }
 {
     let seen = flow_new::seen_values(portal, previous, index);
-    if seen.straight < 65535 {
-        return true;
-    }
-    if seen.lower < 65535 {
-        return true;
-    }
-    seen.higher < 65535
+    seen.straight < 65535 || seen.lower < 65535 || seen.higher < 65535
 }
 
 // The cells of a window that count, in order.
-fn counting_cells(portal: PortalWindow, previous: &[u32; 100]) -> WindowCells
+fn counting_cells(portal: PortalWindow, previous: &[u32; 100]) -> CellList<10>
     ensures { result ≡ listed (select (counts portal previous.now) (cells_between portal.boundary portal.start portal.end)) }
 {
-    let window = portal.get_all_window_cells();
-    let all = window.cells;
-    let length = window.count;
-    let mut cells = [0usize; 10];
-    let mut count = 0usize;
-    let mut place = 0usize;
-    while place < length {
-        let cell = all[place];
-        if counts(portal, previous, cell) {
-            cells[count] = cell;
-            count += 1;
+    let all = portal.get_all_window_cells();
+    let mut window = CellList::none();
+    for place in 0..all.count {
+        let cell = all.cells[place];
+        if counts(portal, previous, usize::from(cell)) {
+            window.push(cell);
         }
-        place += 1;
     }
-    WindowCells { cells, count }
+    window
 }
 
 // What a step of a leg starts from: the first its goal, with the sight of it or without, a later one the cells of its window that count.
-pub fn leg_target(step: RouteStep, sight: bool, has_previous: bool, previous: &[u32; 100]) -> Target
-    ensures { result ≡ listed_target (route_leg_target step sight has_previous previous.now) }
+pub fn leg_target(step: &[u8], sight: bool, previous: Option<&[u32; 100]>) -> Target
+    ensures { result ≡ listed_target (leg_target sight (is_some previous.entry) (given previous.entry) step.now) }
 {
-    if !has_previous {
-        let whole = step.as_target();
-        return whole.by_sight(sight);
-    }
-    let portal = step.portal;
-    let window = counting_cells(portal, previous);
-    Target {
-        has_window: true,
-        sight: true,
-        goal: 0,
-        window,
+    match previous {
+        Some(previous) => Target::Window(counting_cells(PortalWindow::new(step), previous)),
+        None => RouteStep::new(step).as_target().by_sight(sight),
     }
 }
 
 // Whether a target is a window without cells.
 pub fn is_closed(target: Target) -> bool
-    ensures { result ≡ (target.has_window && eqb target.window.count 0) }
+    ensures { result ≡ found_closed target }
 {
-    let has_window = target.has_window;
-    let window = target.window;
-    let count = window.count;
-    if has_window {
-        return count == 0;
+    match target {
+        Target::Window(window) => window.count == 0,
+        _ => false,
     }
-    false
 }

@@ -1,20 +1,18 @@
 -- All that is promised of a cart's calls.
---     refuses                  a refused move
---     moves, stays             a move that leads on, and one that leads nowhere
+--     refuses, takes_move      a refused move, and an accepted one
 --     refuses_way, takes_way   a refused way, and an accepted one
 -- Assumes nothing.
 use mathlib.Core.Path.{◌≡◌, refl, sym, ap, subst, ◌∙◌}
 use mathlib.Core.List.{List}
 use Prim.Native.Nat.{ℕ, zero, suc}
-use Rattle.leg_journey.specs.Place.{Place, place_of, FloorMove}
+use Rattle.leg_journey.specs.Place.{Place, place_of}
 use Rattle.leg_journey.proofs.Places.{on_floor}
 use Rattle.leg_moves.specs.declared.CartMove.{CartMove}
 use Rattle.leg_moves.specs.declared.CartWay.{CartWay}
-use Rattle.leg_moves.specs.Moving.{still_outcome, byte_at, Still}
-use Rattle.leg_moves.specs.Answers.{cart_number, accepted_move, move_from, move_answer, way_from, way_answer}
+use Rattle.leg_moves.specs.Answers.{cart_number, move_from, move_answer, way_from, way_answer}
 use Rattle.leg_moves.specs.Promise.{CartNumbered, MoveRefused, WayRefused, MoveTold, WayTold, LegDriven, WayToGoal}
 use Rattle.leg_moves.proofs.Numbers.{taken, numbered}
-use Rattle.leg_moves.proofs.Told.{moved_is, still_is, way_number, move_told, way_told}
+use Rattle.leg_moves.proofs.Told.{move_number, way_number, move_told, way_told}
 use Rattle.leg_moves.proofs.Driven.{leg_driven, way_to_goal}
 
 module _ (sheet : List ℕ) (sector cell : ℕ) where
@@ -47,22 +45,15 @@ module _ (sheet : List ℕ) (sector cell : ℕ) where
     ),
   )
 
-  module _ (z : number ≡ 0) where
-    accepts : (r : CartMove) → r ≡ move_from sheet at_place → r.number ≡ 0 → Promised r
-    unfolding move_answer
-    accepts r e q =
-        let t = taken sheet sector cell z in
-        let told = move_told sheet at_place (on_floor sector cell t.sector_in t.cell_in) in (
-          e ∙ rw z,
-          (numbered_so r.number (q ∙ sym z), (λ o. absurd (o q), (λ _. subst (MoveTold sheet at_place) (sym e) told, leg_driven sheet))),
-        )
-
-    module _ {p : Place} (at : p ≡ at_place) where
-      pub moves : {q : Place} → FloorMove sheet p q → (r : CartMove) → r ≡ accepted_move 1 q → Promised r
-      moves m r e = accepts r (e ∙ sym (moved_is sheet m) ∙ ap (move_from sheet) at) (ap (λ (a : CartMove). a.number) e)
-
-      pub stays : Still sheet p → (r : CartMove) → r ≡ accepted_move (still_outcome (byte_at sheet p)) p → Promised r
-      stays o r e = accepts r (e ∙ sym (still_is sheet o) ∙ ap (move_from sheet) at) (ap (λ (a : CartMove). a.number) e)
+  pub takes_move : number ≡ 0 → (r : CartMove) → r ≡ move_from sheet at_place → Promised r
+  unfolding move_answer
+  takes_move z r e =
+      let q = ap (λ (a : CartMove). a.number) e ∙ move_number sheet at_place in
+      let t = taken sheet sector cell z in
+      let told = move_told sheet at_place (on_floor sector cell t.sector_in t.cell_in) in (
+        e ∙ rw z,
+        (numbered_so r.number (q ∙ sym z), (λ o. absurd (o q), (λ _. subst (MoveTold sheet at_place) (sym e) told, leg_driven sheet))),
+      )
 
   -- ---- a way
 

@@ -1,7 +1,7 @@
 -- What is promised of a move and of a way: they are told by the relation of moves alone.
 --     moved_is, still_is      the answer where a move leads on, and where none does
 --     stood_is, never_is      the answer where so many moves come to a stand, and where none do
---     way_number              its number is 0 in both
+--     move_number, way_number its number is 0 in both
 --     move_told, way_told     the promises
 -- Assumes nothing.
 use mathlib.Core.Path.{◌≡◌, refl, sym, ap, subst, ◌∙◌}
@@ -58,6 +58,14 @@ module _ (sheet : List ℕ) where
     where
       go : (n : Next sheet p) → move_of n ≡ accepted_move (still_outcome (byte_at sheet p)) p
       go (moves_to r w) = absurd (o r w)
+      go (stands u) = refl
+
+  pub move_number : (p : Place) → (move_from sheet p).number ≡ 0
+  unfolding move_from
+  move_number p = go (next sheet p)
+    where
+      go : (n : Next sheet p) → (move_of n).number ≡ 0
+      go (moves_to r w) = refl
       go (stands u) = refl
 
   pub stood_is : {n : ℕ} {p : Place} (s : StandsAfter sheet n p) → way_from sheet p ≡ stood (still_outcome (byte_at sheet s.at)) n s.at

@@ -1,14 +1,18 @@
 // A cart's moves over a floor, by the bytes of its sheet: one move, and the moves until the cart stands still.
 #![tactic(auto)]
 
-ghost use Rattle.std.specs.Prelude.{◌≡◌, List, ℕ, ◌+◌, ◌*◌, ◌%◌, ◌<◌, length};
-ghost use Rattle.leg_journey.specs.Place.{OnFloor, place_of, the_sector_in, the_cell_in, arrow_at};
+ghost use Rattle.std.specs.Prelude.{◌≡◌, IfOk};
+ghost use Rattle.refusals.specs.Refusal.{told};
+ghost use Rattle.leg_journey.specs.Place.{place_of, arrow_at};
 ghost use Rattle.leg_moves.specs.Moving.{still_outcome, byte_at};
-ghost use Rattle.leg_moves.specs.Answers.{cart_number, accepted_move, stood, move_answer, way_from, way_answer};
+ghost use Rattle.leg_moves.specs.Answers.{cart_number, accepted_move, stood, move_from, move_answer, way_from, way_answer};
 ghost use Rattle.leg_moves.specs.Promise.{CartNumbered, MoveRefused, WayRefused, MoveTold, WayTold, LegDriven, WayToGoal};
-ghost use Rattle.leg_moves.specs.Inner.{place_at, LeadsOn};
+ghost use Rattle.leg_moves.specs.Inner.{outcome_number, place_at, LeadsOn};
 
-use utilities::index_of;
+mod spot;
+
+use refusals::Refusal;
+use spot::Spot;
 
 // What a move is answered with: its number, its outcome, and the place by its sector and cell.
 #[repr(C)]
@@ -31,157 +35,100 @@ pub struct CartWay {
     pub moves: u16,
 }
 
-// The outcomes.
-const STOPPED: u8 = 0;
-
-const MOVED: u8 = 1;
-
-const ARRIVED: u8 = 2;
-
-const IN_SIGHT: u8 = 3;
-
-const NEVER: u8 = 4;
-
-// A place on the floor, of 80 columns by 80 rows.
+// What a cart's move or way comes to.
 #[derive(Clone, Copy)]
-struct Spot {
-    column: usize,
-    row: usize,
+enum Outcome {
+    // It stands still where the byte reads neither as goal nor as in sight.
+    Stopped,
+    // It moved.
+    Moved,
+    // It stands still at the goal.
+    Arrived,
+    // It stands still in sight of the goal.
+    InSight,
+    // It never stands still.
+    Never,
 }
 
-// Where an arrow leads: to a place on the floor, or nowhere.
-#[derive(Clone, Copy)]
-enum Onward {
-    To(Spot),
-    Nowhere,
-}
-
-// The place of a sector's cell.
-fn place_of(sector: u8, cell: u8) -> Spot
-    requires { (sector < 64) × (cell < 100) }
-    ensures { (place_at result ≡ place_of sector cell) × OnFloor (place_at result) }
-{
-    let s = index_of(sector);
-    let c = index_of(cell);
-    Spot {
-        column: s % 8 * 10 + c % 10,
-        row: s / 8 * 10 + c / 10,
+impl Outcome {
+    // The number that it is answered by.
+    fn number(self) -> u8
+        ensures { result ≡ outcome_number self }
+    {
+        match self {
+            Outcome::Stopped => 0,
+            Outcome::Moved => 1,
+            Outcome::Arrived => 2,
+            Outcome::InSight => 3,
+            Outcome::Never => 4,
+        }
     }
-}
-
-// The sector that a place lies in.
-fn sector_in(place: Spot) -> u8
-    requires { OnFloor (place_at place) }
-    ensures { result ≡ the_sector_in (place_at place) }
-{
-    let column = place.column;
-    let row = place.row;
-    let sector = row / 10 * 8 + column / 10;
-    sector as u8
-}
-
-// The cell that a place is, in its sector.
-fn cell_in(place: Spot) -> u8
-    requires { OnFloor (place_at place) }
-    ensures { result ≡ the_cell_in (place_at place) }
-{
-    let column = place.column;
-    let row = place.row;
-    let cell = row % 10 * 10 + column % 10;
-    cell as u8
-}
-
-// Where the byte of a place stands in the sheet.
-fn index_at(place: Spot) -> usize
-    requires { OnFloor (place_at place) }
-    ensures { (result ≡ the_sector_in (place_at place) * 100 + the_cell_in (place_at place)) × (result < 6400) }
-{
-    let column = place.column;
-    let row = place.row;
-    let sector = row / 10 * 8 + column / 10;
-    let cell = row % 10 * 10 + column % 10;
-    sector * 100 + cell
-}
-
-// Where a byte's direction leads from a place: to the place at the sums of its column and row and the direction's differences, where both lie on the
-// floor; nowhere if it has none.
-fn led_from(byte: u8, place: Spot) -> Onward
-    requires { OnFloor (place_at place) }
-    ensures { LeadsOn (byte % 16) place result }
-{
-    let dir = flow_bits::get_compass_dir_from_bits(byte);
-    if !dir.points() {
-        return Onward::Nowhere;
-    }
-    let added = dir.differences();
-    let column = place.column as i64 + added.column;
-    let row = place.row as i64 + added.row;
-    if 0 <= column && column <= 79 && 0 <= row && row <= 79 {
-        return Onward::To(Spot {
-            column: column as usize,
-            row: row as usize,
-        });
-    }
-    Onward::Nowhere
 }
 
 // The byte of a place.
-fn byte_at(sheet: &[u8], place: Spot) -> u8
-    requires { (length sheet.now ≡ 6400) × OnFloor (place_at place) }
+fn byte_at(sheet: &[u8; 6400], place: Spot) -> u8
     ensures { result ≡ byte_at sheet.now (place_at place) }
 {
-    let index = index_at(place);
-    sheet[index]
+    sheet[place.index()]
 }
 
 // Where a move leads from a place.
-fn move_from(sheet: &[u8], place: Spot) -> Onward
-    requires { (length sheet.now ≡ 6400) × OnFloor (place_at place) }
+fn move_from(sheet: &[u8; 6400], place: Spot) -> Option<Spot>
     ensures { LeadsOn (arrow_at sheet.now (place_at place)) place result }
 {
-    let byte = byte_at(sheet, place);
-    led_from(byte, place)
+    place.led_by(byte_at(sheet, place))
 }
 
 // The outcome of a cart that stands still, by the byte of its place.
-fn still_outcome(byte: u8) -> u8
-    ensures { result ≡ still_outcome byte }
+fn still_outcome(byte: u8) -> Outcome
+    ensures { outcome_number result ≡ still_outcome byte }
 {
     if flow_bits::is_goal(byte) {
-        return ARRIVED;
+        return Outcome::Arrived;
     }
     if flow_bits::has_line_of_sight(byte) {
-        return IN_SIGHT;
+        return Outcome::InSight;
     }
-    STOPPED
+    Outcome::Stopped
 }
 
-// The number of both calls, for a sheet of so many bytes.
-fn cart_number(sheet_length: usize, sector: u8, cell: u8) -> u8
-    ensures { (sheet : List ℕ) → length sheet ≡ sheet_length → result ≡ cart_number sheet sector cell }
+// The sheet of a call, of a floor's 6,400 bytes, or why the call is refused.
+#[tactic(auto, unfolding(crate::specs::Answers::cart_number))]
+fn accepted_sheet(sheet: &[u8], sector: u8, cell: u8) -> Result<&[u8; 6400], Refusal>
+    ensures number { told result ≡ cart_number sheet.now sector cell }
+    ensures sheet { IfOk result (λ s. s.now ≡ sheet.now) }
 {
-    if sheet_length != 6400 {
-        return 2;
-    }
+    let Ok(sheet) = <&[u8; 6400]>::try_from(sheet) else {
+        return Err(Refusal::Sheet);
+    };
     if 63 < sector {
-        return 4;
+        return Err(Refusal::StepBytes);
     }
     if 99 < cell {
-        return 5;
+        return Err(Refusal::Goal);
     }
-    0
+    Ok(sheet)
 }
 
 // An accepted move.
-fn accepted_move(outcome: u8, place: Spot) -> CartMove
-    requires { OnFloor (place_at place) }
-    ensures { result ≡ accepted_move outcome (place_at place) }
+fn accepted_move(outcome: Outcome, place: Spot) -> CartMove
+    ensures { result ≡ accepted_move (outcome_number outcome) (place_at place) }
 {
     CartMove {
         number: 0,
-        outcome,
-        sector: sector_in(place),
-        cell: cell_in(place),
+        outcome: outcome.number(),
+        sector: place.sector(),
+        cell: place.cell(),
+    }
+}
+
+// What one move comes to: the place where it leads, or that the cart stands still.
+fn moved_from(sheet: &[u8; 6400], here: Spot) -> CartMove
+    ensures { result ≡ move_from sheet.now (place_at here) }
+{
+    match move_from(sheet, here) {
+        Some(there) => accepted_move(Outcome::Moved, there),
+        None => accepted_move(still_outcome(byte_at(sheet, here)), here),
     }
 }
 
@@ -193,57 +140,43 @@ pub fn next_move(sheet: &[u8], sector: u8, cell: u8) -> CartMove
     ensures told { result.number ≡ 0 → MoveTold sheet.now (place_of sector cell) result }
     ensures driven { LegDriven sheet.now }
 {
-    let number = cart_number(sheet.len(), sector, cell);
-    if number != 0 {
-        return CartMove {
-            number,
+    match accepted_sheet(sheet, sector, cell) {
+        Ok(sheet) => moved_from(sheet, Spot::place_of(sector, cell)),
+        Err(refusal) => CartMove {
+            number: refusal.number(),
             outcome: 0,
             sector: 0,
             cell: 0,
-        };
+        },
     }
-    let here = place_of(sector, cell);
-    let Onward::To(there) = move_from(sheet, here) else {
-        let byte = byte_at(sheet, here);
-        return accepted_move(still_outcome(byte), here);
-    };
-    accepted_move(MOVED, there)
 }
 
 // An accepted way.
-fn stood_at(outcome: u8, moves: u16, place: Spot) -> CartWay
-    requires { OnFloor (place_at place) }
-    ensures { result ≡ stood outcome moves (place_at place) }
+fn stood_at(outcome: Outcome, moves: u16, place: Spot) -> CartWay
+    ensures { result ≡ stood (outcome_number outcome) moves (place_at place) }
 {
     CartWay {
         number: 0,
-        outcome,
-        sector: sector_in(place),
-        cell: cell_in(place),
+        outcome: outcome.number(),
+        sector: place.sector(),
+        cell: place.cell(),
         moves,
     }
 }
 
 // The moves until the cart stands still. The places on a way that ends are all different, and a floor has 6,400: a cart that still moves after so
 // many never stands still.
-fn way_from(sheet: &[u8], here: Spot) -> CartWay
-    requires { (length sheet.now ≡ 6400) × OnFloor (place_at here) }
+fn way_from(sheet: &[u8; 6400], here: Spot) -> CartWay
     ensures { result ≡ way_from sheet.now (place_at here) }
 {
-    let mut column = here.column;
-    let mut row = here.row;
-    let mut moves: u16 = 0;
-    while moves < 6400 {
-        let at = Spot { column, row };
-        let Onward::To(there) = move_from(sheet, at) else {
-            let byte = byte_at(sheet, at);
-            return stood_at(still_outcome(byte), moves, at);
+    let mut at = here;
+    for moves in 0..6400 {
+        let Some(there) = move_from(sheet, at) else {
+            return stood_at(still_outcome(byte_at(sheet, at)), moves, at);
         };
-        column = there.column;
-        row = there.row;
-        moves = moves + 1;
+        at = there;
     }
-    stood_at(NEVER, 0, here)
+    stood_at(Outcome::Never, 0, here)
 }
 
 // The moves of a cart until it stands still, or that it never does; its numbers are those of `next_move`. Nothing that is lent is written.
@@ -254,16 +187,14 @@ pub fn way(sheet: &[u8], sector: u8, cell: u8) -> CartWay
     ensures told { result.number ≡ 0 → WayTold sheet.now (place_of sector cell) result }
     ensures to_goal { result.number ≡ 0 → WayToGoal sheet.now sector cell result }
 {
-    let number = cart_number(sheet.len(), sector, cell);
-    if number != 0 {
-        return CartWay {
-            number,
+    match accepted_sheet(sheet, sector, cell) {
+        Ok(sheet) => way_from(sheet, Spot::place_of(sector, cell)),
+        Err(refusal) => CartWay {
+            number: refusal.number(),
             outcome: 0,
             sector: 0,
             cell: 0,
             moves: 0,
-        };
+        },
     }
-    let here = place_of(sector, cell);
-    way_from(sheet, here)
 }

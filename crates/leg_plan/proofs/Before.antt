@@ -11,8 +11,7 @@ use native.Mathlib.Omega.{arith}
 use lib.ListN.{length}
 use borrow.Author.Tests.{eqb-true, not-false}
 use Rattle.route.specs.Step.{sector_of, is_window, boundary_of}
-use Rattle.sectors.specs.declared.Across.{Across}
-use Rattle.sectors.specs.declared.Across.TheVariants.{Sector, OffFloor}
+use Rattle.std.specs.Prelude.{Option, Some, None}
 use Rattle.sectors.specs.Floor.{across}
 use Rattle.leg_plan.specs.Leg.{names_twice, some_goal, out_of_order, is_sector, disconnected_from, disconnected}
 use Rattle.step_list.specs.Steps.{step_of}
@@ -35,12 +34,12 @@ later_window (s ∷ ss) e k h =
     let ordered = (neither (is_window s || some_goal ss) (names_twice (s ∷ ss)) e).0 in
     no_goal ss (neither (is_window s) (some_goal ss) ordered).1 k (omega arith)
 
-is_sector_law : (s : ℕ) (a : Across) → is_sector s a ≡ true → a ≡ Sector s
-is_sector_law s (Sector t) e = ap Sector (eqb-true t s e)
-is_sector_law s OffFloor e = absurd (true≢false (sym e))
+is_sector_law : (s : ℕ) (a : Option ℕ) → is_sector s a ≡ true → a ≡ Some s
+is_sector_law s (Some t) e = ap Some (eqb-true t s e)
+is_sector_law s None e = absurd (true≢false (sym e))
 
 from_before : (before : List ℕ) (ss : List (List ℕ)) → disconnected_from before ss ≡ false → (k : ℕ) → k < length ss
-    → across (sector_at ss k) (boundary_of (step_of ss k)) ≡ Sector (sector_at (before ∷ ss) k)
+    → across (sector_at ss k) (boundary_of (step_of ss k)) ≡ Some (sector_at (before ∷ ss) k)
 from_before before [] e k h = absurd (omega arith)
 from_before before (s ∷ ss) e zero h =
     is_sector_law (sector_of before) (across (sector_of s) (boundary_of s))
@@ -49,6 +48,6 @@ from_before before (s ∷ ss) e (suc k) h =
     from_before s ss (neither (not (is_sector (sector_of before) (across (sector_of s) (boundary_of s)))) (disconnected_from s ss) e).1 k (omega arith)
 
 pub sector_before : (ss : List (List ℕ)) → disconnected ss ≡ false → (k : ℕ) → suc k < length ss
-    → across (sector_at ss (suc k)) (boundary_of (step_of ss (suc k))) ≡ Sector (sector_at ss k)
+    → across (sector_at ss (suc k)) (boundary_of (step_of ss (suc k))) ≡ Some (sector_at ss k)
 sector_before [] e k h = absurd (omega arith)
 sector_before (s ∷ ss) e k h = from_before s ss e k (omega arith)

@@ -1,11 +1,9 @@
 -- A leg (01, "A leg, the added entry"; 02, "Job 2" and "Job 3"): its number, and the sheet that it leaves.
 -- Assumes nothing.
-use Rattle.std.specs.Prelude.{Bool, true, false, cond, not, ◌||◌, List, [], ◌∷◌, ◌++◌, ℕ, ◌+◌, ◌*◌, eqb, length, take, drop}
+use Rattle.std.specs.Prelude.{Bool, true, false, cond, not, ◌||◌, List, [], ◌∷◌, ◌++◌, ℕ, ◌+◌, ◌*◌, eqb, length, take, drop, Option, Some, None}
 use Rattle.route.specs.Table.{Row, row, first_number}
 use Rattle.route.specs.Step.{sector_of, is_window, boundary_of, portal_of, each_step_on, no_step_list}
 use Rattle.step_list.specs.Steps.{steps_of}
-use Rattle.sectors.specs.declared.Across.{Across}
-use Rattle.sectors.specs.declared.Across.TheVariants.{Sector, OffFloor}
 use Rattle.sectors.specs.Floor.{across}
 use Rattle.sector.specs.Sector.{sector_field, sector_bytes}
 use Rattle.leg_counting.specs.Counting.{leg_target, is_closed}
@@ -46,9 +44,9 @@ out_of_order [] = false
 out_of_order (s ∷ ss) = is_window s || some_goal ss || names_twice (s ∷ ss)
 
 -- what lies across a boundary is this sector
-abbrev pub is_sector : ℕ → Across → Bool
-is_sector s (Sector t) = eqb t s
-is_sector s OffFloor = false
+abbrev pub is_sector : ℕ → Option ℕ → Bool
+is_sector s (Some t) = eqb t s
+is_sector s None = false
 
 -- the sector across a step's boundary is not that of the step before, or is off the floor
 abbrev pub disconnected_from : List ℕ → List (List ℕ) → Bool

@@ -2,11 +2,12 @@
 #![tactic(auto)]
 
 ghost use Rattle.std.specs.Prelude.{◌≡◌, ◌≤◌, length, take, drop};
+ghost use Rattle.refusals.specs.Refusal.{told};
 ghost use Rattle.leg_file.specs.File.{is_marked, version_of, file_number, file_steps, file_answer};
 ghost use Rattle.leg_file.specs.Promise.{WrittenSame, PartOf, FileRefused};
 
 use leg_file::LegFile;
-use utilities::index_of;
+use refusals::Refusal;
 
 // Whether the file begins with `LEG`.
 #[tactic(auto, unfolding(leg_file::specs::File::is_marked))]
@@ -14,49 +15,30 @@ fn is_marked(file: &[u8]) -> bool
     requires { 6 ≤ length file.now }
     ensures { result ≡ is_marked file.now }
 {
-    if file[0] != b'L' {
-        return false;
-    }
-    if file[1] != b'E' {
-        return false;
-    }
-    file[2] == b'G'
+    file.starts_with(b"LEG")
 }
 
 // The version, low byte first.
-fn version(file: &[u8]) -> usize
+fn version(file: &[u8]) -> u16
     requires { 6 ≤ length file.now }
     ensures { result ≡ version_of file.now }
 {
-    let low = index_of(file[3]);
-    let high = index_of(file[4]);
-    low + 256 * high
+    u16::from_le_bytes([file[3], file[4]])
 }
 
-// The number of a file: 0, or 14 where its mark, version, count or length is wrong.
-pub fn number(file: &[u8]) -> u8
-    ensures { result ≡ file_number file.now }
+// Refused with 14 where the file's mark, version, count or length is wrong.
+#[tactic(auto, unfolding(leg_file::specs::File::file_number, leg_file::specs::File::is_leg_file))]
+pub fn number(file: &[u8]) -> Result<(), Refusal>
+    ensures { told result ≡ file_number file.now }
 {
-    if file.len() < 6 {
-        return 14;
+    if file.len() < 6 || !is_marked(file) || version(file) != 1 {
+        return Err(Refusal::LegFile);
     }
-    if !is_marked(file) {
-        return 14;
+    let count = usize::from(file[5]);
+    if count == 0 || 16 < count || file.len() != 6 + 8 * count {
+        return Err(Refusal::LegFile);
     }
-    if version(file) != 1 {
-        return 14;
-    }
-    let count = index_of(file[5]);
-    if count == 0 {
-        return 14;
-    }
-    if 16 < count {
-        return 14;
-    }
-    if file.len() != 6 + 8 * count {
-        return 14;
-    }
-    0
+    Ok(())
 }
 
 // The part of a file that holds the steps; an empty part where the file is refused.
@@ -65,10 +47,10 @@ pub fn read(file: &[u8]) -> &[u8]
     ensures number { PartOf file.now result.now }
     ensures same { WrittenSame file.now result.now }
 {
-    if number(file) != 0 {
-        return &file[..0];
+    match number(file) {
+        Ok(()) => &file[6..],
+        Err(_) => &file[..0],
     }
-    &file[6..]
 }
 
 // The number of a file, and the place of the part that holds the steps.
@@ -78,12 +60,17 @@ pub fn locate(file: &[u8]) -> LegFile
     ensures same { WrittenSame file.now (take result.length (drop result.start file.now)) }
     ensures refused { (result.number ≡ 0 → ⊥) → FileRefused result }
 {
-    let number = number(file);
-    let steps = read(file);
-    let start = if number == 0 { 6 } else { 0 };
-    LegFile {
-        number,
-        start,
-        length: steps.len(),
+    let length = read(file).len();
+    match number(file) {
+        Ok(()) => LegFile {
+            number: 0,
+            start: 6,
+            length,
+        },
+        Err(refusal) => LegFile {
+            number: refusal.number(),
+            start: 0,
+            length,
+        },
     }
 }

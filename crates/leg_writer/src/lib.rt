@@ -3,21 +3,24 @@
 
 ghost use Rattle.std.specs.Prelude.{◌≡◌, List, [], ◌∷◌, ◌++◌, ℕ, ◌+◌, ◌≤◌, length, take};
 ghost use Rattle.std.proofs.lemmas.List.Edits.{sets};
+ghost use Rattle.refusals.specs.Refusal.{told};
 ghost use Rattle.leg_file.specs.File.{write_number, written_file};
 ghost use Rattle.leg_file.specs.Promise.{ReadBack};
 
+use refusals::Refusal;
+
 // The writer's number for a buffer of so many bytes.
 #[tactic(auto, unfolding(leg_file::specs::File::write_number))]
-fn write_number(steps: &[u8], file_length: usize) -> u8
-    ensures { (file : List ℕ) → length file ≡ file_length → result ≡ write_number steps.now file }
+fn write_number(steps: &[u8], file_length: usize) -> Result<(), Refusal>
+    ensures { (file : List ℕ) → length file ≡ file_length → told result ≡ write_number steps.now file }
 {
     if step_list::is_no_step_list(steps) {
-        return 3;
+        return Err(Refusal::StepList);
     }
     if file_length != 6 + steps.len() {
-        return 2;
+        return Err(Refusal::Sheet);
     }
-    0
+    Ok(())
 }
 
 // The six bytes before the steps.
@@ -25,38 +28,28 @@ fn put_head(file: &mut [u8], count: u8)
     requires { 6 ≤ length file.old }
     ensures { file.new ≡ sets file.old 0 (76 ∷ 69 ∷ 71 ∷ 1 ∷ 0 ∷ count ∷ []) }
 {
-    file[0] = b'L';
-    file[1] = b'E';
-    file[2] = b'G';
-    file[3] = 1;
-    file[4] = 0;
-    file[5] = count;
+    file[..6].copy_from_slice(&[b'L', b'E', b'G', 1, 0, count]);
 }
 
-// The steps, byte by byte behind the head.
+// The steps, byte by byte behind the head. By `copy_from_slice` the archive would ask its linker for memmove, beside memcpy and memset.
 fn put_steps(steps: &[u8], file: &mut [u8])
     requires { length file.old ≡ 6 + length steps.now }
     ensures { file.new ≡ take 6 file.old ++ steps.now }
 {
-    let mut i = 0;
-    while i < steps.len() {
+    for i in 0..steps.len() {
         file[6 + i] = steps[i];
-        i += 1;
     }
 }
 
-// Writes the file of a list of steps to a buffer exactly as long: 0, or number 3 or 2.
-pub fn write(steps: &[u8], file: &mut [u8]) -> u8
-    ensures number { result ≡ write_number steps.now file.old }
+// Writes the file of a list of steps to a buffer exactly as long, or is refused with number 3 or 2.
+pub fn write(steps: &[u8], file: &mut [u8]) -> Result<(), Refusal>
+    ensures number { told result ≡ write_number steps.now file.old }
     ensures file { file.new ≡ written_file steps.now file.old }
-    ensures back { ReadBack steps.now file.old file.new result }
+    ensures back { ReadBack steps.now file.old file.new (told result) }
 {
-    let number = write_number(steps, file.len());
-    if number != 0 {
-        return number;
-    }
+    write_number(steps, file.len())?;
     let count = steps.len() / route::STEP_LENGTH;
     put_head(file, count as u8);
     put_steps(steps, file);
-    0
+    Ok(())
 }

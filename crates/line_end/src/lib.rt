@@ -1,7 +1,7 @@
 // Where the line of a corner ends: on the edge of the sector, away from the goal.
 #![tactic(auto)]
 
-ghost use Rattle.std.specs.Prelude.{◌≡◌, ◌<◌, ◌≤◌, min};
+ghost use Rattle.std.specs.Prelude.{◌≡◌, ◌<◌, ◌≤◌, ltb};
 ghost use Rattle.fields.specs.Cell.{Inside};
 ghost use Rattle.line_nearest.specs.Line.{nearest};
 ghost use Rattle.line_end.specs.LineEnd.{edge_away, after, further, first_leaving, slanted_end, line_end, line_end_answer};
@@ -9,6 +9,7 @@ ghost use Rattle.line_end.specs.Away.{HoldsSlanted, HoldsStraight, EndRefused};
 ghost use Rattle.line_end.specs.Mirror.{HoldsMirrored};
 
 use fields::FieldCell;
+use refusals::Refusal;
 
 // What the call answers: 0 and the cell that the line ends in, or the number of a refusal.
 #[repr(C)]
@@ -41,15 +42,9 @@ fn further(beyond: bool, x: usize, d: usize) -> usize
     if beyond { x + d } else { x - d }
 }
 
-// The smaller of two numbers.
-fn smaller(a: usize, b: usize) -> usize
-    ensures { result ≡ min a b }
-{
-    if a <= b { a } else { b }
-}
-
 // How many rows the line lies off the goal's row, k columns from the goal: the nearest whole number to k * rise / span, and of two equally near the
 // smaller.
+#[tactic(auto, unfolding(line_nearest::specs::Line::nearest))]
 fn nearest_row(rise: usize, span: usize, k: usize) -> usize
     requires { (rise < 10) × (0 < span) × (span < 10) × (k < 20) }
     ensures { result ≡ nearest rise span k }
@@ -63,28 +58,28 @@ fn first_leaving(rise: usize, span: usize, behind: usize, columns: usize) -> usi
     requires { (rise < 10) × (0 < span) × (span < 10) × (columns < 10) }
     ensures { (result ≡ first_leaving rise span behind columns) × (result ≤ columns) }
 {
-    let mut j = 0;
-    while j < columns {
+    for j in 0..columns {
         let k = span + j;
         if nearest_row(rise, span, k) > behind {
             return j;
         }
-        j += 1;
     }
-    j
+    columns
 }
 
-// The end of a line whose corner shares neither column nor row with the goal. `rightward` and `downward` say whether the corner lies right of the goal
-// and below it.
-fn slanted_end(rightward: bool, downward: bool, corner: FieldCell, goal: FieldCell) -> FieldCell
+// The end of a line whose corner shares neither column nor row with the goal.
+#[tactic(auto, unfolding(crate::specs::LineEnd::slanted_end))]
+fn slanted_end(corner: FieldCell, goal: FieldCell) -> FieldCell
     requires { Inside corner × Inside goal × (corner.column ≡ goal.column → ⊥) }
-    ensures { result ≡ slanted_end rightward downward corner goal }
+    ensures { result ≡ slanted_end (ltb goal.column corner.column) (ltb goal.row corner.row) corner goal }
 {
-    let rise = line_nearest::distance(goal.row, corner.row);
-    let span = line_nearest::distance(goal.column, corner.column);
+    let rightward = corner.column > goal.column;
+    let downward = corner.row > goal.row;
+    let rise = goal.row.abs_diff(corner.row);
+    let span = goal.column.abs_diff(corner.column);
     let behind = after(downward, goal.row);
     let j = first_leaving(rise, span, behind, after(rightward, corner.column));
-    let rows = smaller(behind, nearest_row(rise, span, span + j));
+    let rows = behind.min(nearest_row(rise, span, span + j));
     FieldCell {
         column: further(rightward, corner.column, j),
         row: further(downward, goal.row, rows),
@@ -92,26 +87,25 @@ fn slanted_end(rightward: bool, downward: bool, corner: FieldCell, goal: FieldCe
 }
 
 // The cell that the line from `corner`, away from `goal`, ends in.
+#[tactic(auto, unfolding(crate::specs::LineEnd::line_end, crate::specs::LineEnd::end_by))]
 fn corner_line_end(corner: FieldCell, goal: FieldCell) -> FieldCell
     requires { Inside corner × Inside goal }
     ensures { result ≡ line_end corner goal }
 {
-    let column = corner.column;
-    let row = corner.row;
-    let rightward = column > goal.column;
-    let downward = row > goal.row;
+    let FieldCell { column, row } = corner;
     if column == goal.column {
-        let row = edge_away(downward);
+        let row = edge_away(row > goal.row);
         return FieldCell { column, row };
     }
     if row == goal.row {
-        let column = edge_away(rightward);
+        let column = edge_away(column > goal.column);
         return FieldCell { column, row };
     }
-    slanted_end(rightward, downward, corner, goal)
+    slanted_end(corner, goal)
 }
 
 // Where the line of a corner ends, or 13 for a column or row outside 0 to 9.
+#[tactic(auto, unfolding(crate::specs::LineEnd::line_end_answer))]
 pub fn check_los_corner_propagation(corner: FieldCell, goal: FieldCell) -> LineEnd
     ensures answer { result ≡ line_end_answer corner goal }
     ensures slanted { HoldsSlanted corner goal result }
@@ -119,14 +113,12 @@ pub fn check_los_corner_propagation(corner: FieldCell, goal: FieldCell) -> LineE
     ensures mirrored { HoldsMirrored corner goal result }
     ensures refused { (result.number ≡ 0 → ⊥) → EndRefused result }
 {
-    if corner.is_inside() {
-        if goal.is_inside() {
-            let cell = corner_line_end(corner, goal);
-            return LineEnd { number: 0, cell };
-        }
+    if corner.is_inside() && goal.is_inside() {
+        let cell = corner_line_end(corner, goal);
+        return LineEnd { number: 0, cell };
     }
     LineEnd {
-        number: 13,
+        number: Refusal::Outside.number(),
         cell: FieldCell { column: 0, row: 0 },
     }
 }

@@ -1,20 +1,23 @@
 -- A table that passes one test, which antt computes entry by entry, holds the line end of each pair.
 --     every_end     the table
 --     in_row        and what it holds is read by row and place in the row
---     read_more     a goal's ends, read corner by corner
+--     made_at       what a closure answers at each index, in the array made of its answers
 -- Assumes nothing.
-use mathlib.Core.Path.{◌≡◌, refl, ◌∙◌, subst, sym}
-use mathlib.Core.Bool.{Bool, true, false, not}
+use mathlib.Core.Path.{◌≡◌, ◌∙◌, subst, sym}
+use mathlib.Core.Bool.{Bool, true, false}
 use mathlib.Core.List.{List, [], ◌∷◌}
 use Prim.Native.Nat.{ℕ, zero, suc, ◌+◌, ◌*◌, ◌/◌, ◌%◌, ◌<◌, ◌≤◌}
 use native.Mathlib.Nat.{add-zero, zero-add, add-suc, suc-add, le_of_suc-le-suc, not-suc-le-zero}
 use native.Mathlib.Omega.{arith}
-use lib.Dec.{T, eqb, eqb→eq, ltb, ltb→lt, nltb→le}
-use lib.ListN.{length, get_or, set, length-set}
-use lib.Seq.{get_or-set_same, get_or-set_other}
+use native.Mathlib.Decide.{ℕ_discrete}
+use lib.Dec.{T, eqb, eqb→eq}
+use lib.ListN.{length, get_or}
+use Rattle.std.specs.Array.{IsFromFnResult, IsFromFnResultFrom}
+use Rattle.std.specs.Fn.{Called}
+use denote.Param.Members.{Mut}
 use Rattle.fields.specs.Cell.{cell_at, index_of}
 use Rattle.line_end.specs.LineEnd.{line_end}
-use Rattle.line_end_table.specs.Ends.{entry_at, HoldsEnds, EndsTo}
+use Rattle.line_end_table.specs.Ends.{entry_at, HoldsEnds}
 
 -- ---- a test of each entry, for any table
 abbrev both : Bool → Bool → Bool
@@ -79,18 +82,17 @@ in_row ends held corner goal p q =
     let g : (corner * 100 + goal) % 100 ≡ goal = omega arith in
     rw (c, g) at (held.each corner goal p q)
 
--- ---- a goal's ends, read corner by corner: with the end of the next corner at its place they reach one further
-pub read_more : (goal : ℕ) (found : List ℕ) (i x : ℕ) → i < 100 → x ≡ index_of (line_end (cell_at i) (cell_at goal))
-    → EndsTo i goal found → EndsTo (i + 1) goal (set found i x)
-read_more goal found i x room here before =
-    record { full = length-set found i x ∙ before.full; each = λ corner h. go corner h (ltb corner i) refl }
-  where
-    go : (corner : ℕ) → corner < i + 1 → (b : Bool) → ltb corner i ≡ b → get_or (set found i x) corner 0 ≡ index_of (line_end (cell_at corner) (cell_at goal))
-    go corner h true e =
-        let less : corner < i = ltb→lt corner i (subst T (sym e) tt) in
-        get_or-set_other found i corner x 0 (λ q. absurd (omega arith)) ∙ before.each corner less
-    go corner h false e =
-        let least : i ≤ corner = nltb→le corner i (subst (λ (b : Bool). T (not b)) (sym e) tt) in
-        let same : i ≡ corner = omega arith in
-        subst (λ (c : ℕ). get_or (set found i x) c 0 ≡ index_of (line_end (cell_at c) (cell_at goal))) same
-        (get_or-set_same found i x 0 (rw before.full room) ∙ here)
+-- ---- an array made by calls of a closure that stays the same: what holds of each call's answer holds of each place
+module _ {F B : Type 0} (g : Mut F (ℕ × Unit {0}) B) (f : F) (ys : List B) (Holds : ℕ → B → Type 0)
+    (answers : (i : ℕ) (y : B) (q : F) → Called g f (i, tt) y q → (q ≡ f) × Holds i y) where
+  made_from : (n i : ℕ) → IsFromFnResultFrom g f ys i n → (k : ℕ) → i ≤ k → k < i + n → (d : B) → Holds k (get_or ys k d)
+  made_from zero i r k h l d = absurd (omega arith)
+  made_from (suc n) i r k h l d =
+      let a = answers i r.1 r.0 r.3 in
+      elim (ℕ_discrete k i) [
+        | yes e ↦ rw (e, r.2.1 d) a.1
+        | no o ↦ made_from n (i + 1) (subst (λ (p : F). IsFromFnResultFrom g p ys (i + 1) n) a.0 r.4) k (omega arith) (omega arith) d
+      ]
+
+  pub made_at : (n : ℕ) → IsFromFnResult g f ys n → (k : ℕ) → k < n → (d : B) → Holds k (get_or ys k d)
+  made_at n m k h d = made_from n 0 m.each k (omega arith) (omega arith) d

@@ -12,13 +12,7 @@ pub fn read_ends(goal: usize) -> [u8; 100]
     requires { goal < 100 }
     ensures { EndsFor goal result }
 {
-    let mut table: [[u8; 100]; 100] = [[0; 100]; 100];
+    let mut table = [[0; 100]; 100];
     ends::lay_out(&mut table);
-    let mut found: [u8; 100] = [0; 100];
-    let mut corner = 0;
-    while corner < 100 {
-        found[corner] = table[corner][goal];
-        corner += 1;
-    }
-    found
+    std::array::from_fn(|corner| table[corner][goal])
 }

@@ -11,7 +11,7 @@ use Rattle.utilities.specs.declared.CompassDir.TheVariants.{North, East, South, 
 use Rattle.utilities.specs.Compass.{differences, rises, falls}
 use Rattle.utilities.proofs.Compass.{small, changes}
 use Rattle.fields.specs.declared.FieldCell.{FieldCell}
-use Rattle.fields.specs.declared.Stepped.TheVariants.{Cell}
+use Rattle.std.specs.Prelude.{Some}
 use Rattle.fields.specs.Cell.{Inside, stepped}
 use Rattle.fields.proofs.Steps.{stepped_cell, told, steps_by}
 use Rattle.line_nearest.specs.Line.{distance}
@@ -30,7 +30,7 @@ close a b x y h = record { up = omega arith; down = omega arith; right = omega a
 
 -- which of the eight: by the sides that the one lies to of the other
 led : (c n : FieldCell) → Inside n → (w e u d : Bool) → ltb n.column c.column ≡ w → ltb c.column n.column ≡ e → ltb n.row c.row ≡ u
-    → ltb c.row n.row ≡ d → Close c.column n.column c.row n.row → (d : CompassDir) × (stepped c d ≡ Cell n)
+    → ltb c.row n.row ≡ d → Close c.column n.column c.row n.row → (d : CompassDir) × (stepped c d ≡ Some n)
 led c n i true e true d p q r s k =
     let x = ltb-true n.column c.column p in
     let y = ltb-true n.row c.row r in (
@@ -90,7 +90,7 @@ led c n i false false false false p q r s k =
     let y' = ltb-false c.row n.row s in
     absurd (k.other (omega arith) (omega arith))
 
-pub neighbours_stepped : (c n : FieldCell) → Inside n → Neighbours c n → (d : CompassDir) × (stepped c d ≡ Cell n)
+pub neighbours_stepped : (c n : FieldCell) → Inside n → Neighbours c n → (d : CompassDir) × (stepped c d ≡ Some n)
 neighbours_stepped c n i h =
     led c n i (ltb n.column c.column) (ltb c.column n.column) (ltb n.row c.row) (ltb c.row n.row) refl refl refl refl
     (close c.column n.column c.row n.row h)
@@ -102,7 +102,7 @@ by_one : (a b r f : ℕ) → b + f ≡ a + r → r + f ≤ 1 → distance a b �
 by_one a b r f p h = omega arith
 
 -- and each of them is a neighbour: a direction moves by one at most in each coordinate, and by one in some
-pub stepped_neighbours : (c n : FieldCell) (d : CompassDir) → stepped c d ≡ Cell n → Neighbours c n
+pub stepped_neighbours : (c n : FieldCell) (d : CompassDir) → stepped c d ≡ Some n → Neighbours c n
 stepped_neighbours c n d e =
     let δ = differences d in
     let a = stepped_cell c d n e in

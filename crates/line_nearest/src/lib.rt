@@ -1,9 +1,6 @@
 // The line between two cells and its two walks: what they are, and the theorem that they are the nearest-cell line.
 #![tactic(auto)]
 
-ghost use Rattle.std.specs.Prelude.{◌≡◌};
-ghost use Rattle.line_nearest.specs.Line.{distance};
-
 use fields::FieldCell;
 
 // The cells of a line, and how many they are; the places beyond hold 0. A refused call's number says why.
@@ -13,11 +10,4 @@ pub struct Line {
     pub number: u8,
     pub cells: [FieldCell; 10],
     pub count: usize,
-}
-
-// How far two coordinates are from each other.
-pub fn distance(a: usize, b: usize) -> usize
-    ensures { result ≡ distance a b }
-{
-    if a <= b { b - a } else { a - b }
 }

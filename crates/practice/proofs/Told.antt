@@ -1,10 +1,18 @@
 -- A practice floor, told by any sequence of values.
 --     drawn                      the cost that a value's top byte gives
---     cell_step, cells_end       costs drawn cell by cell
+--     cells_drawn                costs that are each drawn from their value
+--     made_at                    a cost that a call of the closure made
 --     told                       the floor of a seed, by every sequence that keeps to the request's words
 --     floor_made                 the same floor, made of an array of values
 -- Assumes nothing.
-use Rattle.std.proofs.Common.{◌≡◌, ℕ, zero, suc, ◌+◌, ◌%◌, ◌<◌, Bool, true, false, cond, ltb, leb, List, [], ◌∷◌, map, length, get_or, take, drop, set, sym, refl, ap, ◌∙◌, add-one, arith, length-drop, length-set, length-take-le, get_or-drop, take_all, get_or-set_other, get_or-take, take-suc, get_or-set_same, take-suc-set, ltb-false, ltb-true, leb-false, leb-true}
+use Rattle.std.proofs.Common.{◌≡◌, ℕ, zero, suc, ◌+◌, ◌%◌, ◌<◌, ◌≤◌, Bool, true, false, cond, ltb, leb, List, [], ◌∷◌, map, length, get_or, take, drop, set, sym, refl, ap, ◌∙◌, arith, length-drop, length-set, length-take-le, get_or-drop, get_or-set_other, get_or-take, get_or-set_same, ltb-false, ltb-true, leb-false, leb-true}
+use mathlib.Core.Path.{subst}
+use native.Mathlib.Decide.{ℕ_discrete}
+use lib.ListN.{length-map}
+use lib.Seq.{ext_get_or}
+use denote.Param.Members.{Mut}
+use Rattle.std.specs.Array.{IsFromFnResult, IsFromFnResultFrom}
+use Rattle.std.specs.Fn.{Called}
 use Rattle.practice.specs.declared.PracticeFloor.{PracticeFloor}
 use Rattle.practice.specs.Values.{values_to, practice_value}
 use Rattle.practice.specs.Floor.{top_byte, cost_of, drawn_costs, practice_goal, practice_floor}
@@ -21,10 +29,6 @@ drawn value = go (ltb (top_byte value) 128) (leb (top_byte value) 191) refl refl
     go false true e f = CellDrawn.dear (ltb-false (top_byte value) 128 e) (leb-true (top_byte value) 191 f)
     go false false e f = CellDrawn.wall (leb-false (top_byte value) 191 f)
 
-pub map_length : (f : ℕ → ℕ) (l : List ℕ) → length (map f l) ≡ length l
-map_length f [] = refl
-map_length f (x ∷ l) = ap suc (map_length f l)
-
 map_at : (f : ℕ → ℕ) (l : List ℕ) (i : ℕ) → i < length l → get_or (map f l) i 0 ≡ f (get_or l i 0)
 map_at f [] i h = absurd (omega arith)
 map_at f (x ∷ l) zero h = refl
@@ -39,25 +43,35 @@ module _ (values : List ℕ) (full : length values ≡ 156) where
   unfolding cells
   cells_length = length-drop 55 (take 155 values) ∙ rw (length-take-le 155 values (omega (arith, full)))
 
-  pub cell_step : (i x : ℕ) (costs : List ℕ) → i < 100 → length costs ≡ 100 → x ≡ cost_of (get_or values (55 + i) 0)
-      → take i costs ≡ take i (map cost_of (drop 55 (take 155 values))) → take (i + 1) (set costs i x) ≡ take (i + 1) (map cost_of (drop 55 (take 155 values)))
-  unfolding cells
-  cell_step i x costs h hundred e t =
-      let place = get_or-drop 55 (take 155 values) i 0 ∙ get_or-take 155 values (55 + i) 0 (omega arith) in
-      let drawing : get_or (map cost_of cells) i 0 ≡ cost_of (get_or values (55 + i) 0) = map_at cost_of cells i (omega (arith, cells_length)) ∙ ap cost_of place in
-      let wider = take-suc (map cost_of cells) i 0 (omega (arith, map_length cost_of cells, cells_length)) in
-      rw (add-one i, take-suc-set costs i x (omega arith), wider, drawing, e, t)
-
-  pub cells_end : (costs : List ℕ) → length costs ≡ 100 → take 100 costs ≡ take 100 (map cost_of (drop 55 (take 155 values)))
+  -- the costs drawn from the values that stand 55 places behind their own
+  pub cells_drawn : (costs : List ℕ) → length costs ≡ 100 → ((i : ℕ) → i < 100 → get_or costs i 0 ≡ cost_of (get_or values (55 + i) 0))
       → costs ≡ map cost_of (drop 55 (take 155 values))
   unfolding cells
-  cells_end costs hundred t =
-      sym (take_all 100 costs (omega arith)) ∙ t ∙ take_all 100 (map cost_of cells) (omega (arith, map_length cost_of cells, cells_length))
+  cells_drawn costs hundred each =
+      ext_get_or 0 costs (map cost_of cells) (hundred ∙ sym (length-map cells cost_of ∙ cells_length)) (λ i h.
+      let k : i < 100 = omega (arith, hundred) in
+      let place = get_or-drop 55 (take 155 values) i 0 ∙ get_or-take 155 values (55 + i) 0 (omega arith) in
+      each i k ∙ sym (map_at cost_of cells i (omega (arith, cells_length)) ∙ ap cost_of place))
+
+-- an array made by calls of a closure that stays the same: what holds of each call's answer holds of each place
+module _ {F : Type 0} (g : Mut F (ℕ × Unit {0}) ℕ) (f : F) (ys : List ℕ) (h : ℕ → ℕ)
+    (answers : (i y : ℕ) (q : F) → Called g f (i, tt) y q → (q ≡ f) × (y ≡ h i)) where
+  made_from : (n i : ℕ) → IsFromFnResultFrom g f ys i n → (k : ℕ) → i ≤ k → k < i + n → get_or ys k 0 ≡ h k
+  made_from zero i r k l m = absurd (omega arith)
+  made_from (suc n) i r k l m =
+      let a = answers i r.1 r.0 r.3 in
+      elim (ℕ_discrete k i) [
+        | yes e ↦ rw (e, r.2.1 0) a.1
+        | no o ↦ made_from n (i + 1) (subst (λ (p : F). IsFromFnResultFrom g p ys (i + 1) n) a.0 r.4) k (omega arith) (omega arith)
+      ]
+
+  pub made_at : (n : ℕ) → IsFromFnResult g f ys n → (k : ℕ) → k < n → get_or ys k 0 ≡ h k
+  made_at n m k l = made_from n 0 m.each k (omega arith) (omega arith)
 
 module _ (seed : ℕ) where
   pub drawn_length : length (drawn_costs seed) ≡ 100
   unfolding drawn_costs
-  drawn_length = map_length cost_of (drop 55 (values_to seed 154)) ∙ length-drop 55 (values_to seed 154) ∙ rw (values_length seed 154)
+  drawn_length = length-map (drop 55 (values_to seed 154)) cost_of ∙ length-drop 55 (values_to seed 154) ∙ rw (values_length seed 154)
 
   pub goal_inside : practice_goal seed < 100
   unfolding practice_goal

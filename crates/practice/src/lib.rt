@@ -1,7 +1,7 @@
 // Practice floors: from a seed of 32 bits the costs of a sector and a goal, the same wherever they are made.
 #![tactic(auto)]
 
-ghost use Rattle.std.specs.Prelude.{◌≡◌, ◌<◌, ◌≤◌, map, length, take, drop};
+ghost use Rattle.std.specs.Prelude.{◌≡◌, ◌<◌, ◌≤◌, map, take, drop};
 ghost use Rattle.practice.specs.Values.{next_value, values_to};
 ghost use Rattle.practice.specs.Floor.{cost_of, practice_floor};
 ghost use Rattle.practice.specs.Promise.{PracticeTold};
@@ -15,14 +15,15 @@ pub struct PracticeFloor {
 }
 
 // The value that follows the first n: up to the 55th it adds a constant to the one before it; later it is the sum of those 24 and 55 places before.
+#[tactic(auto, using(crate::proofs::Values::behind_adds, crate::proofs::Values::behind_sums))]
 fn next_value(values: &[u32; 156], n: usize) -> u32
-    requires { (1 ≤ n) × (n < 156) × (length values.now ≡ 156) }
+    requires { (1 ≤ n) × (n < 156) }
     ensures { result ≡ next_value (take n values.now) }
 {
     if n < 55 {
-        return std::num::wrapping_add_u32(values[n - 1], 2654435769);
+        return values[n - 1].wrapping_add(2654435769);
     }
-    std::num::wrapping_add_u32(values[n - 24], values[n - 55])
+    values[n - 24].wrapping_add(values[n - 55])
 }
 
 // The first 156 values of a seed: 55 to begin with, one for each cell, and the goal's.
@@ -31,16 +32,14 @@ fn values_of(seed: u32) -> [u32; 156]
 {
     let mut values = [0u32; 156];
     values[0] = seed;
-    let mut n = 1;
-    while n < 156 {
-        let value = next_value(&values, n);
-        values[n] = value;
-        n += 1;
+    for n in 1..156 {
+        values[n] = next_value(&values, n);
     }
     values
 }
 
 // The cost that a value's top byte gives.
+#[tactic(auto, unfolding(crate::specs::Floor::cost_of))]
 fn cost_of(value: u32) -> u8
     ensures { result ≡ cost_of value }
 {
@@ -56,16 +55,9 @@ fn cost_of(value: u32) -> u8
 
 // The costs of the 100 cells, by the values that follow the first 55.
 fn draw_costs(values: &[u32; 156]) -> [u8; 100]
-    requires { length values.now ≡ 156 }
     ensures { result ≡ map cost_of (drop 55 (take 155 values.now)) }
 {
-    let mut costs = [0u8; 100];
-    let mut i = 0;
-    while i < 100 {
-        costs[i] = cost_of(values[55 + i]);
-        i += 1;
-    }
-    costs
+    std::array::from_fn(|i| cost_of(values[55 + i]))
 }
 
 // The floor of a seed.
@@ -75,8 +67,7 @@ pub fn practice_floor(seed: u32) -> PracticeFloor
 {
     let values = values_of(seed);
     let mut costs = draw_costs(&values);
-    let value = values[155];
-    let goal = (value % 100) as u8;
-    costs[goal as usize] = 1;
+    let goal = (values[155] % 100) as u8;
+    costs[usize::from(goal)] = 1;
     PracticeFloor { costs, goal }
 }

@@ -1,4 +1,4 @@
--- A floor's lines, stored one behind the other.
+-- A floor's lines, stored one behind the other; and a seed's bytes.
 -- Assumes nothing.
 use mathlib.Core.Path.{◌≡◌, sym, ap, ◌∙◌}
 use mathlib.Core.List.{List, [], ◌∷◌, ◌++◌}
@@ -7,10 +7,11 @@ use native.Mathlib.Nat.{zero-add}
 use native.Mathlib.Omega.{arith}
 use lib.ListN.{length, set, length-append}
 use lib.Seq.{sets}
+use Rattle.std.specs.Int.{w32, from_le_bytes}
 use Rattle.practice.specs.declared.PracticeFloor.{PracticeFloor}
 use Rattle.print_text.specs.Rows.{rows_text, decimal}
 use Rattle.print_text.proofs.Laws.{sets_append, rows_length}
-use Rattle.practice_text.specs.Text.{floor_text}
+use Rattle.practice_text.specs.Text.{seed_of, floor_text}
 
 module _ (floor : PracticeFloor) where
   rows : List ℕ
@@ -37,3 +38,8 @@ module _ (floor : PracticeFloor) where
       sets_append (sets l 0 rows) last (10 ∷ []) 210
       ∙ ap (λ (at : ℕ). sets (sets l 0 rows) at (last ++ (10 ∷ []))) (sym place)
       ∙ sets_append l rows (last ++ (10 ∷ [])) 0
+
+-- a seed's four bytes
+pub seed_by : (bytes : List ℕ) → from_le_bytes w32 bytes ≡ seed_of bytes
+unfolding seed_of
+seed_by bytes = omega arith

@@ -1,38 +1,19 @@
-// What the practice printer prints, worked out in memory.
+// What the practice printer prints, worked out in memory. Without a heap there is no `String`: the text goes into a lent buffer, and a number
+// says how many bytes it is, which the two programs that call it take as it is.
 #![tactic(auto)]
 
-ghost use Rattle.std.specs.Prelude.{◌≡◌, ◌<◌, ◌≤◌, length};
+ghost use Rattle.std.specs.Prelude.{◌≡◌, ◌≤◌, length};
 ghost use Rattle.std.proofs.lemmas.List.Edits.{sets};
-ghost use Rattle.practice_text.specs.Text.{seed_of, floor_text, no_line, practice_text};
+ghost use Rattle.practice_text.specs.Text.{floor_text, no_line, practice_text};
 
 use practice::PracticeFloor;
 
-// A byte as a number of a seed's width.
-fn wide(byte: u8) -> u32
-    ensures { (result ≡ byte) × (result < 256) }
-{
-    byte as u32
-}
-
-// The seed of four bytes, low byte first.
-fn seed_of(input: &[u8]) -> u32
-    requires { length input.now ≡ 4 }
-    ensures { result ≡ seed_of input.now }
-{
-    let first = wide(input[0]);
-    let second = wide(input[1]);
-    let third = wide(input[2]);
-    let fourth = wide(input[3]);
-    first + 256 * second + 65536 * third + 16777216 * fourth
-}
-
 // The line `no`, and how many bytes it is.
+#[tactic(auto, unfolding(crate::specs::Text::no_line))]
 fn put_no_line(out: &mut [u8; 213]) -> usize
     ensures { (result ≡ 3) × (result ≡ length no_line) × (out.new ≡ sets out.old 0 no_line) }
 {
-    out[0] = b'n';
-    out[1] = b'o';
-    out[2] = 10;
+    out[..3].copy_from_slice(b"no\n");
     3
 }
 
@@ -40,22 +21,21 @@ fn put_no_line(out: &mut [u8; 213]) -> usize
 fn put_floor(out: &mut [u8; 213], floor: PracticeFloor) -> usize
     ensures { (result ≤ 213) × (result ≡ length (floor_text floor)) × (out.new ≡ sets out.old 0 (floor_text floor)) }
 {
-    let costs = floor.costs;
-    print_text::put_rows(out, &costs);
-    let goal = floor.goal;
-    let end = 210 + print_text::put_decimal(out, 210, goal);
-    out[end] = 10;
+    print_text::put_rows(out, &floor.costs);
+    let end = 210 + print_text::put_decimal(out, 210, floor.goal);
+    out[end] = b'\n';
     end + 1
 }
 
 // What is printed for an input, at the start of `out`, and how many bytes it is.
+#[tactic(auto, using(crate::proofs::Laws::seed_by), unfolding(crate::specs::Text::practice_text))]
 pub fn report(input: &[u8], out: &mut [u8; 213]) -> usize
     ensures count { (result ≤ 213) × (result ≡ length (practice_text input.now)) }
     ensures text { out.new ≡ sets out.old 0 (practice_text input.now) }
 {
-    if input.len() != 4 {
+    let Ok(seed) = <[u8; 4]>::try_from(input) else {
         return put_no_line(out);
-    }
-    let floor = practice::practice_floor(seed_of(input));
+    };
+    let floor = practice::practice_floor(u32::from_le_bytes(seed));
     put_floor(out, floor)
 }

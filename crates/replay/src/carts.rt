@@ -18,20 +18,12 @@ fn cart_agrees(sheet: &[u8], bytes: &[u8]) -> bool {
         way.sector,
         way.cell,
     ];
-    told.as_slice() == part(bytes, 2, 10) && way.moves as usize == short_at(bytes, 10, 11)
+    told.as_slice() == part(bytes, 2, 10) && usize::from(way.moves) == short_at(bytes, 10, 11)
 }
 
 // Whether the moves and the ways from sixty-four places are those that stand there.
 fn all_agree(sheet: &[u8], bytes: &[u8]) -> bool {
-    let mut k = 0;
-    while k < 64 {
-        let first = 12 * k;
-        if !cart_agrees(sheet, part(bytes, first, first + 12)) {
-            return false;
-        }
-        k += 1;
-    }
-    true
+    (0..64).all(|k| cart_agrees(sheet, part(bytes, 12 * k, 12 * k + 12)))
 }
 
 // A record: length of the sheet in 16 bits, 6,401 bytes for the sheet; 64 places with their moves and ways.

@@ -9,8 +9,9 @@ pub fn write_agrees(record: &[u8]) -> bool {
         return false;
     }
     let mut file = [byte_at(record, 2); 160];
-    let number = leg_writer::write(part(record, 4, 4 + length), front(&mut file, room));
-    number == byte_at(record, 3) && part(&file, 0, room) == part(record, 154, 154 + room)
+    let written = leg_writer::write(part(record, 4, 4 + length), front(&mut file, room));
+    refusals::number(written) == byte_at(record, 3)
+        && part(&file, 0, room) == part(record, 154, 154 + room)
 }
 
 // A record: length of the file; number, start and length of the part; 150 bytes of file.

@@ -3,14 +3,7 @@ use replay_records::{byte_at, part, same_words, usize_at};
 
 // Whether a hundred marks are those that stand in a byte each.
 fn same_marks(marks: [bool; 100], bytes: &[u8]) -> bool {
-    let mut i = 0;
-    while i < 100 {
-        if marks[i] as u8 != byte_at(bytes, i) {
-            return false;
-        }
-        i += 1;
-    }
-    true
+    (0..100).all(|i| u8::from(marks[i]) == byte_at(bytes, i))
 }
 
 // A record: lengths of low, high and step, 101 bytes for each floor, 9 of step; number, least, greatest, marks.
@@ -26,11 +19,8 @@ pub fn bounds_agree(record: &[u8]) -> bool {
         part(record, 104, 104 + high),
         part(record, 205, 205 + step),
     );
-    let least = found.least;
-    let greatest = found.greatest;
-    let sure = found.sure;
     found.number == byte_at(record, 214)
-        && same_words(&least, part(record, 215, 615))
-        && same_words(&greatest, part(record, 615, 1015))
-        && same_marks(sure, part(record, 1015, 1115))
+        && same_words(&found.least, part(record, 215, 615))
+        && same_words(&found.greatest, part(record, 615, 1015))
+        && same_marks(found.sure, part(record, 1015, 1115))
 }

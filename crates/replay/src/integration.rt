@@ -5,16 +5,14 @@ use replay_records::{byte_at, field_of, part, same_field, usize_at};
 
 // Number, field.
 pub fn same_init(answer: InitAnswer, bytes: &[u8]) -> bool {
-    let field = answer.field;
-    answer.number == byte_at(bytes, 0) && same_field(field, part(bytes, 1, 602))
+    answer.number == byte_at(bytes, 0) && same_field(answer.field, part(bytes, 1, 602))
 }
 
 // Number, waves, field.
 pub fn same_build(answer: BuildAnswer, bytes: &[u8]) -> bool {
-    let field = answer.field;
     answer.number == byte_at(bytes, 0)
         && answer.waves == usize_at(bytes, 1)
-        && same_field(field, part(bytes, 2, 603))
+        && same_field(answer.field, part(bytes, 2, 603))
 }
 
 // A record: 100 costs, 8 bytes of step; number, field.
@@ -30,32 +28,30 @@ pub fn build_agrees(record: &[u8]) -> bool {
     same_build(answer, part(record, 701, 1304))
 }
 
-// The sector call, with the sight of a goal or without.
+// The sector call, with the sight of a goal or without. Handed in as a closure, the call would have to be promised to be callable at every record.
 fn plan_by_sight(
     sight: bool,
     costs: &[u8],
     step: &[u8],
-    has_previous: bool,
-    previous: &[u32],
+    previous: Option<&[u32]>,
     sheet: &mut [u8],
 ) -> BuildAnswer {
     if sight {
-        return sector::plan_sector(costs, step, has_previous, previous, sheet);
+        return sector::plan_sector(costs, step, previous, sheet);
     }
-    sector::plan_sector_without_sight(costs, step, has_previous, previous, sheet)
+    sector::plan_sector_without_sight(costs, step, previous, sheet)
 }
 
 // A record: 100 costs, 8 bytes of step, has_previous, 100 previous numbers; number, waves, field, sheet.
 pub fn sector_agrees(record: &[u8], sight: bool) -> bool {
     let given = field_of(part(record, 109, 509));
-    let previous = given.field;
+    let previous = (byte_at(record, 108) == 1).then_some(given.field.as_slice());
     let mut sheet = [0x55u8; 100];
     let answer = plan_by_sight(
         sight,
         part(record, 0, 100),
         part(record, 100, 108),
-        byte_at(record, 108) == 1,
-        &previous,
+        previous,
         &mut sheet,
     );
     same_build(answer, part(record, 509, 1112)) && sheet.as_slice() == part(record, 1112, 1212)

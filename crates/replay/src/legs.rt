@@ -3,6 +3,7 @@ ghost use Rattle.std.specs.Prelude.{◌≤◌, length};
 
 use crate::integration::same_build;
 use integration_field::BuildAnswer;
+use refusals::Refusal;
 use replay_records::{byte_at, front, part, short_at, usize_at};
 
 // A sector's bytes put where they stand, if there is such a sector.
@@ -19,17 +20,17 @@ fn put_sector(whole: &mut [u8], sector: usize, bytes: &[u8])
 
 // The k-th hundred of the parts put in the sector that the k-th step names, as far as there are any.
 fn put_sectors(whole: &mut [u8], steps: &[u8], parts: &[u8]) {
-    let mut k = 0;
-    while k < 16 {
-        let first = 100 * k;
-        let last = first + 100;
-        put_sector(whole, usize_at(steps, 8 * k), part(parts, first, last));
-        k += 1;
+    for k in 0..16 {
+        put_sector(
+            whole,
+            usize_at(steps, 8 * k),
+            part(parts, 100 * k, 100 * k + 100),
+        );
     }
 }
 
-// A leg, with the sight of its goal or without.
-fn plan_by_sight(sight: bool, floor: &[u8], steps: &[u8], sheet: &mut [u8]) -> u8 {
+// A leg, with the sight of its goal or without: chosen here, as in `integration`.
+fn plan_by_sight(sight: bool, floor: &[u8], steps: &[u8], sheet: &mut [u8]) -> Result<(), Refusal> {
     if sight {
         return leg::plan_leg(floor, steps, sheet);
     }
@@ -45,11 +46,11 @@ pub fn leg_agrees(record: &[u8], sight: bool) -> bool {
     let mut expected = [0x55u8; 6400];
     put_sectors(&mut expected, steps, part(record, 1730, 1730 + 100 * count));
     let mut sheet = [0x55u8; 6400];
-    let number = plan_by_sight(sight, &floor, steps, &mut sheet);
-    number == byte_at(record, 1729) && sheet.as_slice() == expected.as_slice()
+    let planned = plan_by_sight(sight, &floor, steps, &mut sheet);
+    refusals::number(planned) == byte_at(record, 1729) && sheet.as_slice() == expected.as_slice()
 }
 
-// The field of a leg's step, with the sight of the leg's goal or without.
+// The field of a leg's step, with the sight of the leg's goal or without: chosen here, as in `integration`.
 fn field_by_sight(sight: bool, floor: &[u8], steps: &[u8], place: usize) -> BuildAnswer {
     if sight {
         return leg_field::leg_field(floor, steps, place);

@@ -24,31 +24,21 @@ pub fn end_of(bytes: &[u8]) -> LineEnd {
 
 // Whether the cells of a line are those at ten indexes.
 fn same_cells(cells: [FieldCell; 10], indexes: &[u8]) -> bool {
-    let mut i = 0;
-    while i < 10 {
-        let cell = cells[i];
-        if cell.as_1d_index() != usize_at(indexes, i) {
-            return false;
-        }
-        i += 1;
-    }
-    true
+    (0..10).all(|i| cells[i].as_1d_index() == usize_at(indexes, i))
 }
 
 // Number, count, ten indexes.
 pub fn same_line(line: Line, bytes: &[u8]) -> bool {
-    let cells = line.cells;
     line.number == byte_at(bytes, 0)
         && line.count == usize_at(bytes, 1)
-        && same_cells(cells, part(bytes, 2, 12))
+        && same_cells(line.cells, part(bytes, 2, 12))
 }
 
 // Number, column, row, 0.
 pub fn same_end(end: LineEnd, bytes: &[u8]) -> bool {
-    let cell = end.cell;
     end.number == byte_at(bytes, 0)
-        && cell.column == usize_at(bytes, 1)
-        && cell.row == usize_at(bytes, 2)
+        && end.cell.column == usize_at(bytes, 1)
+        && end.cell.row == usize_at(bytes, 2)
         && byte_at(bytes, 3) == 0
 }
 

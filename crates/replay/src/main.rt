@@ -10,7 +10,7 @@ mod flow;
 mod integration;
 mod legs;
 mod lines;
-mod refusals;
+mod refused;
 mod seeds;
 mod windows;
 
@@ -19,45 +19,110 @@ use std::io;
 use std::io::Read;
 use std::rt::Files;
 
-// How many records agree, a sum of the bytes that were read, and whether the next record differs.
+// How many records agree, and a sum of the bytes that were read.
 #[derive(Clone, Copy)]
 struct Tally {
     agreed: u64,
     sum: u64,
-    differs: bool,
 }
 
-// Whether the calls answer what a record of a section says.
-fn agrees(section: u8, record: &[u8]) -> bool {
-    match section {
-        0 => lines::line_agrees(record),
-        1 => lines::line_end_agrees(record),
-        2 => flow::readers_agree(record),
-        3 => integration::init_agrees(record),
-        4 => integration::build_agrees(record),
-        5 => flow::new_agrees(record),
-        6 => flow::build_agrees(record),
-        7 => integration::sector_agrees(record, true),
-        8 => legs::leg_agrees(record, true),
-        9 => refusals::refusal_agrees(record),
-        10 => files::write_agrees(record),
-        11 => files::read_agrees(record),
-        12 => seeds::floor_agrees(record),
-        13 => seeds::text_agrees(record),
-        14 => floors::bounds_agree(record),
-        15 => windows::costs_agree(record),
-        16 => windows::tour_agrees(record),
-        17 => flow::arrivals_agree(record),
-        18 => integration::sector_agrees(record, false),
-        19 => legs::leg_agrees(record, false),
-        20 => carts::carts_agree(record),
-        21 => legs::field_agrees(record, true),
-        22 => legs::field_agrees(record, false),
-        _ => false,
+// What comes of the records of a file: all agree, or the next one behind those that agree differs.
+#[derive(Clone, Copy)]
+enum Compared {
+    Agree(Tally),
+    Differ(Tally),
+}
+
+// The kinds of records, by the calls that they are of.
+#[derive(Clone, Copy)]
+enum Section {
+    Line,
+    LineEnd,
+    Readers,
+    Init,
+    Build,
+    FlowNew,
+    FlowBuild,
+    Sector,
+    Leg,
+    Refusals,
+    LegFileWrite,
+    LegFileRead,
+    Practice,
+    PracticeText,
+    Bounds,
+    WindowCosts,
+    WindowTour,
+    Arrivals,
+    SectorWithoutSight,
+    LegWithoutSight,
+    Cart,
+    LegField,
+    LegFieldWithoutSight,
+}
+
+impl Section {
+    // How long a record is.
+    fn record_length(self) -> usize {
+        match self {
+            Section::Line => 16,
+            Section::LineEnd => 8,
+            Section::Readers => 8,
+            Section::Init => 710,
+            Section::Build => 1304,
+            Section::FlowNew => 910,
+            Section::FlowBuild => 601,
+            Section::Sector => 1212,
+            Section::Leg => 3330,
+            Section::Refusals => 160,
+            Section::LegFileWrite => 314,
+            Section::LegFileRead => 154,
+            Section::Practice => 105,
+            Section::PracticeText => 223,
+            Section::Bounds => 1115,
+            Section::WindowCosts => 496,
+            Section::WindowTour => 263,
+            Section::Arrivals => 203,
+            Section::SectorWithoutSight => 1212,
+            Section::LegWithoutSight => 3330,
+            Section::Cart => 7171,
+            Section::LegField => 2344,
+            Section::LegFieldWithoutSight => 2344,
+        }
+    }
+
+    // Whether the calls answer what a record says.
+    fn agrees(self, record: &[u8]) -> bool {
+        match self {
+            Section::Line => lines::line_agrees(record),
+            Section::LineEnd => lines::line_end_agrees(record),
+            Section::Readers => flow::readers_agree(record),
+            Section::Init => integration::init_agrees(record),
+            Section::Build => integration::build_agrees(record),
+            Section::FlowNew => flow::new_agrees(record),
+            Section::FlowBuild => flow::build_agrees(record),
+            Section::Sector => integration::sector_agrees(record, true),
+            Section::Leg => legs::leg_agrees(record, true),
+            Section::Refusals => refused::refusal_agrees(record),
+            Section::LegFileWrite => files::write_agrees(record),
+            Section::LegFileRead => files::read_agrees(record),
+            Section::Practice => seeds::floor_agrees(record),
+            Section::PracticeText => seeds::text_agrees(record),
+            Section::Bounds => floors::bounds_agree(record),
+            Section::WindowCosts => windows::costs_agree(record),
+            Section::WindowTour => windows::tour_agrees(record),
+            Section::Arrivals => flow::arrivals_agree(record),
+            Section::SectorWithoutSight => integration::sector_agrees(record, false),
+            Section::LegWithoutSight => legs::leg_agrees(record, false),
+            Section::Cart => carts::carts_agree(record),
+            Section::LegField => legs::field_agrees(record, true),
+            Section::LegFieldWithoutSight => legs::field_agrees(record, false),
+        }
     }
 }
 
-// Reads until the record is full or the file ends, and returns how many bytes it put at the record's start.
+// Reads until the record is full or the file ends, and returns how many bytes it put at the record's start. It goes on by what each read gives, so it
+// counts by hand.
 fn read_full<R: Read>(file: &mut R, record: &mut [u8]) -> io::Result<usize> {
     let mut done = 0;
     while done < record.len() {
@@ -71,93 +136,106 @@ fn read_full<R: Read>(file: &mut R, record: &mut [u8]) -> io::Result<usize> {
 }
 
 // Compares record after record. No file has a million, and a proved loop has to end.
-fn compare<R: Read>(section: u8, file: &mut R, record: &mut [u8]) -> io::Result<Tally> {
-    let mut agreed: u64 = 0;
+fn compare<R: Read>(section: Section, file: &mut R, record: &mut [u8]) -> io::Result<Compared> {
     let mut sum: u64 = 0;
-    while agreed < 1000000 {
+    for agreed in 0..1000000 {
         let read = read_full(file, record)?;
         if read == 0 {
-            return Ok(Tally {
-                agreed,
-                sum,
-                differs: false,
-            });
+            return Ok(Compared::Agree(Tally { agreed, sum }));
         }
         if read != record.len() {
-            break;
+            return Ok(Compared::Differ(Tally { agreed, sum }));
         }
         sum = replay_records::summed(sum, record);
-        if !agrees(section, record) {
-            break;
+        if !section.agrees(record) {
+            return Ok(Compared::Differ(Tally { agreed, sum }));
         }
-        agreed += 1;
     }
-    Ok(Tally {
-        agreed,
+    Ok(Compared::Differ(Tally {
+        agreed: 1000000,
         sum,
-        differs: true,
-    })
+    }))
 }
 
-fn print_tally(rt: &impl Print, name: &str, counted: Tally) -> io::Result<()> {
-    let agreed = counted.agreed;
-    let sum = counted.sum;
-    if counted.differs {
-        return println!(rt;
+fn print_compared(rt: &impl Print, name: &str, compared: Compared) -> io::Result<()> {
+    match compared {
+        Compared::Agree(Tally { agreed, sum }) => {
+            println!(rt; "{name}: records that agree: {agreed}, sum of the bytes: {sum}")
+        }
+        Compared::Differ(Tally { agreed, sum }) => println!(rt;
             "{name}: records that agree before one that differs: {agreed}, sum of the bytes: {sum}"
-        );
+        ),
     }
-    println!(rt; "{name}: records that agree: {agreed}, sum of the bytes: {sum}")
 }
 
-// Replays a section, whose records are this long. The runtime itself opens the file: by `fs::open` the proof would rest on every C function of
+// Replays a file of a section's records. The runtime itself opens the file: by `fs::open` the proof would rest on every C function of
 // std's files.
-fn replay(rt: &HostRuntime, section: u8, name: &str, length: usize) -> io::Result<()> {
+fn replay(rt: &HostRuntime, section: Section, name: &str) -> io::Result<()> {
     let mut longest = [0u8; 7171];
     let mut file = rt.open_file(OpenOptions::new().read(true), name)?;
-    let record = replay_records::front(&mut longest, length);
-    let counted = compare(section, &mut file, record)?;
-    print_tally(rt, name, counted)
+    let record = replay_records::front(&mut longest, section.record_length());
+    let compared = compare(section, &mut file, record)?;
+    print_compared(rt, name, compared)
 }
 
 fn main(rt: HostRuntime) -> io::Result<()> {
-    replay(&rt, 0, "line", 16)?;
-    replay(&rt, 1, "line_end.altered", 8)?;
-    replay(&rt, 2, "readers", 8)?;
-    replay(&rt, 3, "init.altered", 710)?;
-    replay(&rt, 3, "init.table", 710)?;
-    replay(&rt, 4, "build", 1304)?;
-    replay(&rt, 5, "flow_new", 910)?;
-    replay(&rt, 6, "flow_build.altered", 601)?;
-    replay(&rt, 7, "sector.altered", 1212)?;
-    replay(&rt, 7, "sector.table", 1212)?;
-    replay(&rt, 8, "leg.altered", 3330)?;
-    replay(&rt, 8, "leg.model", 3330)?;
-    replay(&rt, 8, "leg.table", 3330)?;
-    replay(&rt, 18, "sector_without_sight.altered", 1212)?;
-    replay(&rt, 18, "sector_without_sight.table", 1212)?;
-    replay(&rt, 19, "leg_without_sight.altered", 3330)?;
-    replay(&rt, 19, "leg_without_sight.model", 3330)?;
-    replay(&rt, 19, "leg_without_sight.table", 3330)?;
-    replay(&rt, 9, "refusals.table", 160)?;
-    replay(&rt, 10, "leg_file_write.model", 314)?;
-    replay(&rt, 11, "leg_file_read.model", 154)?;
-    replay(&rt, 12, "practice.model", 105)?;
-    replay(&rt, 13, "practice_text.model", 223)?;
-    replay(&rt, 14, "bounds.model", 1115)?;
-    replay(&rt, 14, "bounds.table", 1115)?;
-    replay(&rt, 15, "window_costs.model", 496)?;
-    replay(&rt, 15, "window_costs.table", 496)?;
-    replay(&rt, 16, "window_tour.model", 263)?;
-    replay(&rt, 16, "window_tour.table", 263)?;
-    replay(&rt, 17, "arrivals.model", 203)?;
-    replay(&rt, 17, "arrivals.table", 203)?;
-    replay(&rt, 20, "cart.model", 7171)?;
-    replay(&rt, 20, "cart.table", 7171)?;
-    replay(&rt, 21, "leg_field.altered", 2344)?;
-    replay(&rt, 21, "leg_field.model", 2344)?;
-    replay(&rt, 21, "leg_field.table", 2344)?;
-    replay(&rt, 22, "leg_field_without_sight.altered", 2344)?;
-    replay(&rt, 22, "leg_field_without_sight.model", 2344)?;
-    replay(&rt, 22, "leg_field_without_sight.table", 2344)
+    replay(&rt, Section::Line, "line")?;
+    replay(&rt, Section::LineEnd, "line_end.altered")?;
+    replay(&rt, Section::Readers, "readers")?;
+    replay(&rt, Section::Init, "init.altered")?;
+    replay(&rt, Section::Init, "init.table")?;
+    replay(&rt, Section::Build, "build")?;
+    replay(&rt, Section::FlowNew, "flow_new")?;
+    replay(&rt, Section::FlowBuild, "flow_build.altered")?;
+    replay(&rt, Section::Sector, "sector.altered")?;
+    replay(&rt, Section::Sector, "sector.table")?;
+    replay(&rt, Section::Leg, "leg.altered")?;
+    replay(&rt, Section::Leg, "leg.model")?;
+    replay(&rt, Section::Leg, "leg.table")?;
+    replay(
+        &rt,
+        Section::SectorWithoutSight,
+        "sector_without_sight.altered",
+    )?;
+    replay(
+        &rt,
+        Section::SectorWithoutSight,
+        "sector_without_sight.table",
+    )?;
+    replay(&rt, Section::LegWithoutSight, "leg_without_sight.altered")?;
+    replay(&rt, Section::LegWithoutSight, "leg_without_sight.model")?;
+    replay(&rt, Section::LegWithoutSight, "leg_without_sight.table")?;
+    replay(&rt, Section::Refusals, "refusals.table")?;
+    replay(&rt, Section::LegFileWrite, "leg_file_write.model")?;
+    replay(&rt, Section::LegFileRead, "leg_file_read.model")?;
+    replay(&rt, Section::Practice, "practice.model")?;
+    replay(&rt, Section::PracticeText, "practice_text.model")?;
+    replay(&rt, Section::Bounds, "bounds.model")?;
+    replay(&rt, Section::Bounds, "bounds.table")?;
+    replay(&rt, Section::WindowCosts, "window_costs.model")?;
+    replay(&rt, Section::WindowCosts, "window_costs.table")?;
+    replay(&rt, Section::WindowTour, "window_tour.model")?;
+    replay(&rt, Section::WindowTour, "window_tour.table")?;
+    replay(&rt, Section::Arrivals, "arrivals.model")?;
+    replay(&rt, Section::Arrivals, "arrivals.table")?;
+    replay(&rt, Section::Cart, "cart.model")?;
+    replay(&rt, Section::Cart, "cart.table")?;
+    replay(&rt, Section::LegField, "leg_field.altered")?;
+    replay(&rt, Section::LegField, "leg_field.model")?;
+    replay(&rt, Section::LegField, "leg_field.table")?;
+    replay(
+        &rt,
+        Section::LegFieldWithoutSight,
+        "leg_field_without_sight.altered",
+    )?;
+    replay(
+        &rt,
+        Section::LegFieldWithoutSight,
+        "leg_field_without_sight.model",
+    )?;
+    replay(
+        &rt,
+        Section::LegFieldWithoutSight,
+        "leg_field_without_sight.table",
+    )
 }

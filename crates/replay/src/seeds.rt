@@ -4,8 +4,7 @@ use replay_records::{byte_at, part, usize_at, word_at};
 // A record: seed; 100 costs, goal.
 pub fn floor_agrees(record: &[u8]) -> bool {
     let floor = practice::practice_floor(word_at(record, 0));
-    let costs = floor.costs;
-    floor.goal == byte_at(record, 104) && costs.as_slice() == part(record, 4, 104)
+    floor.goal == byte_at(record, 104) && floor.costs.as_slice() == part(record, 4, 104)
 }
 
 // A record: length of the input, 8 bytes of input; length of the text, 213 bytes of text.

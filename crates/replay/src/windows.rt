@@ -2,23 +2,9 @@
 use replay_records::{byte_at, part, same_words, short_at, usize_at, word_at};
 use window_square::WindowRow;
 
-// Whether the eight costs of a row are those that stand in 32 bits each.
-fn same_row(costs: [u32; 8], bytes: &[u8]) -> bool {
-    same_words(&costs, bytes)
-}
-
 // Whether eight rows are those that stand one after the other.
 fn same_rows(rows: [WindowRow; 8], bytes: &[u8]) -> bool {
-    let mut i = 0;
-    while i < 8 {
-        let row = rows[i];
-        let costs = row.costs;
-        if !same_row(costs, part(bytes, 32 * i, 32 * i + 32)) {
-            return false;
-        }
-        i += 1;
-    }
-    true
+    (0..8).all(|i| same_words(&rows[i].costs, part(bytes, 32 * i, 32 * i + 32)))
 }
 
 // A record: lengths of costs and steps, 101 bytes for the costs, 136 for the steps; number, and the square, row by row.
@@ -32,8 +18,7 @@ pub fn costs_agree(record: &[u8]) -> bool {
         part(record, 2, 2 + costs),
         part(record, 103, 103 + steps),
     );
-    let rows = found.rows;
-    found.number == byte_at(record, 239) && same_rows(rows, part(record, 240, 496))
+    found.number == byte_at(record, 239) && same_rows(found.rows, part(record, 240, 496))
 }
 
 // A record: lengths of costs and steps, limit, 101 bytes for the costs, 136 for the steps; number, whether an order is
@@ -49,10 +34,9 @@ pub fn tour_agrees(record: &[u8]) -> bool {
         part(record, 105, 105 + steps),
         short_at(record, 2, 3) as u16,
     );
-    let order = found.order;
     found.number == byte_at(record, 241)
-        && found.found as u8 == byte_at(record, 242)
-        && order.as_slice() == part(record, 243, 251)
+        && u8::from(found.found) == byte_at(record, 242)
+        && found.order.as_slice() == part(record, 243, 251)
         && found.sum == word_at(record, 251)
         && found.tried == word_at(record, 255)
         && found.least == word_at(record, 259)

@@ -10,10 +10,7 @@ use integration_field::IntegrationField;
 pub fn part(bytes: &[u8], from: usize, to: usize) -> &[u8]
     ensures { length result.now ≤ to - from }
 {
-    if from <= to && to <= bytes.len() {
-        return &bytes[from..to];
-    }
-    &bytes[0..0]
+    bytes.get(from..to).unwrap_or(&[])
 }
 
 // The first bytes, lent to be written; no bytes where there are not so many.
@@ -28,17 +25,14 @@ pub fn front(bytes: &mut [u8], length: usize) -> &mut [u8] {
 pub fn byte_at(bytes: &[u8], at: usize) -> u8
     ensures { result ≡ get_or bytes.now at 0 }
 {
-    if at < bytes.len() {
-        return bytes[at];
-    }
-    0
+    bytes.get(at).copied().unwrap_or(0)
 }
 
 // The byte at a place as a count, a coordinate or a corner; 0 where there is none.
 pub fn usize_at(bytes: &[u8], at: usize) -> usize
     ensures { (result ≡ get_or bytes.now at 0) × (result < 256) }
 {
-    byte_at(bytes, at) as usize
+    usize::from(byte_at(bytes, at))
 }
 
 // The number of 16 bits whose low and high byte stand at these places.
@@ -53,10 +47,10 @@ pub fn word_at(bytes: &[u8], at: usize) -> u32
     requires { at < 1000 }
     ensures { result ≡ word_at bytes.now at }
 {
-    let first = byte_at(bytes, at) as u32;
-    let second = byte_at(bytes, at + 1) as u32;
-    let third = byte_at(bytes, at + 2) as u32;
-    let fourth = byte_at(bytes, at + 3) as u32;
+    let first = u32::from(byte_at(bytes, at));
+    let second = u32::from(byte_at(bytes, at + 1));
+    let third = u32::from(byte_at(bytes, at + 2));
+    let fourth = u32::from(byte_at(bytes, at + 3));
     first + 256 * second + 65536 * third + 16777216 * fourth
 }
 
@@ -65,12 +59,10 @@ pub fn same_words(words: &[u32], bytes: &[u8]) -> bool {
     if 100 < words.len() {
         return false;
     }
-    let mut i = 0;
-    while i < words.len() {
+    for i in 0..words.len() {
         if words[i] != word_at(bytes, 4 * i) {
             return false;
         }
-        i += 1;
     }
     true
 }
@@ -78,10 +70,8 @@ pub fn same_words(words: &[u32], bytes: &[u8]) -> bool {
 // A sum of bytes that the change of any one of them changes: 257 and the modulus, a prime, share no factor.
 pub fn summed(before: u64, bytes: &[u8]) -> u64 {
     let mut sum = before % 4294967291;
-    let mut i = 0;
-    while i < bytes.len() {
-        sum = (sum * 257 + byte_at(bytes, i) as u64) % 4294967291;
-        i += 1;
+    for byte in bytes {
+        sum = (sum * 257 + u64::from(*byte)) % 4294967291;
     }
     sum
 }
@@ -93,12 +83,10 @@ pub fn field_of(bytes: &[u8]) -> IntegrationField
     let mut field = [0u32; 100];
     let mut positions = [0u8; 100];
     let mut los_corners = [0usize; 100];
-    let mut i = 0;
-    while i < 100 {
+    for i in 0..100 {
         field[i] = word_at(bytes, 4 * i);
         positions[i] = byte_at(bytes, 401 + i);
         los_corners[i] = usize_at(bytes, 501 + i);
-        i += 1;
     }
     IntegrationField {
         field,
@@ -112,25 +100,16 @@ pub fn field_of(bytes: &[u8]) -> IntegrationField
 pub fn same_field(field: IntegrationField, bytes: &[u8]) -> bool
     ensures { result ≡ true → SameField field bytes.now }
 {
-    let count = field.count;
-    if count != usize_at(bytes, 0) {
+    if field.count != usize_at(bytes, 0) {
         return false;
     }
-    let positions = field.positions;
-    let los_corners = field.los_corners;
-    let cells = field.field;
-    let mut i = 0;
-    while i < 100 {
-        if positions[i] != byte_at(bytes, 1 + i) {
+    for i in 0..100 {
+        if field.positions[i] != byte_at(bytes, 1 + i)
+            || field.los_corners[i] != usize_at(bytes, 101 + i)
+            || field.field[i] != word_at(bytes, 201 + 4 * i)
+        {
             return false;
         }
-        if los_corners[i] != usize_at(bytes, 101 + i) {
-            return false;
-        }
-        if cells[i] != word_at(bytes, 201 + 4 * i) {
-            return false;
-        }
-        i += 1;
     }
     true
 }

@@ -50,7 +50,7 @@ module _ (p : ℕ → Bool) where
       go true (suc i) (suc j) h k ih = omega (arith, ih i j (omega arith) (omega arith))
       go false i j h k ih = omega (arith, ih i j h k)
 
-  few : (l : List ℕ) → length (select p l) ≤ length l
+  pub few : (l : List ℕ) → length (select p l) ≤ length l
   few [] = omega arith
   few (x ∷ l) = go (p x) (few l)
     where

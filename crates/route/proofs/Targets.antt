@@ -7,9 +7,10 @@
 --     held_listed, listed_held      in the program: what a target becomes there stands for that target
 --     made_target .. made_held      and what a step's target becomes there
 --     listed_sight .. goal_end      with sight or without
---     held_in .. held_inside        what the program holds stands for one inside the sector, cell by cell
+--     held_in .. held_inside        what the program holds stands for one inside the sector, cell by cell; its window
 -- Assumes nothing.
 use mathlib.Core.Path.{◌≡◌, refl, sym, ap, subst, ◌∙◌}
+use Rattle.std.specs.Prelude.{Some, None}
 use mathlib.Core.Bool.{Bool, true, false, cond, true≢false}
 use mathlib.Core.Logic.{◌↔◌, ⊎_elim}
 use mathlib.Core.List.Memᴰ
@@ -21,15 +22,18 @@ use lib.Seq.{take-append_seam, get_or-take, length-take-le}
 use borrow.Author.Tests.{eqb-true, eqb-false, eq-eqb}
 use Rattle.utilities.specs.Compass.{side_of}
 use Rattle.utilities.proofs.Padded.{padded_length}
+use Rattle.fields.specs.declared.CellList.{CellList}
 use Rattle.route.specs.declared.RouteStep.{RouteStep}
-use Rattle.route.specs.declared.WindowCells.{WindowCells}
 use Rattle.route.specs.declared.Target as program
+use Rattle.route.specs.declared.Target.TheVariants.{Goal, Window, Corner}
 use Rattle.route.specs.Window.{on_edge, listed}
-use Rattle.route.specs.Step.{goal_of, mark_of, first_of, last_of, boundary_byte, boundary_of, is_window, window_cells, route_step, step_number}
-use Rattle.route.specs.Target.{Target, to_goal, to_window, to_corner, is_sightless, without_sight, by_sight, window_of, GoalCell, WindowCell}
-use Rattle.route.specs.Target.{EndCell, WindowIn, TargetIn, target_of, StepGoal, OnNamedEdge, north, east, south, west, StepWindow}
-use Rattle.route.specs.Inner.{route_target, listed_target, unsighted, sighted_by, held_cells, held_target, WindowHeld, TargetHeld}
-use Rattle.route.proofs.Accepted.{Window, accepted_step, accepted_goal, accepted_window}
+use Rattle.route.specs.Step.{goal_of, mark_of, first_of, last_of, boundary_byte, boundary_of, is_window, window_cells, portal_of}
+use Rattle.route.specs.Step.{route_step, step_number}
+use Rattle.route.specs.Target.{Target, to_goal, to_window, to_corner, is_sightless, without_sight, by_sight, by_window, window_of}
+use Rattle.route.specs.Target.{GoalCell, WindowCell, EndCell, WindowIn, TargetIn, target_of, StepGoal, OnNamedEdge, north, east, south, west, StepWindow}
+use Rattle.route.specs.Inner.{portal_target, route_target, listed_target, unsighted, sighted_by, held_cells, held_target, own_window}
+use Rattle.route.specs.Inner.{WindowHeld, TargetHeld}
+use Rattle.route.proofs.Accepted.{Window as StepEdge, accepted_step, accepted_goal, accepted_window}
 use Rattle.route.proofs.Cells.{cells_in}
 use Rattle.route.proofs.Windows.{window_at, window_all}
 
@@ -100,7 +104,7 @@ module _ (step : List ℕ) (good : step_number step ≡ 0) where
       (λ e. (λ m. absurd (Memᴰ.not-nil m), λ c. absurd (omega (arith, c.mark, no_window e))))
       (λ e. let w = accepted_window step good e in (told e w, listed_so w))
     where
-      told : is_window step ≡ true → Window step → Memᴰ x (window_cells step) → StepWindow step x
+      told : is_window step ≡ true → StepEdge step → Memᴰ x (window_cells step) → StepWindow step x
       told e w m =
           let p = place_of (window_cells step) x m in
           let a = window_at step w p.0 p.1 in
@@ -112,7 +116,7 @@ module _ (step : List ℕ) (good : step_number step ≡ 0) where
             to = a.to;
           })
 
-      listed_so : Window step → StepWindow step x → Memᴰ x (window_cells step)
+      listed_so : StepEdge step → StepWindow step x → Memᴰ x (window_cells step)
       listed_so w c =
           let p = window_all step w x c.inside (edge_named (boundary_byte step) x c.is_on_edge) c.from c.to in
           at_place (window_cells step) p.0 x p.1 p.2
@@ -166,11 +170,6 @@ goal_end step e x = rw (target_goal step e) (
   λ q. Memᴰ.head q,
 )
 
-listed_window : (target : Target) → held_cells (listed_target target).window ≡ window_of target
-listed_window (to_goal n) = refl
-listed_window (to_window cells) = cells_listed cells
-listed_window (to_corner n) = refl
-
 window_listed : (cells : List ℕ) → WindowIn cells → WindowHeld (listed cells)
 window_listed cells w = record {
   full = padded_length 10 0 cells w.few;
@@ -182,38 +181,51 @@ none_in : WindowIn []
 none_in = record { inside = λ i h. absurd (omega arith); once = λ i j h k q. omega arith; few = omega arith }
 
 pub listed_held : (target : Target) → TargetIn target → TargetHeld (listed_target target)
-listed_held (to_goal n) h = record { window_held = window_listed [] none_in; goal_in = λ e. h; no_window = λ e. refl }
-listed_held (to_window cells) w = record { window_held = window_listed cells w; goal_in = λ e. absurd (true≢false e); no_window = λ e. absurd (true≢false e) }
-listed_held (to_corner n) h = record { window_held = window_listed [] none_in; goal_in = λ e. h; no_window = λ e. refl }
+listed_held (to_goal n) h = h
+listed_held (to_window cells) w = window_listed cells w
+listed_held (to_corner n) h = h
 
 pub held_in : (t : program.Target) → TargetHeld t → TargetIn (held_target t)
-held_in t h = go t.has_window t.sight refl refl
-  where
-    go : (b s : Bool) → t.has_window ≡ b → t.sight ≡ s → TargetIn (held_target t)
-    go true s e q = rw e h.window_held.window_in
-    go false true e q = rw (e, q) (h.goal_in e)
-    go false false e q = rw (e, q) (h.goal_in e)
+held_in (Goal n) h = h
+held_in (Window w) h = h.window_in
+held_in (Corner n) h = h
+
+-- the window cells of what it stands for are those that it holds
+pub held_window : (t : program.Target) → held_cells (own_window t) ≡ window_of (held_target t)
+held_window (Goal n) = refl
+held_window (Window w) = refl
+held_window (Corner n) = refl
+
+pub window_held : (t : program.Target) → TargetHeld t → WindowHeld (own_window t)
+window_held (Goal n) h = window_listed [] none_in
+window_held (Window w) h = h
+window_held (Corner n) h = window_listed [] none_in
 
 -- as it is made of a step
 module _ (step : List ℕ) (s : RouteStep) (t : program.Target) (parsed : s ≡ route_step step) (made : t ≡ listed_target (route_target s)) where
+  by_mark : (b : Bool) → portal_target (goal_of step) (cond b (Some (portal_of step)) None) ≡ cond b (to_window (window_cells step)) (to_goal (goal_of step))
+  by_mark true = refl
+  by_mark false = refl
+
   is : t ≡ listed_target (target_of step)
   unfolding target_of
-  is = made ∙ ap (λ (r : RouteStep). listed_target (route_target r)) parsed
+  is = made ∙ ap (λ (r : RouteStep). listed_target (route_target r)) parsed ∙ ap listed_target (by_mark (is_window step))
 
   pub made_target : held_target t ≡ target_of step
   made_target = ap held_target is ∙ held_listed (target_of step)
 
-  -- it has a window exactly if the step is marked so
-  pub made_marked : t.has_window ≡ is_window step
-  made_marked = ap (λ (u : program.Target). u.has_window) (made ∙ ap (λ (r : RouteStep). listed_target (route_target r)) parsed) ∙ go (is_window step)
+  -- it is a window exactly if the step is marked so
+  pub made_marked : by_window (held_target t) ≡ is_window step
+  unfolding target_of
+  made_marked = ap by_window made_target ∙ go (is_window step)
     where
-      go : (b : Bool) → (listed_target (cond b (to_window (window_cells step)) (to_goal (goal_of step)))).has_window ≡ b
+      go : (b : Bool) → by_window (cond b (to_window (window_cells step)) (to_goal (goal_of step))) ≡ b
       go true = refl
       go false = refl
 
   -- with sight or without
   module _ (sight : Bool) (u : program.Target) (seen : u ≡ sighted_by sight t) where
-    seen_is : u ≡ listed_target (by_sight sight (target_of step))
+    pub seen_is : u ≡ listed_target (by_sight sight (target_of step))
     seen_is = seen ∙ ap (sighted_by sight) is ∙ listed_sight sight (target_of step)
 
     pub seen_target : held_target u ≡ by_sight sight (target_of step)
@@ -222,22 +234,13 @@ module _ (step : List ℕ) (s : RouteStep) (t : program.Target) (parsed : s ≡ 
     pub seen_held : step_number step ≡ 0 → TargetHeld u
     seen_held good = subst TargetHeld (sym seen_is) (listed_held (by_sight sight (target_of step)) (sight_in sight (target_of step) (target_in step good)))
 
-  pub made_window : held_cells t.window ≡ window_of (target_of step)
-  made_window = ap (λ (u : program.Target). held_cells u.window) is ∙ listed_window (target_of step)
+  pub made_window : held_cells (own_window t) ≡ window_of (target_of step)
+  made_window = held_window t ∙ ap window_of made_target
 
   pub made_held : step_number step ≡ 0 → TargetHeld t
   made_held good = subst TargetHeld (sym is) (listed_held (target_of step) (target_in step good))
 
--- the window cells of what it stands for are those that it holds
-pub held_window : (t : program.Target) → TargetHeld t → window_of (held_target t) ≡ held_cells t.window
-held_window t h = go t.has_window t.sight refl refl
-  where
-    go : (b s : Bool) → t.has_window ≡ b → t.sight ≡ s → window_of (held_target t) ≡ held_cells t.window
-    go true s e q = rw e
-    go false true e q = rw (e, q, h.no_window e)
-    go false false e q = rw (e, q, h.no_window e)
-
-module _ (w : WindowCells) (h : WindowHeld w) where
+module _ (w : CellList 10) (h : WindowHeld w) where
   pub held_length : length (held_cells w) ≡ w.count
   held_length = length-take-le w.count w.cells (omega (arith, h.full, h.count_in))
 

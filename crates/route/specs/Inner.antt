@@ -1,37 +1,54 @@
 -- A target as the program holds it, for the contracts of functions beneath the calls.
 -- Assumes nothing.
-use Rattle.std.specs.Prelude.{◌≡◌, Bool, true, false, cond, List, [], ℕ, ◌<◌, ◌≤◌, length, take}
+use Rattle.std.specs.Prelude.{◌≡◌, Bool, true, false, List, ℕ, ◌<◌, ◌≤◌, length, Option, Some, None}
+use Rattle.fields.specs.declared.CellList.{CellList}
+use Rattle.fields.specs.CellList.{held, no_cells}
+use Rattle.route.specs.declared.PortalWindow.{PortalWindow}
 use Rattle.route.specs.declared.RouteStep.{RouteStep}
-use Rattle.route.specs.declared.WindowCells.{WindowCells}
 use Rattle.route.specs.declared.Target as program
+use Rattle.route.specs.declared.Target.TheVariants.{Goal, Window, Corner}
 use Rattle.route.specs.Window.{cells_between, listed}
 use Rattle.route.specs.Step.{is_wall_cost, some_wall_cost}
 use Rattle.route.specs.Target.{Target, to_goal, to_window, to_corner, WindowIn}
 
--- the target of a parsed step
+-- the target of a parsed step: with a window its cells, else the goal
+abbrev pub portal_target : ℕ → Option PortalWindow → Target
+portal_target goal (Some w) = to_window (cells_between w.boundary w.start w.end)
+portal_target goal None = to_goal goal
+
 abbrev pub route_target : RouteStep → Target
-route_target s = cond s.has_portal (to_window (cells_between s.portal.boundary s.portal.start s.portal.end)) (to_goal s.goal)
+route_target s = portal_target s.goal s.portal
 
 -- a target in the program: window cells in an array, with their count
 abbrev pub listed_target : Target → program.Target
-listed_target (to_goal n) = record { has_window = false; sight = true; goal = n; window = listed [] }
-listed_target (to_window cells) = record { has_window = true; sight = true; goal = 0; window = listed cells }
-listed_target (to_corner n) = record { has_window = false; sight = false; goal = n; window = listed [] }
+listed_target (to_goal n) = Goal n
+listed_target (to_window cells) = Window (listed cells)
+listed_target (to_corner n) = Corner n
 
 -- a target in the program without sight: of a window nothing changes; and with sight or without
 abbrev pub unsighted : program.Target → program.Target
-unsighted t = record { has_window = t.has_window; sight = t.has_window; goal = t.goal; window = t.window }
+unsighted (Goal n) = Corner n
+unsighted (Window w) = Window w
+unsighted (Corner n) = Corner n
 
 abbrev pub sighted_by : Bool → program.Target → program.Target
 sighted_by true t = t
 sighted_by false t = unsighted t
 
 -- what window cells and a target in the program stand for
-abbrev pub held_cells : WindowCells → List ℕ
-held_cells w = take w.count w.cells
+abbrev pub held_cells : CellList 10 → List ℕ
+held_cells = held
 
 abbrev pub held_target : program.Target → Target
-held_target t = cond t.has_window (to_window (held_cells t.window)) (cond t.sight (to_goal t.goal) (to_corner t.goal))
+held_target (Goal n) = to_goal n
+held_target (Window w) = to_window (held_cells w)
+held_target (Corner n) = to_corner n
+
+-- its window's cells; beside a goal there are none
+abbrev pub own_window : program.Target → CellList 10
+own_window (Goal n) = no_cells 10
+own_window (Window w) = w
+own_window (Corner n) = no_cells 10
 
 -- number 16's condition, by the target
 abbrev pub is_wall_target : List ℕ → Target → Bool
@@ -40,12 +57,12 @@ is_wall_target costs (to_window cells) = some_wall_cost costs cells
 is_wall_target costs (to_corner n) = is_wall_cost costs n
 
 -- window cells, and a target, in the program that stand for those of a target inside the sector
-pub record WindowHeld (w : WindowCells) : Type 0 where
+pub record WindowHeld (w : CellList 10) : Type 0 where
   pub full : length w.cells ≡ 10
   pub count_in : w.count ≤ 10
   pub window_in : WindowIn (held_cells w)
 
-pub record TargetHeld (t : program.Target) : Type 0 where
-  pub window_held : WindowHeld t.window
-  pub goal_in : t.has_window ≡ false → t.goal < 100
-  pub no_window : t.has_window ≡ false → t.window.count ≡ 0
+abbrev pub TargetHeld : program.Target → Type 0
+TargetHeld (Goal n) = n < 100
+TargetHeld (Window w) = WindowHeld w
+TargetHeld (Corner n) = n < 100

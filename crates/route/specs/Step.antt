@@ -1,6 +1,6 @@
 -- A step of a route and the numbers with which it is refused (01, "A leg").
 -- Assumes nothing.
-use Rattle.std.specs.Prelude.{Bool, false, not, ◌&&◌, ◌||◌, List, [], ◌∷◌, ◌++◌, ℕ, ◌%◌, ltb, eqb, length, get_or}
+use Rattle.std.specs.Prelude.{Bool, false, cond, not, ◌&&◌, ◌||◌, List, [], ◌∷◌, ◌++◌, ℕ, ◌%◌, ltb, eqb, length, get_or, Some, None}
 use Rattle.utilities.specs.declared.CompassDir.{CompassDir}
 use Rattle.utilities.specs.Compass.{side_of}
 use Rattle.route.specs.declared.PortalWindow.{PortalWindow}
@@ -45,15 +45,9 @@ window_cells s = cells_between (boundary_of s) (first_of s) (last_of s)
 abbrev pub portal_of : List ℕ → PortalWindow
 portal_of s = record { start = first_of s; end = last_of s; boundary = boundary_of s }
 
--- the parsed step
+-- the parsed step, with a window where its mark says so
 abbrev pub route_step : List ℕ → RouteStep
-route_step s =
-    record {
-      sector = sector_of s;
-      goal = goal_of s;
-      has_portal = is_window s;
-      portal = portal_of s;
-    }
+route_step s = record { sector = sector_of s; goal = goal_of s; portal = cond (is_window s) (Some (portal_of s)) None }
 
 -- the table's lines for each step, numbers 4 to 8 (01, "A leg", the table); with mark 0 the window bytes are not read, with mark 1 the goal byte is not
 abbrev pub step_rows : List ℕ → List Row

@@ -6,7 +6,7 @@ use Rattle.utilities.specs.declared.CompassDir.TheVariants.{North, East, South, 
 use Rattle.utilities.specs.Compass.{differences, still}
 use Rattle.utilities.specs.Lists.{cons_if, below}
 use Rattle.utilities.specs.Padded.{padded}
-use Rattle.route.specs.declared.WindowCells.{WindowCells}
+use Rattle.fields.specs.declared.CellList.{CellList}
 
 -- those of a list that pass a test, in its order
 abbrev pub select : (ℕ → Bool) → List ℕ → List ℕ
@@ -42,7 +42,7 @@ abbrev pub stride : CompassDir → ℕ
 stride side = cond (still (differences side).column) 1 10
 
 -- window cells in an array, with their count (01, under the table: places of a list beyond its count hold 0)
-abbrev pub listed : List ℕ → WindowCells
+abbrev pub listed : List ℕ → CellList 10
 listed l = record { cells = padded 10 0 l; count = length l }
 
 -- the sum of x and a difference, counted round: ten more, and what is left over tens

@@ -3,12 +3,13 @@
 
 ghost use Rattle.std.specs.Prelude.{◌≡◌, ◌+◌, ◌*◌, ◌%◌, ◌<◌, length, get_or};
 ghost use Rattle.route.specs.Window.{edge, stride, between, cells_between, listed, facing};
-ghost use Rattle.route.specs.Step.{route_step};
-ghost use Rattle.route.specs.Inner.{route_target, listed_target, unsighted, sighted_by};
+ghost use Rattle.route.specs.Step.{portal_of, route_step};
+ghost use Rattle.route.specs.Inner.{route_target, listed_target, own_window, unsighted, sighted_by};
 
-use utilities::{CompassDir, index_of, rises};
+use fields::CellList;
+use utilities::CompassDir;
 
-// How many bytes a step has, and the place of each; the last two are zero.
+// How many bytes a step has, and the places of those that say something; the last two are zero.
 pub const STEP_LENGTH: usize = 8;
 
 pub const STEP_SECTOR: usize = 0;
@@ -23,10 +24,6 @@ pub const STEP_LAST: usize = 4;
 
 pub const STEP_BOUNDARY: usize = 5;
 
-pub const STEP_ZERO: usize = 6;
-
-pub const STEP_OTHER_ZERO: usize = 7;
-
 // The start and end index of a portal, and the side of the sector that it sits on.
 #[derive(Clone, Copy)]
 pub struct PortalWindow {
@@ -35,40 +32,27 @@ pub struct PortalWindow {
     pub boundary: CompassDir,
 }
 
-// A parsed step, with the fields of the Rust's. With a portal the actual goal is its window, else the goal cell.
+// A parsed step: its sector, its goal cell, and its window where it has one, which is then what it leads to.
 #[derive(Clone, Copy)]
 pub struct RouteStep {
     pub sector: usize,
     pub goal: usize,
-    pub has_portal: bool,
-    pub portal: PortalWindow,
+    pub portal: Option<PortalWindow>,
 }
 
-// The cells of a window: `count` of them, in the first places.
-#[repr(C)]
+// What a sector's field starts from: the goal cell, with the sight of it; the cells of a window; or the goal cell without sight, as the one listed corner.
 #[derive(Clone, Copy)]
-pub struct WindowCells {
-    pub cells: [usize; 10],
-    pub count: usize,
-}
-
-// What a sector's field starts from: the cells of a window, or the goal cell, with the sight of it or without. Beside a goal there are no window cells.
-#[derive(Clone, Copy)]
-pub struct Target {
-    pub has_window: bool,
-    pub sight: bool,
-    pub goal: usize,
-    pub window: WindowCells,
+pub enum Target {
+    Goal(usize),
+    Window(CellList<10>),
+    Corner(usize),
 }
 
 // The byte at a place, 0 where there is none.
 pub fn byte_at(bytes: &[u8], place: usize) -> u8
     ensures { result ≡ get_or bytes.now place 0 }
 {
-    if place < bytes.len() {
-        return bytes[place];
-    }
-    0
+    bytes.get(place).copied().unwrap_or(0)
 }
 
 // By how much the indexes of two neighbours on a side's edge differ: 1 along a row, 10 down a column.
@@ -83,7 +67,10 @@ pub fn stride_of(boundary: CompassDir) -> usize
 fn edge_length(boundary: CompassDir) -> usize
     ensures { result ≡ length (edge boundary) }
 {
-    if boundary.number() < 4 { 10 } else { 0 }
+    match boundary {
+        CompassDir::North | CompassDir::East | CompassDir::South | CompassDir::West => 10,
+        _ => 0,
+    }
 }
 
 // A cell of a side's edge, by its place from the left or the top.
@@ -91,8 +78,11 @@ fn edge_cell(boundary: CompassDir, place: usize) -> usize
     requires { place < length (edge boundary) }
     ensures { result ≡ get_or (edge boundary) place 0 }
 {
-    let added = boundary.differences();
-    let first = rises(added.column) * 9 + rises(added.row) * 90;
+    let first = match boundary {
+        CompassDir::East => 9,
+        CompassDir::South => 90,
+        _ => 0,
+    };
     first + place * stride_of(boundary)
 }
 
@@ -100,10 +90,7 @@ fn edge_cell(boundary: CompassDir, place: usize) -> usize
 fn is_between(first: usize, last: usize, cell: usize) -> bool
     ensures { result ≡ between first last cell }
 {
-    if cell < first {
-        return false;
-    }
-    cell <= last
+    (first..=last).contains(&cell)
 }
 
 // The cell of the next sector that faces a cell across a boundary: one step on, where after 9 comes 0 and before 0 comes 9.
@@ -121,21 +108,13 @@ impl RouteStep {
     pub fn new(step: &[u8]) -> RouteStep
         ensures { result ≡ route_step step.now }
     {
-        let sector = index_of(byte_at(step, STEP_SECTOR));
-        let goal = index_of(byte_at(step, STEP_GOAL));
-        let mark = byte_at(step, STEP_MARK);
-        let start = index_of(byte_at(step, STEP_FIRST));
-        let end = index_of(byte_at(step, STEP_LAST));
-        let boundary = CompassDir::from_boundary(byte_at(step, STEP_BOUNDARY));
+        let sector = usize::from(byte_at(step, STEP_SECTOR));
+        let goal = usize::from(byte_at(step, STEP_GOAL));
+        let portal = (byte_at(step, STEP_MARK) == 1).then(|| PortalWindow::new(step));
         RouteStep {
             sector,
             goal,
-            has_portal: mark == 1,
-            portal: PortalWindow {
-                start,
-                end,
-                boundary,
-            },
+            portal,
         }
     }
 
@@ -143,77 +122,61 @@ impl RouteStep {
     pub fn as_target(self) -> Target
         ensures { result ≡ listed_target (route_target self) }
     {
-        let has_window = self.has_portal;
-        if has_window {
-            let portal = self.portal;
-            let window = portal.get_all_window_cells();
-            return Target {
-                has_window,
-                sight: true,
-                goal: 0,
-                window,
-            };
-        }
-        let window = WindowCells {
-            cells: [0; 10],
-            count: 0,
-        };
-        Target {
-            has_window,
-            sight: true,
-            goal: self.goal,
-            window,
+        match self.portal {
+            Some(portal) => Target::Window(portal.get_all_window_cells()),
+            None => Target::Goal(self.goal),
         }
     }
 }
 
 impl Target {
-    // This target without sight: a goal is to be the one listed corner; of a window nothing changes.
-    fn without_sight(self) -> Target
-        ensures { result ≡ unsighted self }
-    {
-        let has_window = self.has_window;
-        let goal = self.goal;
-        let window = self.window;
-        Target {
-            has_window,
-            sight: has_window,
-            goal,
-            window,
-        }
-    }
-
-    // The target with the sight of a goal, or without.
+    // The target with the sight of a goal, or without: then a goal is to be the one listed corner. Of a window nothing changes.
     pub fn by_sight(self, sight: bool) -> Target
         ensures { result ≡ sighted_by sight self }
     {
-        if sight {
-            return self;
+        match self {
+            Target::Goal(goal) if !sight => Target::Corner(goal),
+            target => target,
         }
-        self.without_sight()
+    }
+
+    // The window's cells; beside a goal there are none.
+    pub fn window(self) -> CellList<10>
+        ensures { result ≡ own_window self }
+    {
+        match self {
+            Target::Window(window) => window,
+            _ => CellList::none(),
+        }
     }
 }
 
 impl PortalWindow {
+    // Parses the window of a step's bytes, whatever its mark.
+    pub fn new(step: &[u8]) -> PortalWindow
+        ensures { result ≡ portal_of step.now }
+    {
+        let start = usize::from(byte_at(step, STEP_FIRST));
+        let end = usize::from(byte_at(step, STEP_LAST));
+        let boundary = CompassDir::from_boundary(byte_at(step, STEP_BOUNDARY));
+        PortalWindow {
+            start,
+            end,
+            boundary,
+        }
+    }
+
     // The indices of every cell along the window, left to right or top to bottom.
-    pub fn get_all_window_cells(self) -> WindowCells
+    pub fn get_all_window_cells(self) -> CellList<10>
         ensures { result ≡ listed (cells_between self.boundary self.start self.end) }
     {
-        let boundary = self.boundary;
-        let start = self.start;
-        let end = self.end;
-        let length = edge_length(boundary);
-        let mut cells = [0usize; 10];
-        let mut count = 0;
-        let mut place = 0;
-        while place < length {
-            let cell = edge_cell(boundary, place);
-            if is_between(start, end, cell) {
-                cells[count] = cell;
-                count += 1;
+        let mut window = CellList::none();
+        for place in 0..edge_length(self.boundary) {
+            let cell = edge_cell(self.boundary, place);
+            if is_between(self.start, self.end, cell) {
+                window.push(cell as u8);
             }
-            place += 1;
         }
-        WindowCells { cells, count }
+        window
     }
 }

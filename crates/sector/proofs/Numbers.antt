@@ -1,11 +1,12 @@
 -- The sector call's number.
 --     accepted           what is known of a call that is not refused
+--     one_due .. step_due    1, 2, and 3 to 8 and 16, where what comes before is not due
 --     last_two           where 1, 2, 3 to 8 and 16 are not due, 17 decides, and then 12
 --     seventeen_told     a call is refused with 17 exactly if 1, 2, 3 to 8 and 16 are not due, the mark is 1 and no previous field is lent
 --     sixteen_due        and with 16 exactly if 1, 2 and 3 to 8 are not due, and its goal or a window cell has cost 255
 --     either_first       17 and 12 are never both due: the one or the other may stand first
 -- Assumes nothing.
-use mathlib.Core.Path.{◌≡◌, refl}
+use mathlib.Core.Path.{◌≡◌, refl, ◌∙◌}
 use mathlib.Core.Bool.{Bool, true, false, cond, not, ◌&&◌}
 use mathlib.Core.Logic.{◌↔◌}
 use mathlib.Core.List.{List, [], ◌∷◌}
@@ -13,7 +14,7 @@ use Prim.Native.Nat.{ℕ}
 use native.Mathlib.Omega.{arith}
 use lib.Dec.{eqb}
 use lib.ListN.{length}
-use borrow.Author.Tests.{eqb-true, eq-eqb}
+use borrow.Author.Tests.{eqb-true, eq-eqb, ne_eqb}
 use Rattle.route.specs.Table.{row, first_number}
 use Rattle.route.specs.Step.{is_window, step_number, step_rows_on, step_number_on}
 use Rattle.route.proofs.Walls.{accepted_on, sixteen_told}
@@ -70,6 +71,20 @@ module _ (costs step : List ℕ) (has : Bool) (previous sheet : List ℕ) where
             window_lent = s;
             previous_fits = t;
           }
+
+  pub one_due : (length costs ≡ 100 → ⊥) → 1 ≡ sector_number costs step has previous sheet
+  unfolding sector_number
+  one_due h = rw (ne_eqb (length costs) 100 h)
+
+  pub two_due : length costs ≡ 100 → (length sheet ≡ 100 → ⊥) → 2 ≡ sector_number costs step has previous sheet
+  unfolding sector_number
+  two_due p h = rw (eq-eqb (length costs) 100 p, ne_eqb (length sheet) 100 h)
+
+  pub step_due : length costs ≡ 100 → length sheet ≡ 100 → (n : ℕ) → n ≡ step_number_on costs step → (n ≡ 0 → ⊥)
+      → n ≡ sector_number costs step has previous sheet
+  unfolding sector_number
+  step_due p q n e h =
+      rw (eq-eqb (length costs) 100 p, eq-eqb (length sheet) 100 q, ne_eqb (step_number_on costs step) 0 (λ z. h (e ∙ z))) e
 
   pub last_two : length costs ≡ 100 → length sheet ≡ 100 → step_number_on costs step ≡ 0 → (l h f : Bool) → lacks_previous step has ≡ l → has ≡ h
       → eqb (length previous) 100 ≡ f → sector_number costs step has previous sheet ≡ cond l 17 (cond (h && not f) 12 0)

@@ -1,11 +1,9 @@
 -- What is promised of a sector's run, and of the sector call.
 --     bytes_hundred      100 bytes are written
 --     none_read          without a previous field, what is lent in its place plays no part
---     written            what is written of a built field
---     run_bytes          the bytes that a run leaves, by its cells
---     runs               what the run's three parts leave
+--     run_bytes          the bytes that the run of a parsed step leaves
 --     sector_planned     demand 3, and arrows clear of walls, of the definitions
---     refuses, accepts   all that is promised of a refused call, and of an accepted one by its run
+--     refuses, ran       all that is promised of a refused call, and of an accepted one by its run
 --     planned_without    what is promised besides of a sector planned without sight, of the definitions
 --     told_without       and of the call
 --     window_same        which plans a step with a window as it is with sight
@@ -13,13 +11,14 @@
 use mathlib.Core.Path.{◌≡◌, refl, sym, ap, ◌∙◌}
 use mathlib.Core.Bool.{Bool, true, false}
 use mathlib.Core.Logic.{◌↔◌}
+use Rattle.std.specs.Prelude.{Option}
 use mathlib.Core.List.{List}
 use Prim.Native.Nat.{ℕ, zero, suc, ◌<◌, ◌≤◌}
 use lib.ListN.{length, get_or}
-use borrow.Author.Tests.{eq-eqb, ne_eqb}
+use borrow.Author.Tests.{ne_eqb}
 use Rattle.utilities.proofs.Lists.{table_length}
 use Rattle.route.specs.declared.PortalWindow.{PortalWindow}
-use Rattle.route.specs.Step.{goal_of, is_window, portal_of, step_number}
+use Rattle.route.specs.Step.{goal_of, is_window, portal_of, route_step, step_number}
 use Rattle.route.specs.Target.{Target, to_corner, window_of, is_sightless, without_sight, by_sight, TargetIn, target_of, TargetTold}
 use Rattle.route.proofs.Targets.{target_goal, target_window, target_in, sight_in, sight_window, without_sightless, goal_end, window_told}
 use Rattle.route.proofs.Targets as targets
@@ -37,8 +36,7 @@ use Rattle.flow_arrows.specs.Arrows.{CellsMarked, ArrowsLead}
 use Rattle.flow_arrows.specs.Promise.{NoCostZero}
 use Rattle.flow_byte.specs.New.{window_bits, new_byte, new_bytes}
 use Rattle.flow_byte.specs.Look.{built_byte, flow_build}
-use Rattle.flow_build.specs.Flow.{build_number, build_sheet}
-use Rattle.flow_arrows.proofs.Bytes.{new_length}
+use Rattle.flow_new.proofs.Starts.{step_bytes}
 use Rattle.flow_arrows.proofs.Clear.{OnEdge, arrows_clear, target_on}
 use Rattle.flow_arrows.proofs.Lead.{arrows_led, marked_told, arrows_lead}
 use Rattle.sector.specs.Sector.{sector_number, sector_field, sector_bytes, sector_answer, sector_sheet, sector_answer_by, sector_sheet_by}
@@ -46,12 +44,6 @@ use Rattle.sector.specs.Inner.{flow_bytes}
 use Rattle.sector.specs.Previous.{WithoutPrevious, TargetOnWall}
 use Rattle.sector.specs.Promise.{Planned, PlannedWithout}
 use Rattle.sector.proofs.Numbers.{accepted, seventeen_told, sixteen_due}
-
--- what `new` and `build` leave, one after the other
-pub written : (portal : PortalWindow) (window cells : List ℕ) (has : Bool) (previous new bytes : List ℕ)
-    → new ≡ new_bytes portal window cells has previous → bytes ≡ build_sheet cells new → bytes ≡ flow_bytes portal window cells has previous
-unfolding build_number
-written portal window cells has previous new bytes r t = t ∙ rw (r, eq-eqb _ 100 (new_length portal window cells has previous))
 
 module _ (costs : List ℕ) (target : Target) (portal : PortalWindow) where
   pub bytes_hundred : (has : Bool) (previous : List ℕ) → length (sector_bytes costs target portal has previous) ≡ 100
@@ -65,19 +57,7 @@ module _ (costs : List ℕ) (target : Target) (portal : PortalWindow) where
   unfolding sector_bytes new_bytes new_byte window_bits
   none_read previous other = refl
 
-  pub run_bytes : (has : Bool) (previous cells window bytes : List ℕ) → cells ≡ (sector_field costs target).field → window ≡ window_of target
-      → bytes ≡ flow_bytes portal window cells has previous → bytes ≡ sector_bytes costs target portal has previous
-  unfolding sector_bytes
-  run_bytes has previous cells window bytes e w t = t ∙ rw (e, w)
-
   module _ (full : length costs ≡ 100) (inside : TargetIn target) (has : Bool) (previous : List ℕ) where
-    pub runs : (f : IntegrationField) (b : BuildAnswer) (window bytes : List ℕ) → f ≡ started costs target → b ≡ answer_of 0 costs f
-        → window ≡ window_of target → bytes ≡ flow_bytes portal window b.field.field has previous
-        → (b ≡ answer_of 0 costs (started costs target)) × (bytes ≡ sector_bytes costs target portal has previous)
-    runs f b window bytes p q w t =
-        let e : b ≡ answer_of 0 costs (started costs target) = q ∙ ap (answer_of 0 costs) p in
-        (e, run_bytes has previous b.field.field window bytes (ap (λ (a : BuildAnswer). a.field.field) e) w t)
-
     -- costs are bytes
     pub sector_planned : ((x : ℕ) → x < 100 → get_or costs x 0 ≤ 255) → OnEdge portal target
         → Planned costs target (sector_field costs target).field (wave_count costs (started costs target)) (sector_bytes costs target portal has previous)
@@ -98,6 +78,16 @@ module _ (costs : List ℕ) (target : Target) (portal : PortalWindow) where
       pub sector_marked : CellsMarked costs target (sector_field costs target).field (sector_bytes costs target portal has previous)
       unfolding sector_bytes
       sector_marked = marked_told costs target full inside sightless byte portal has previous
+
+-- the bytes of a parsed step's run: those of its window, or of no window where it has none
+pub run_bytes : (sight : Bool) (costs step : List ℕ) (has : Bool) (previous : List ℕ)
+    → let target = by_sight sight (target_of step) in
+    flow_bytes (route_step step).portal (window_of target) (sector_field costs target).field has previous
+    ≡ sector_bytes costs target (portal_of step) has previous
+unfolding sector_bytes
+run_bytes sight costs step has previous =
+    let cells = (sector_field costs (by_sight sight (target_of step))).field in
+    rw (sight_window sight (target_of step)) (ap (flow_build cells) (step_bytes step cells has previous))
 
 -- a step's window cells lie on its boundary's edge, with sight or without
 sight_on : (sight : Bool) (step : List ℕ) → OnEdge (portal_of step) (by_sight sight (target_of step))
@@ -130,56 +120,67 @@ module _ (costs step : List ℕ) (full : length costs ≡ 100) (good : step_numb
         goal_positions = λ e. (by_goal e).1;
       }
 
-module _ (sight : Bool) (costs step : List ℕ) (has : Bool) (previous sheet : List ℕ) where
+module _ (sight : Bool) (costs step : List ℕ) (has : Bool) (previous before : List ℕ) where
   abbrev target : Target
   target = by_sight sight (target_of step)
 
-  -- its target, and 16 and 17, by what they are told by
-  abbrev Told : BuildAnswer → Type 0
-  Told r =
-      (r.number ≡ 0 → TargetTold step)
-      × (((r.number ≡ 16) ↔ TargetOnWall costs step sheet) × ((r.number ≡ 17) ↔ WithoutPrevious costs step has sheet))
+  abbrev number : ℕ
+  number = sector_number costs step has previous before
 
-  told : (r : BuildAnswer) → r.number ≡ sector_number costs step has previous sheet → Told r
-  told r e = rw e (
-    λ z. (let good = (accepted costs step has previous sheet z).step_good in record { goal = targets.goal_told step good; window = window_told step good }),
-    (sixteen_due costs step has previous sheet, seventeen_told costs step has previous sheet),
-  )
-
-  -- an answer, and the sheet that is left with it
+  -- an answer, and the sheet that is left with it: its target, and 16 and 17, by what they are told by
   abbrev Promised : BuildAnswer → List ℕ → Type 0
-  Promised r bytes =
-      (r ≡ sector_answer_by sight costs step has previous sheet)
-      × ((bytes ≡ sector_sheet_by sight costs step has previous sheet)
-      × ((r.number ≡ 0 → Planned costs target r.field.field r.waves bytes)
-      × ((r.number ≡ 0 → StartedPositions costs target r.field.field r.field.positions)
-      × (((r.number ≡ 0 → ⊥) → BuildRefused r) × Told r))))
+  Promised r bytes = record {
+    answer : r ≡ sector_answer_by sight costs step has previous before;
+    sheet : bytes ≡ sector_sheet_by sight costs step has previous before;
+    planned : r.number ≡ 0 → Planned costs target r.field.field r.waves bytes;
+    positions : r.number ≡ 0 → StartedPositions costs target r.field.field r.field.positions;
+    refused : (r.number ≡ 0 → ⊥) → BuildRefused r;
+    target : r.number ≡ 0 → TargetTold step;
+    sixteen : (r.number ≡ 16) ↔ TargetOnWall costs step before;
+    seventeen : (r.number ≡ 17) ↔ WithoutPrevious costs step has before;
+  }
 
-  pub refuses : (n : ℕ) → n ≡ sector_number costs step has previous sheet → (n ≡ 0 → ⊥) → (r : BuildAnswer) → r ≡ refusal n → Promised r sheet
-  refuses zero e h r q = absurd (h refl)
-  refuses (suc n) e h r q =
-      let not-zero : r.number ≡ 0 → ⊥ = λ z. h (sym (ap (λ (b : BuildAnswer). b.number) q) ∙ z) in
-      let zero-parts = build_refused (suc n) costs (started costs target) r q in
-      let number = told r (ap (λ (b : BuildAnswer). b.number) q ∙ e) in
-      (q ∙ rw (← e), (rw (← e, ne_eqb (suc n) 0 h), (λ z. absurd (not-zero z), (λ z. absurd (not-zero z), (zero-parts, number)))))
+  pub refuses : (n : ℕ) → n ≡ number → (n ≡ 0 → ⊥) → (r : BuildAnswer) → r ≡ refusal n → (bytes : List ℕ) → bytes ≡ before → Promised r bytes
+  refuses zero e h r q bytes w = absurd (h refl)
+  refuses (suc n) e h r q bytes w =
+      let told : r.number ≡ number = ap (λ (b : BuildAnswer). b.number) q ∙ e in
+      let not-zero : r.number ≡ 0 → ⊥ = λ z. h (e ∙ sym told ∙ z) in
+      record {
+        answer = q ∙ rw (← e);
+        sheet = w ∙ rw (← e, ne_eqb (suc n) 0 h);
+        planned = λ z. absurd (not-zero z);
+        positions = λ z. absurd (not-zero z);
+        refused = build_refused (suc n) costs (started costs target) r q;
+        target = λ z. absurd (not-zero z);
+        sixteen = rw told (sixteen_due costs step has previous before);
+        seventeen = rw told (seventeen_told costs step has previous before);
+      }
 
-  pub accepts : ((x : ℕ) → x < 100 → get_or costs x 0 ≤ 255) → sector_number costs step has previous sheet ≡ 0 → (b : BuildAnswer) (bytes : List ℕ)
-      → b ≡ answer_of 0 costs (started costs target) → bytes ≡ sector_bytes costs target (portal_of step) has previous → Promised b bytes
-  accepts byte z b bytes e w =
-      let ok = accepted costs step has previous sheet z in
-      let inside = sight_in sight (target_of step) (target_in step ok.step_good) in (
-        e ∙ rw z,
-        (
-          w ∙ rw z,
-          (
-            λ _. rw (e, w) (sector_planned costs target (portal_of step) ok.costs_hundred inside has previous byte (sight_on sight step)),
-            (
-              λ _. rw e (started_positions costs target ok.costs_hundred inside),
-              (build_refused 0 costs (started costs target) b e, told b (ap (λ (a : BuildAnswer). a.number) e ∙ sym z)),
-            ),
-          ),
-        ),
-      )
+  -- costs are bytes
+  module _ (byte : (x : ℕ) → x < 100 → get_or costs x 0 ≤ 255) (zero-number : 0 ≡ number) where
+    accepts : (b : BuildAnswer) (bytes : List ℕ) → b ≡ answer_of 0 costs (started costs target)
+        → bytes ≡ sector_bytes costs target (portal_of step) has previous → Promised b bytes
+    accepts b bytes e w =
+        let ok = accepted costs step has previous before (sym zero-number) in
+        let inside = sight_in sight (target_of step) (target_in step ok.step_good) in
+        let told : b.number ≡ number = ap (λ (a : BuildAnswer). a.number) e ∙ zero-number in
+        record {
+          answer = e ∙ rw (← zero-number);
+          sheet = w ∙ rw (← zero-number);
+          planned = λ _. rw (e, w) (sector_planned costs target (portal_of step) ok.costs_hundred inside has previous byte (sight_on sight step));
+          positions = λ _. rw e (started_positions costs target ok.costs_hundred inside);
+          refused = build_refused 0 costs (started costs target) b e;
+          target = λ _. record { goal = targets.goal_told step ok.step_good; window = window_told step ok.step_good };
+          sixteen = rw told (sixteen_due costs step has previous before);
+          seventeen = rw told (seventeen_told costs step has previous before);
+        }
+
+    -- what the run leaves of the step, as it is parsed, and of the costs and the previous field, as they are taken
+    pub ran : (own : List ℕ) (t : Target) (portal : Option PortalWindow) (lent : Bool) (numbers : List ℕ) → own ≡ costs → t ≡ target
+        → portal ≡ (route_step step).portal → lent ≡ has → numbers ≡ previous → (b : BuildAnswer) (bytes : List ℕ)
+        → b ≡ answer_of 0 own (started own t) → bytes ≡ flow_bytes portal (window_of t) (sector_field own t).field lent numbers → Promised b bytes
+    ran own t portal lent numbers c u p h n b bytes e w =
+        accepts b bytes (rw (c, u) at e) ((rw (c, u, p, h, n) at w) ∙ run_bytes sight costs step has previous)
 
 -- what the call without sight adds, by its answer and the sheet that is left; costs are bytes
 module _ (costs step : List ℕ) (byte : (x : ℕ) → x < 100 → get_or costs x 0 ≤ 255) (has : Bool) (previous sheet : List ℕ)

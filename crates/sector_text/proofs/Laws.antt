@@ -6,10 +6,10 @@
 use mathlib.Core.Path.{◌≡◌, refl}
 use mathlib.Core.Bool.{Bool, true, false, cond}
 use mathlib.Core.List.{List, []}
-use Prim.Native.Nat.{ℕ, zero, suc, ◌-◌, ◌<◌, ◌≤◌}
+use Prim.Native.Nat.{ℕ, zero, suc, ◌<◌, ◌≤◌}
 use native.Mathlib.Omega.{arith}
-use lib.ListN.{length, take, drop, replicate, length-take, length-drop}
-use lib.Seq.{take_all, length-take-le}
+use lib.ListN.{length, take, drop, replicate, length-take}
+use lib.Seq.{length-take-le}
 use lib.Dec.{eqb}
 use borrow.Author.Tests.{ne_eqb}
 use Rattle.integration_field.specs.declared.IntegrationField.{IntegrationField}
@@ -41,16 +41,15 @@ rendered_by n bytes sheet false h = rw h
 
 -- the text of what the sector call answers for the parts of an input
 pub printed_answer : (input : List ℕ) (a : BuildAnswer) (s : List ℕ)
-    → a ≡ sector_answer (take 100 input) (take (length input - 100) (drop 100 input)) false [] (replicate 100 0)
-    → s ≡ sector_sheet (take 100 input) (take (length input - 100) (drop 100 input)) false [] (replicate 100 0)
+    → a ≡ sector_answer (take 100 input) (drop 100 input) false [] (replicate 100 0)
+    → s ≡ sector_sheet (take 100 input) (drop 100 input) false [] (replicate 100 0)
     → rendered a.number s ≡ printed input
 unfolding printed
 printed_answer input a s e f =
     let costs = take 100 input in
     let step = drop 100 input in
     let n = sector_number costs step false [] (replicate 100 0) in
-    let whole : take (length input - 100) step ≡ step = take_all (length input - 100) step (omega (arith, length-drop 100 input)) in
-    rw (e, f, whole, number_of n costs (started costs (target_of step)))
+    rw (e, f, number_of n costs (started costs (target_of step)))
     (rendered_by n (sector_bytes costs (target_of step) (portal_of step) false []) (replicate 100 0) (eqb n 0) refl)
 
 pub printed_window : (input : List ℕ) → 100 ≤ length input → step_number_on (take 100 input) (drop 100 input) ≡ 0 → mark_of (drop 100 input) ≡ 1

@@ -15,7 +15,7 @@ use Rattle.utilities.specs.declared.CompassDir.{CompassDir}
 use Rattle.utilities.specs.declared.CompassDir.TheVariants.{East, South, West}
 use Rattle.utilities.specs.Compass.{differences, points, within, rises, falls}
 use Rattle.utilities.proofs.Sums.{within_true, sum_told}
-use Rattle.sectors.specs.declared.Across.TheVariants.{Sector, OffFloor}
+use Rattle.std.specs.Prelude.{Some, None}
 use Rattle.sectors.specs.Floor.{column_of, row_of, sector_at, sector_if, across}
 
 module _ (s : ℕ) (d : CompassDir) where
@@ -27,19 +27,19 @@ module _ (s : ℕ) (d : CompassDir) where
   row_sum = pos (row_of s) +ℤ (differences d).row
 
   module _ (h : s < 64) where
-    pub nowhere : points d ≡ false → across s d ≡ OffFloor
+    pub nowhere : points d ≡ false → across s d ≡ None
     unfolding across
     nowhere e = rw (e, lt-ltb s 64 h)
 
-    pub summed_in : points d ≡ true → within 7 column_sum ≡ true → within 7 row_sum ≡ true → across s d ≡ Sector (sector_at (nat_abs column_sum) (nat_abs row_sum))
+    pub summed_in : points d ≡ true → within 7 column_sum ≡ true → within 7 row_sum ≡ true → across s d ≡ Some (sector_at (nat_abs column_sum) (nat_abs row_sum))
     unfolding across
     summed_in e p q = rw (e, lt-ltb s 64 h, p, q)
 
-    pub summed_out : points d ≡ true → (within 7 column_sum ≡ false) ⊎ (within 7 row_sum ≡ false) → across s d ≡ OffFloor
+    pub summed_out : points d ≡ true → (within 7 column_sum ≡ false) ⊎ (within 7 row_sum ≡ false) → across s d ≡ None
     unfolding across
     summed_out e o = rw (e, lt-ltb s 64 h) (none (within 7 column_sum) (within 7 row_sum) o)
       where
-        none : (p q : Bool) → (p ≡ false) ⊎ (q ≡ false) → sector_if (p && q) (sector_at (nat_abs column_sum) (nat_abs row_sum)) ≡ OffFloor
+        none : (p q : Bool) → (p ≡ false) ⊎ (q ≡ false) → sector_if (p && q) (sector_at (nat_abs column_sum) (nat_abs row_sum)) ≡ None
         none p q (inl e) = rw e
         none true q (inr e) = rw e
         none false q (inr e) = refl
@@ -51,11 +51,11 @@ pub record Arrives (s : ℕ) (d : CompassDir) (n : ℕ) : Type 0 where
   pub column_at : column_of n + falls (differences d).column ≡ column_of s + rises (differences d).column
   pub row_at : row_of n + falls (differences d).row ≡ row_of s + rises (differences d).row
 
-if_sector : (b : Bool) (x n : ℕ) → sector_if b x ≡ Sector n → (b ≡ true) × (x ≡ n)
+if_sector : (b : Bool) (x n : ℕ) → sector_if b x ≡ Some n → (b ≡ true) × (x ≡ n)
 if_sector true x n e = (refl, cc)
 if_sector false x n e = let z : ◌≡◌ {A = ℕ} 0 1 = cc in absurd (omega arith)
 
-pub across_sector : (s : ℕ) (d : CompassDir) (n : ℕ) → across s d ≡ Sector n → Arrives s d n
+pub across_sector : (s : ℕ) (d : CompassDir) (n : ℕ) → across s d ≡ Some n → Arrives s d n
 unfolding across
 across_sector s d n e =
     let column = column_sum s d in
@@ -75,14 +75,14 @@ across_sector s d n e =
     }
 
 -- rows do not run on: West of sector 8 is off the floor, not sector 7
-west_of_8 : across 8 West ≡ OffFloor
+west_of_8 : across 8 West ≡ None
 unfolding across
 west_of_8 = refl
 
-east_of_7 : across 7 East ≡ OffFloor
+east_of_7 : across 7 East ≡ None
 unfolding across
 east_of_7 = refl
 
-south_of_7 : across 7 South ≡ Sector 15
+south_of_7 : across 7 South ≡ Some 15
 unfolding across
 south_of_7 = refl

@@ -6,28 +6,21 @@ ghost use Rattle.sectors.specs.Floor.{across};
 
 use utilities::CompassDir;
 
-// What lies across a boundary.
-#[derive(Clone, Copy)]
-pub enum Across {
-    Sector(usize),
-    OffFloor,
-}
-
-// The sector one step away, or OffFloor where there is none.
-pub fn get_in_compass_direction(sector: usize, dir: CompassDir) -> Across
+// The sector one step away, or none where that is off the floor.
+pub fn get_in_compass_direction(sector: usize, dir: CompassDir) -> Option<usize>
     ensures { result ≡ across sector dir }
 {
     if 63 < sector {
-        return Across::OffFloor;
+        return None;
     }
     if !dir.points() {
-        return Across::OffFloor;
+        return None;
     }
     let added = dir.differences();
     let column = (sector % 8) as i64 + added.column;
     let row = (sector / 8) as i64 + added.row;
     if 0 <= column && column <= 7 && 0 <= row && row <= 7 {
-        return Across::Sector(row as usize * 8 + column as usize);
+        return Some(row as usize * 8 + column as usize);
     }
-    Across::OffFloor
+    None
 }

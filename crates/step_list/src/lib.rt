@@ -10,11 +10,5 @@ pub fn is_no_step_list(steps: &[u8]) -> bool
     ensures { result ≡ no_step_list steps.now }
 {
     let length = steps.len();
-    if length == 0 {
-        return true;
-    }
-    if 128 < length {
-        return true;
-    }
-    length % route::STEP_LENGTH != 0
+    length == 0 || 128 < length || length % route::STEP_LENGTH != 0
 }

@@ -7,18 +7,19 @@ ghost use Rattle.window_square.specs.Promise.{WrongCount, NotAmong};
 ghost use Rattle.tour_plan.specs.Plan.{refused_tour, accepted_tour, tour_in, tour_answer};
 ghost use Rattle.tour_plan.specs.Promise.{TourPlanned, TourRefused};
 
+use refusals::Refusal;
+use route::STEP_LENGTH;
 use tour_plan::WindowTour;
-use tour_sums::SearchedTour;
+use tour_sums::{SearchedTour, Tour};
 
 // A refused answer: its number, and every other part zero.
 fn refused(number: u8) -> WindowTour
     ensures { result ≡ refused_tour number }
 {
-    let order = [0u8; 8];
     WindowTour {
         number,
         found: false,
-        order,
+        order: [0; 8],
         sum: 0,
         tried: 0,
         least: 0,
@@ -29,12 +30,16 @@ fn refused(number: u8) -> WindowTour
 fn accepted(tour: SearchedTour) -> WindowTour
     ensures { result ≡ accepted_tour tour }
 {
-    let order = tour.order;
+    let none = Tour {
+        order: [0; 8],
+        sum: 0,
+    };
+    let Tour { order, sum } = tour.best.unwrap_or(none);
     WindowTour {
         number: 0,
-        found: tour.found,
+        found: tour.best.is_some(),
         order,
-        sum: tour.sum,
+        sum,
         tried: tour.tried,
         least: tour.least,
     }
@@ -48,11 +53,15 @@ pub fn window_tour(costs: &[u8], steps: &[u8], limit: u16) -> WindowTour
     ensures nineteen { (result.number ≡ 19) ↔ WrongCount costs.now steps.now }
     ensures twenty { (result.number ≡ 20) ↔ NotAmong costs.now steps.now }
 {
-    let number = window_steps::window_costs_number(costs, steps);
-    if number != 0 {
-        return refused(number);
+    let Ok(bytes) = <&[u8; 100]>::try_from(costs) else {
+        return refused(Refusal::CostBytes.number());
+    };
+    match window_steps::window_costs_number(costs, steps) {
+        Ok(()) => {
+            let square = window_costs::window_square(bytes, steps);
+            let tour = tour_search::search_tours(square, steps.len() / STEP_LENGTH, limit);
+            accepted(tour)
+        }
+        Err(refusal) => refused(refusal.number()),
     }
-    let square = window_costs::window_square(costs, steps);
-    let tour = tour_search::search_tours(square, steps.len() / route::STEP_LENGTH, limit);
-    accepted(tour)
 }

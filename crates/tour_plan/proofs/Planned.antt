@@ -28,7 +28,7 @@ use Rattle.window_square.proofs.Promise.{entry_at, row_long, rows_eight, square_
 use Rattle.tour_orders.specs.Orders.{orders}
 use Rattle.tour_orders.specs.Told.{AllOrders}
 use Rattle.tour_sums.specs.declared.SearchedTour.{SearchedTour}
-use Rattle.tour_sums.specs.Tours.{searched_tour}
+use Rattle.tour_sums.specs.Tours.{searched_tour, told_tour}
 use Rattle.tour_sums.specs.Promise.{TourSquare, BestAnswer, LeastAnswer}
 use Rattle.tour_plan.specs.declared.WindowTour.{WindowTour}
 use Rattle.tour_plan.specs.Plan.{refused_tour, accepted_tour, tour_in, tour_answer}
@@ -79,7 +79,7 @@ module _ (costs steps : List ℕ) (limit : ℕ) where
   abbrev pub Told : SearchedTour → ℕ → Type 0
   Told t n =
       let square = cost_square costs (steps_of steps) in
-      (t ≡ searched_tour square n limit) × (AllOrders n (orders n) × (BestAnswer square n limit t × LeastAnswer square n t))
+      (t ≡ searched_tour square n limit) × (AllOrders n (orders n) × (BestAnswer square n limit (told_tour t) × LeastAnswer square n (told_tour t)))
 
   pub accepts : ((x : ℕ) → x < 100 → get_or costs x 0 ≤ 255) → window_costs_number costs steps ≡ 0 → (t : SearchedTour) → Told t (length steps / 8)
       → (r : WindowTour) → r ≡ accepted_tour t
@@ -91,6 +91,6 @@ module _ (costs steps : List ℕ) (limit : ℕ) where
       let n : r.number ≡ 0 = ap (λ (w : WindowTour). w.number) made in
       (made ∙ ap accepted_tour told.0 ∙ rw z, (λ f. rw made (planned told), (λ f. absurd (f n), numbers costs steps r.number (n ∙ sym z))))
     where
-      planned : Told t (length (steps_of steps)) → TourPlanned costs (steps_of steps) limit t
+      planned : Told t (length (steps_of steps)) → TourPlanned costs (steps_of steps) limit (told_tour t)
       planned (answer, (every, (best, under))) =
           record { square = square_told costs steps byte (ready costs steps z); every_order = every; best = best; under = under }

@@ -6,11 +6,11 @@ use Rattle.window_square.specs.Square.{cost_square}
 use Rattle.window_square.specs.Promise.{WindowSquare}
 use Rattle.tour_orders.specs.Orders.{orders}
 use Rattle.tour_orders.specs.Told.{AllOrders}
-use Rattle.tour_sums.specs.declared.SearchedTour.{SearchedTour}
+use Rattle.tour_sums.specs.Tours.{ToldTour}
 use Rattle.tour_sums.specs.Promise.{BestAnswer, LeastAnswer}
 use Rattle.tour_plan.specs.declared.WindowTour.{WindowTour}
 
-pub record TourPlanned (costs : List ℕ) (steps : List (List ℕ)) (limit : ℕ) (tour : SearchedTour) : Type 0 where
+pub record TourPlanned (costs : List ℕ) (steps : List (List ℕ)) (limit : ℕ) (tour : ToldTour) : Type 0 where
   -- the costs are Job 13's: each is that of a least walk
   pub square : WindowSquare costs steps (cost_square costs steps)
   -- the orders are exactly the lists with each window once and 0 first, strictly in dictionary order, none left out

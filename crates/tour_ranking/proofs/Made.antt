@@ -19,7 +19,8 @@ use Rattle.tour_orders.proofs.Ascending.{number_at}
 use Rattle.tour_orders.proofs.Orders.{led, order_long}
 use Rattle.tour_ranking.specs.Inner.{order_at, LastRise, LastAbove, Reversed, NextMade}
 use Rattle.tour_ranking.proofs.Loops.{Counted}
-use Rattle.tour_ranking.proofs.Reversing.{exchanged, exchanged_length}
+use Rattle.std.specs.List.{swap}
+use Rattle.std.proofs.lemmas.List.Edits.{length-swap}
 use Rattle.tour_ranking.proofs.Next.{LedChange, order_changes, first_is}
 use Rattle.tour_ranking.proofs.Places.{padded_at, order_length, n, to_place, last_rise, last_above, full, next_is, front_stays}
 
@@ -48,7 +49,7 @@ above_array order n at p a =
 pub record Found (n : ℕ) (array : List ℕ) (at to : ℕ) (next : List ℕ) : Type 0 where
   pub rise : (p : ℕ) → LastRise array n p → at ≡ p
   pub above : (p : ℕ) → LastAbove array n at p → to ≡ p
-  pub made : length (exchanged array at to) ≡ 8 → Reversed (at + 1) (n - 1) (exchanged array at to) next
+  pub made : length (swap array at to) ≡ 8 → Reversed (at + 1) (n - 1) (swap array at to) next
 
 by_change : (order after : List ℕ) (l : LedChange order after) → n order after l.change ≤ 8 → (at to : ℕ) (next : List ℕ)
     → Found (n order after l.change) (padded 8 0 order) at to next
@@ -61,7 +62,7 @@ by_change order after l few at to next f =
     let at-is : at ≡ front = f.rise front (rise_array order size front (last_rise order after t l.some)) in
     let found = above_array order size front there (last_above order after t) in
     let to_is : to ≡ there = f.above there (subst (λ (a : ℕ). LastAbove (padded 8 0 order) size a there) (sym at-is) found) in
-    let long = exchanged_length (padded 8 0 order) at to ∙ full order after t few in
+    let long = length-swap (padded 8 0 order) at to ∙ full order after t few in
     let is = next_is order after t few next (rw (at-is, to_is) at (f.made long)) in
     record { some = omega (arith, l.some); inside = omega arith; is = is; front_same = rw (at-is, is) (front_stays order after t) }
 

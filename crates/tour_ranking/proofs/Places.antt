@@ -17,7 +17,8 @@ use Rattle.tour_orders.specs.Orders.{without_place}
 use Rattle.tour_orders.proofs.Choosing.{without_length}
 use Rattle.tour_orders.proofs.Ascending.{Rising, without_rises}
 use Rattle.tour_ranking.specs.Inner.{LastRise, LastAbove, Reversed}
-use Rattle.tour_ranking.proofs.Reversing.{exchanged, exchanged_length, exchanged_first, exchanged_second, exchanged_other}
+use Rattle.std.specs.List.{swap}
+use Rattle.std.proofs.lemmas.List.Edits.{length-swap, Swapped, swapped_from_swap}
 use Rattle.tour_ranking.proofs.Next.{backwards_length, backwards_at, without_before, without_behind, Change}
 
 -- ---- an order in an array
@@ -214,23 +215,26 @@ module _ (order after : List ℕ) (t : Change order after) where
     array = padded 8 0 order
 
     abbrev swapped : List ℕ
-    swapped = exchanged array at to_place
+    swapped = swap array at to_place
 
     pub full : length array ≡ 8
     full = padded_length 8 0 order (omega (arith, order_length))
 
+    both : Swapped (λ i. get_or array i 0) (λ i. get_or swapped i 0) at to_place
+    both = swapped_from_swap array swapped at to_place 0 (omega (arith, full, t.inside)) (omega (arith, full, t.inside)) refl
+
     swapped_other : (m : ℕ) → (m ≡ at → ⊥) → (m ≡ to_place → ⊥) → get_or swapped m 0 ≡ get_or order m 0
-    swapped_other m not_at not-to = exchanged_other array at to_place m not_at not-to ∙ padded_at order m
+    swapped_other m not_at not-to = both.2 m not_at not-to ∙ padded_at order m
 
     swapped_at : get_or swapped at 0 ≡ get_or after at 0
     swapped_at =
-        exchanged_first array at to_place (omega (arith, full, t.inside)) (λ e. omega (arith, t.inside))
+        both.0
         ∙ padded_at order to_place ∙ was_to ∙ sym is_at
 
     -- the number that gave way stands where the other stood
     swapped_to : get_or swapped to_place 0 ≡ get_or then_behind place 0
     swapped_to =
-        exchanged_second array at to_place (omega (arith, full, t.inside))
+        both.1
         ∙ padded_at order at ∙ was_at ∙ sym (without_before left (suc place) place (omega arith))
 
     swapped_behind : (m : ℕ) → at < m → m < n → get_or swapped (at + 1 + (n - 1) - m) 0 ≡ get_or after m 0
@@ -253,7 +257,7 @@ module _ (order after : List ℕ) (t : Change order after) where
     pub next_is : (next : List ℕ) → Reversed (at + 1) (n - 1) swapped next → next ≡ padded 8 0 after
     next_is next r =
         ext_get_or 0 next (padded 8 0 after)
-        (r.same_length ∙ exchanged_length array at to_place ∙ full ∙ sym (padded_length 8 0 after (omega (arith, after_length))))
+        (r.same_length ∙ length-swap array at to_place ∙ full ∙ sym (padded_length 8 0 after (omega (arith, after_length))))
         (λ m h. place_is m ∙ sym (padded_at after m))
       where
         place_is : (m : ℕ) → get_or next m 0 ≡ get_or after m 0

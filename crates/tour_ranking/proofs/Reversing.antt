@@ -1,4 +1,5 @@
--- Two numbers of an array exchanged, and numbers reversed from both ends by exchanging them.
+-- Numbers reversed: a part of a list by the library's call; two numbers exchanged, and numbers reversed from both ends by exchanging them.
+--     part_reversed                                   the numbers from one place up to another, the last of them first, and all else as it was
 --     exchanged_first, -second, -other                what stands where after two numbers are exchanged
 --     ends_start, ends_more                           the two ends, as they go towards each other
 --     reversed_start, reversed_more, reversed_all     the numbers outside them are reversed: none at first, one more on each side, all
@@ -10,7 +11,36 @@ use native.Mathlib.Omega.{arith}
 use native.Mathlib.Decide.{dec_lt, ℕ_discrete}
 use lib.ListN.{length, get_or, set, length-set}
 use lib.Seq.{get_or-set_same, get_or-set_other}
+use borrow.Rule.Slice.PartMut.{put_mid, mid_of}
+use Rattle.std.proofs.Common.{rules}
+use mathlib.Core.List.{reverse}
+use Rattle.std.proofs.lemmas.List.{length-reverse, get_or-reverse, places}
+use Rattle.std.proofs.lemmas.List.Edits.{length-between}
 use Rattle.tour_ranking.specs.Inner.{Reversed}
+
+-- ---- a part reversed
+
+module _ (l : List ℕ) (first n : ℕ) (some : first < n) (few : n ≤ length l) where
+  abbrev part : List ℕ
+  part = mid_of first (n - first) l
+
+  abbrev turned : List ℕ
+  turned = put_mid first (n - first) l (reverse part)
+
+  part_length : length part ≡ n - first
+  part_length = length-between l first n few
+
+  turned_length : length (reverse part) ≡ n - first
+  turned_length = length-reverse part ∙ part_length
+
+  pub part_reversed : Reversed first (n - 1) l turned
+  part_reversed =
+      record {
+        same_length = search (rules, places, turned_length);
+        reversed = λ m a b. grind (arith, places, turned_length);
+        below_same = λ m h. search (rules, places);
+        above_same = λ m h. grind (arith, places, turned_length);
+      }
 
 -- ---- two numbers exchanged
 

@@ -11,10 +11,8 @@ pub fn factorial(count: usize) -> usize
     ensures { result ≡ factorial count }
 {
     let mut product = 1usize;
-    let mut number = 0usize;
-    while number < count {
-        number += 1;
-        product = product * number;
+    for number in 0..count {
+        product *= number + 1;
     }
     product
 }
@@ -25,10 +23,8 @@ pub fn first_order(n: usize) -> [u8; 8]
     ensures { result ≡ order_at n 0 }
 {
     let mut order = [0u8; 8];
-    let mut window = 0usize;
-    while window < n {
+    for window in 0..n {
         order[window] = window as u8;
-        window += 1;
     }
     order
 }
@@ -38,14 +34,10 @@ fn last_rise(order: &[u8; 8], n: usize) -> usize
     requires { (2 ≤ n) × (n ≤ 8) }
     ensures { (result + 1 < n) × ((place : ℕ) → LastRise order.now n place → result ≡ place) }
 {
-    let mut at = n - 2;
-    while 0 < at {
-        if order[at] < order[at + 1] {
-            return at;
-        }
-        at -= 1;
-    }
-    at
+    (1..n - 1)
+        .rev()
+        .find(|&at| order[at] < order[at + 1])
+        .unwrap_or(0)
 }
 
 // The last place whose number is above that at an earlier place; the place behind that one where there is none.
@@ -53,38 +45,10 @@ fn last_above(order: &[u8; 8], n: usize, at: usize) -> usize
     requires { (at + 1 < n) × (n ≤ 8) }
     ensures { (result < n) × ((place : ℕ) → LastAbove order.now n at place → result ≡ place) }
 {
-    let mut to = n - 1;
-    while at + 1 < to {
-        if order[at] < order[to] {
-            return to;
-        }
-        to -= 1;
-    }
-    to
-}
-
-// Two numbers change places.
-fn exchange(order: &mut [u8; 8], i: usize, j: usize)
-    requires { (i < 8) × (j < 8) }
-    ensures { order.new ≡ set (set order.old i (get_or order.old j 0)) j (get_or order.old i 0) }
-{
-    let number = order[i];
-    order[i] = order[j];
-    order[j] = number;
-}
-
-// The numbers from one place to another, the last of them first.
-fn reverse(order: &mut [u8; 8], first: usize, last: usize)
-    requires { (first ≤ last) × (last < 8) }
-    ensures { length order.old ≡ 8 → Reversed first last order.old order.new }
-{
-    let mut low = first;
-    let mut high = last;
-    while low < high {
-        exchange(order, low, high);
-        low += 1;
-        high -= 1;
-    }
+    (at + 1..n)
+        .rev()
+        .find(|&to| order[at] < order[to])
+        .unwrap_or(at + 1)
 }
 
 // The next order of the dictionary, in place of one that is not the last. Behind the last rise the numbers fall, so that no order of them is left:
@@ -96,7 +60,7 @@ pub fn next_order(order: &mut [u8; 8], n: usize) -> usize
 {
     let at = last_rise(order, n);
     let to = last_above(order, n, at);
-    exchange(order, at, to);
-    reverse(order, at + 1, n - 1);
+    order.swap(at, to);
+    order[at + 1..n].reverse();
     at
 }

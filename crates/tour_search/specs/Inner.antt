@@ -1,6 +1,6 @@
 -- Window numbers in an array, and the sums of their moves: for the contracts of this crate's functions.
 -- Assumes nothing.
-use Rattle.std.specs.Prelude.{◌≡◌, cond, List, ℕ, zero, suc, ◌+◌, ◌<◌, ◌≤◌, eqb, ltb, length, get_or}
+use Rattle.std.specs.Prelude.{◌≡◌, cond, List, ℕ, zero, suc, ◌+◌, ◌<◌, ◌≤◌, eqb, length, get_or, Option, Some, None}
 use Rattle.tour_sums.specs.declared.Tour.{Tour}
 use Rattle.tour_sums.specs.Tours.{move_cost}
 use Rattle.tour_sums.specs.Promise.{TourSquare}
@@ -31,6 +31,7 @@ pub record MovesReady (square : List (List ℕ)) (n : ℕ) (order : List ℕ) (f
   pub inside : from ≤ n
   pub kept : SumsKept square order from sums
 
--- the best order so far, by its sum; 524288 where there is none
-abbrev pub held_tour : ℕ → List ℕ → Tour
-held_tour lowest order = record { found = ltb lowest 524288; order = order; sum = cond (ltb lowest 524288) lowest 0 }
+-- the sum of the best order so far; 524288 where there is none
+abbrev pub lowest : Option Tour → ℕ
+lowest None = 524288
+lowest (Some best) = best.sum

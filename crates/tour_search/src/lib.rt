@@ -5,12 +5,11 @@
 ghost use Rattle.std.specs.Prelude.{◌≡◌, ◌-◌, ◌<◌, ◌≤◌, get_or, take};
 ghost use Rattle.tour_orders.specs.Orders.{orders, factorial};
 ghost use Rattle.tour_orders.specs.Told.{AllOrders};
-ghost use Rattle.tour_sums.specs.Tours.{move_cost, no_tour, best_tour, tried_count, searched_tour};
+ghost use Rattle.tour_sums.specs.Tours.{move_cost, no_tour, best_tour, tried_count, searched_tour, told_tour};
 ghost use Rattle.tour_sums.specs.Promise.{TourSquare, BestAnswer, LeastAnswer};
-ghost use Rattle.tour_search.specs.Inner.{WindowNumbers, MovesReady, weight, weighed, SumsKept, held_tour};
+ghost use Rattle.tour_search.specs.Inner.{WindowNumbers, MovesReady, weight, weighed, SumsKept, lowest};
 
 use tour_sums::{SearchedTour, Tour};
-use utilities::index_of;
 
 // What a move of 65535 weighs, and the lowest sum while no order is found: more than the moves of any order that counts.
 const NO_ORDER: u32 = 524288;
@@ -21,8 +20,8 @@ fn move_weight(square: &[[u32; 8]; 8], order: &[u8; 8], at: usize) -> u32
     requires { (1 ≤ at) × (at < 8) × WindowNumbers order.now }
     ensures { result ≡ weight (move_cost square.now (get_or order.now (at - 1) 0) (get_or order.now at 0)) }
 {
-    let from = index_of(order[at - 1]);
-    let to = index_of(order[at]);
+    let from = usize::from(order[at - 1]);
+    let to = usize::from(order[at]);
     let cost = square[from][to];
     if cost == 65535 {
         return NO_ORDER;
@@ -43,54 +42,37 @@ fn add_moves(
         × SumsKept square.now order.now n sums.new }
 {
     let mut sum = sums[from - 1];
-    let mut at = from;
-    while at < n {
+    for at in from..n {
         sum += move_weight(square, order, at);
         sums[at] = sum;
-        at += 1;
     }
     sum
 }
 
-// The tour with the lowest sum, or none where no sum was lower than NO_ORDER.
-fn found_tour(lowest: u32, order: [u8; 8]) -> Tour
-    ensures { result ≡ held_tour lowest order }
+// The sum that another order must come below: that of the best so far, or NO_ORDER where there is none.
+fn lowest(best: Option<Tour>) -> u32
+    ensures { result ≡ lowest best }
 {
-    if lowest < NO_ORDER {
-        return Tour {
-            found: true,
-            order,
-            sum: lowest,
-        };
-    }
-    Tour {
-        found: false,
-        order,
-        sum: 0,
-    }
+    best.map_or(NO_ORDER, |tour| tour.sum)
 }
 
 // The best of the first orders of the dictionary: an order is taken where its sum is lower than all before.
-fn best_tour(square: &[[u32; 8]; 8], n: usize, tried: usize) -> Tour
+fn best_tour(square: &[[u32; 8]; 8], n: usize, tried: usize) -> Option<Tour>
     requires { TourSquare square.now n × (tried ≤ factorial (n - 1)) }
     ensures { result ≡ best_tour square.now no_tour (take tried (orders n)) }
 {
     let mut order = tour_ranking::first_order(n);
     let mut changed = 1usize;
     let mut sums = [0u32; 8];
-    let mut best = [0u8; 8];
-    let mut lowest = NO_ORDER;
-    let mut place = 0usize;
-    while place < tried {
+    let mut best: Option<Tour> = None;
+    for _place in 0..tried {
         let sum = add_moves(square, &order, n, changed, &mut sums);
-        if sum < lowest {
-            lowest = sum;
-            best = order;
+        if sum < lowest(best) {
+            best = Some(Tour { order, sum });
         }
         changed = tour_ranking::next_order(&mut order, n);
-        place += 1;
     }
-    found_tour(lowest, best)
+    best
 }
 
 // The number of orders tried: the limit or all, the smaller.
@@ -98,12 +80,7 @@ fn tried_count(n: usize, limit: u16) -> usize
     requires { (1 ≤ n) × (n ≤ 8) }
     ensures { result ≡ tried_count n limit }
 {
-    let all = tour_ranking::factorial(n - 1);
-    let wanted = limit as usize;
-    if wanted < all {
-        return wanted;
-    }
-    all
+    usize::from(limit).min(tour_ranking::factorial(n - 1))
 }
 
 // The best tour of the windows 0 to n - 1 over the square of their costs, of as many orders as the limit says; and the least figure.
@@ -111,18 +88,13 @@ pub fn search_tours(square: [[u32; 8]; 8], n: usize, limit: u16) -> SearchedTour
     requires { TourSquare square n }
     ensures answer { result ≡ searched_tour square n limit }
     ensures orders { AllOrders n (orders n) }
-    ensures best { BestAnswer square n limit result }
-    ensures least { LeastAnswer square n result }
+    ensures best { BestAnswer square n limit (told_tour result) }
+    ensures least { LeastAnswer square n (told_tour result) }
 {
     let tried = tried_count(n, limit);
-    let best = best_tour(&square, n, tried);
-    let least = tour_entries::least_figure(square, n);
-    let order = best.order;
     SearchedTour {
-        found: best.found,
-        order,
-        sum: best.sum,
+        best: best_tour(&square, n, tried),
         tried: tried as u32,
-        least,
+        least: tour_entries::least_figure(square, n),
     }
 }

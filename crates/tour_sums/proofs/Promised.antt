@@ -15,11 +15,11 @@ use Rattle.tour_orders.specs.Orders.{numbers_from, orders, factorial}
 use Rattle.tour_orders.specs.Told.{IsOrder}
 use Rattle.tour_orders.proofs.Orders.{count, all_orders}
 use Rattle.tour_sums.specs.declared.Tour.{Tour}
-use Rattle.tour_sums.specs.declared.SearchedTour.{SearchedTour}
-use Rattle.tour_sums.specs.Tours.{tour_sum, no_tour, best_tour, cheapest_entry, summed, least_figure, tried_count, searched_tour}
+use Rattle.std.specs.Prelude.{Option}
+use Rattle.tour_sums.specs.Tours.{tour_sum, no_tour, best_tour, cheapest_entry, summed, least_figure, tried_count, searched_tour, ToldTour, told_of, told_tour}
 use Rattle.tour_sums.specs.Promise.{TourSquare, CountingOrder, Tried, BestTried, NoneTried, BestAnswer, over_others, LeastAnswer}
 use Rattle.tour_sums.proofs.Counting.{counts_told, told_counts}
-use Rattle.tour_sums.proofs.Best.{None, At, Best, best_first, never}
+use Rattle.tour_sums.proofs.Best.{NoneCounts, At, Best, best_first, never}
 use Rattle.tour_sums.proofs.Least.{cheapest_entry_law, under}
 
 pub tried_is : (n limit : ℕ) → tried_count n limit ≡ min limit (factorial (n - 1))
@@ -34,10 +34,10 @@ over_others_law entry a (suc m) =
     omega (arith, over_others_law entry (suc a) m, ap (over_others entry) next)
 
 module _ (square : List (List ℕ)) (n limit : ℕ) (s : TourSquare square n) where
-  abbrev answer : SearchedTour
-  answer = searched_tour square n limit
+  abbrev answer : ToldTour
+  answer = told_tour (searched_tour square n limit)
 
-  abbrev best : Tour
+  abbrev best : Option Tour
   best = best_tour square no_tour (take (tried_count n limit) (orders n))
 
   -- order k is tried exactly if k is below the number tried
@@ -53,15 +53,19 @@ module _ (square : List (List ℕ)) (n limit : ℕ) (s : TourSquare square n) wh
   unfolding tried_count
   known = best_first square (orders n) (min limit (length (orders n))) (omega arith)
 
+  is_told : {t : Option Tour} → best ≡ t → answer ≡ told_of t (tried_count n limit) (least_figure square n)
+  unfolding searched_tour
+  is_told e = ap (λ (t : Option Tour). told_of t (tried_count n limit) (least_figure square n)) e
+
   best_tried : At square (orders n) (tried_count n limit) best → (k : ℕ) × BestTried square n limit k answer
   unfolding searched_tour
   best_tried a =
-      let sum : answer.sum ≡ tour_sum square (get_or (orders n) a.place []) = ap (λ (t : Tour). t.sum) a.is in (
+      let sum : answer.sum ≡ tour_sum square (get_or (orders n) a.place []) = ap (λ (t : ToldTour). t.sum) (is_told a.is) in (
         a.place,
         record {
           tried = tried_below a.place a.tried;
           counts = counts_told square (get_or (orders n) a.place []) a.counts;
-          order_is = ap (λ (t : Tour). t.order) a.is;
+          order_is = ap (λ (t : ToldTour). t.order) (is_told a.is);
           sum_is = sum;
           at_most = λ j t c. omega (arith, sum, a.at_most j (below_tried j t) (told_counts square (get_or (orders n) j []) c));
           earlier = λ j t c e. not_before j c (e ∙ sum);
@@ -76,22 +80,22 @@ module _ (square : List (List ℕ)) (n limit : ℕ) (s : TourSquare square n) wh
             | no later ↦ omega arith
           ]
 
-  none_tried : None square (orders n) (tried_count n limit) best → NoneTried square n limit answer
+  none_tried : NoneCounts square (orders n) (tried_count n limit) best → NoneTried square n limit answer
   unfolding searched_tour
   none_tried a =
       record {
         none_counts = λ j t c. a.none_counts j (below_tried j t) (told_counts square (get_or (orders n) j []) c);
-        order_is = ap (λ (t : Tour). t.order) a.is;
-        sum_is = ap (λ (t : Tour). t.sum) a.is;
+        order_is = ap (λ (t : ToldTour). t.order) (is_told a.is);
+        sum_is = ap (λ (t : ToldTour). t.sum) (is_told a.is);
       }
 
   found_at : At square (orders n) (tried_count n limit) best → answer.found ≡ true
   unfolding searched_tour
-  found_at a = ap (λ (t : Tour). t.found) a.is
+  found_at a = ap (λ (t : ToldTour). t.found) (is_told a.is)
 
-  none_found : None square (orders n) (tried_count n limit) best → answer.found ≡ false
+  none_found : NoneCounts square (orders n) (tried_count n limit) best → answer.found ≡ false
   unfolding searched_tour
-  none_found a = ap (λ (t : Tour). t.found) a.is
+  none_found a = ap (λ (t : ToldTour). t.found) (is_told a.is)
 
   whole : factorial (n - 1) ≤ limit → (order : List ℕ) → IsOrder n order → CountingOrder square order
       → (answer.found ≡ true) × (answer.sum ≤ tour_sum square order)
@@ -107,7 +111,7 @@ module _ (square : List (List ℕ)) (n limit : ℕ) (s : TourSquare square n) wh
           (λ a. (found_at a, omega (arith, (best_tried a).1.at_most k t counts, ap (tour_sum square) e)))
           known
 
-  pub best_answer : BestAnswer square n limit (searched_tour square n limit)
+  pub best_answer : BestAnswer square n limit (told_tour (searched_tour square n limit))
   best_answer =
       record {
         found = λ f. ⊎_elim (λ z. absurd (never (sym f ∙ none_found z))) best_tried known;
@@ -119,7 +123,7 @@ module _ (square : List (List ℕ)) (n limit : ℕ) (s : TourSquare square n) wh
       answer_tried : answer.tried ≡ tried_count n limit
       answer_tried = unfold searched_tour in refl
 
-  pub least_answer : LeastAnswer square n (searched_tour square n limit)
+  pub least_answer : LeastAnswer square n (told_tour (searched_tour square n limit))
   unfolding searched_tour least_figure
   least_answer =
       let all : 0 + (n - 1) ≡ n - 1 = omega arith in

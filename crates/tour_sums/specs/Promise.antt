@@ -4,8 +4,7 @@ use Rattle.std.specs.Prelude.{◌≡◌, true, false, List, [], ℕ, zero, suc, 
 use Rattle.utilities.specs.Padded.{padded}
 use Rattle.tour_orders.specs.Orders.{orders, factorial}
 use Rattle.tour_orders.specs.Told.{IsOrder}
-use Rattle.tour_sums.specs.declared.SearchedTour.{SearchedTour}
-use Rattle.tour_sums.specs.Tours.{move_cost, tour_sum}
+use Rattle.tour_sums.specs.Tours.{move_cost, tour_sum, ToldTour}
 
 -- the square of 2 to 8 windows as Job 13 fills it: no cost above 65535
 pub record TourSquare (square : List (List ℕ)) (n : ℕ) : Type 0 where
@@ -23,7 +22,7 @@ pub record Tried (n limit k : ℕ) : Type 0 where
   pub one_of_all : k < length (orders n)
 
 -- order k is the best tried: it counts, and it is at most every counting order tried and earlier than its equals
-pub record BestTried (square : List (List ℕ)) (n limit k : ℕ) (answer : SearchedTour) : Type 0 where
+pub record BestTried (square : List (List ℕ)) (n limit k : ℕ) (answer : ToldTour) : Type 0 where
   pub tried : Tried n limit k
   pub counts : CountingOrder square (get_or (orders n) k [])
   pub order_is : answer.order ≡ padded 8 0 (get_or (orders n) k [])
@@ -32,13 +31,13 @@ pub record BestTried (square : List (List ℕ)) (n limit k : ℕ) (answer : Sear
   pub earlier : (j : ℕ) → Tried n limit j → CountingOrder square (get_or (orders n) j []) → tour_sum square (get_or (orders n) j []) ≡ answer.sum → k ≤ j
 
 -- none of those tried counts: order and sum all 0
-pub record NoneTried (square : List (List ℕ)) (n limit : ℕ) (answer : SearchedTour) : Type 0 where
+pub record NoneTried (square : List (List ℕ)) (n limit : ℕ) (answer : ToldTour) : Type 0 where
   pub none_counts : (j : ℕ) → Tried n limit j → CountingOrder square (get_or (orders n) j []) → ⊥
   pub order_is : answer.order ≡ replicate 8 0
   pub sum_is : answer.sum ≡ 0
 
 -- the best order tried, or "no order"; and if all were tried, the best there is
-pub record BestAnswer (square : List (List ℕ)) (n limit : ℕ) (answer : SearchedTour) : Type 0 where
+pub record BestAnswer (square : List (List ℕ)) (n limit : ℕ) (answer : ToldTour) : Type 0 where
   pub found : answer.found ≡ true → (k : ℕ) × BestTried square n limit k answer
   pub no_order : answer.found ≡ false → NoneTried square n limit answer
   pub tried : answer.tried ≡ min limit (factorial (n - 1))
@@ -57,6 +56,6 @@ over_others entry (suc m) = over_others entry m + entry (suc m)
 
 -- The least figure is the sum, over the windows but the first, of numbers that are each the cheapest entry into its window; and no order's sum goes
 -- under it, tried or not, counting or not.
-pub record LeastAnswer (square : List (List ℕ)) (n : ℕ) (answer : SearchedTour) : Type 0 where
+pub record LeastAnswer (square : List (List ℕ)) (n : ℕ) (answer : ToldTour) : Type 0 where
   pub entries : (entry : ℕ → ℕ) × ((b : ℕ) → b < n → CheapestEntry square n b (entry b)) × (answer.least ≡ over_others entry (n - 1))
   pub under : (order : List ℕ) → IsOrder n order → answer.least ≤ tour_sum square order

@@ -1,6 +1,6 @@
 -- A tour of windows over the square of their costs (02, Job 14: from the first window, each other once, no way back, smallest sum of Job 13's costs).
 -- Assumes nothing.
-use Rattle.std.specs.Prelude.{Bool, true, false, cond, not, ◌&&◌, ◌||◌, List, [], ◌∷◌, ℕ, zero, suc, ◌+◌, min, eqb, ltb, length, get_or, take, replicate}
+use Rattle.std.specs.Prelude.{Option, Some, None, is_some, Bool, true, cond, not, ◌&&◌, List, [], ◌∷◌, ℕ, zero, suc, ◌+◌, min, eqb, ltb, length, get_or, take, replicate}
 use Rattle.utilities.specs.Padded.{padded}
 use Rattle.tour_orders.specs.Orders.{other_windows, orders}
 use Rattle.tour_sums.specs.declared.Tour.{Tour}
@@ -34,21 +34,22 @@ tour_counts square (a ∷ l) = counts_from square a l
 
 -- ---- the best of the orders tried
 
--- no order: order and sum all 0
-abbrev pub no_tour : Tour
-no_tour = record { found = false; order = replicate 8 0; sum = 0 }
+-- no order
+abbrev pub no_tour : Option Tour
+no_tour = None
 
 -- all window numbers, 0 in the places behind them
 abbrev pub tour_of : List (List ℕ) → List ℕ → Tour
-tour_of square order = record { found = true; order = padded 8 0 order; sum = tour_sum square order }
+tour_of square order = record { order = padded 8 0 order; sum = tour_sum square order }
 
 -- an order is taken for the best so far where it counts and its sum is smaller: of equals the earlier stays
-unfoldable pub better_tour : List (List ℕ) → Tour → List ℕ → Tour
-better_tour square best order =
-    cond (tour_counts square order && (not best.found || ltb (tour_sum square order) best.sum)) (tour_of square order) best
+unfoldable pub better_tour : List (List ℕ) → Option Tour → List ℕ → Option Tour
+better_tour square None order = cond (tour_counts square order) (Some (tour_of square order)) None
+better_tour square (Some best) order =
+    cond (tour_counts square order && ltb (tour_sum square order) best.sum) (Some (tour_of square order)) (Some best)
 
 -- the best so far, once the orders listed are tried in turn
-abbrev pub best_tour : List (List ℕ) → Tour → List (List ℕ) → Tour
+abbrev pub best_tour : List (List ℕ) → Option Tour → List (List ℕ) → Option Tour
 best_tour square best [] = best
 best_tour square best (order ∷ l) = best_tour square (better_tour square best order) l
 
@@ -78,5 +79,27 @@ tried_count n limit = min limit (length (orders n))
 -- the best order tried and its sum, the number tried and the least figure
 unfoldable pub searched_tour : List (List ℕ) → ℕ → ℕ → SearchedTour
 searched_tour square n limit =
-    let best = best_tour square no_tour (take (tried_count n limit) (orders n)) in
-    record { found = best.found; order = best.order; sum = best.sum; tried = tried_count n limit; least = least_figure square n }
+    record { best = best_tour square no_tour (take (tried_count n limit) (orders n)); tried = tried_count n limit; least = least_figure square n }
+
+-- what an answer tells: whether an order is found, that order and its sum, the number tried and the least figure
+pub record ToldTour : Type 0 where
+  pub found : Bool
+  pub order : List ℕ
+  pub sum : ℕ
+  pub tried : ℕ
+  pub least : ℕ
+
+-- of no order both are all 0
+abbrev pub order_in : Option Tour → List ℕ
+order_in None = replicate 8 0
+order_in (Some best) = best.order
+
+abbrev pub sum_in : Option Tour → ℕ
+sum_in None = 0
+sum_in (Some best) = best.sum
+
+abbrev pub told_of : Option Tour → ℕ → ℕ → ToldTour
+told_of best tried least = record { found = is_some best; order = order_in best; sum = sum_in best; tried = tried; least = least }
+
+abbrev pub told_tour : SearchedTour → ToldTour
+told_tour t = told_of t.best t.tried t.least

@@ -2,20 +2,17 @@
 // order's sum goes under.
 #![tactic(auto)]
 
-// The best order so far: whether there is one, its window numbers, and its sum.
+// An order of windows: their numbers, with 0 in the places behind them, and the sum of its moves.
 #[derive(Clone, Copy)]
 pub struct Tour {
-    pub found: bool,
     pub order: [u8; 8],
     pub sum: u32,
 }
 
-// What a tour of windows answers: the best order tried and its sum, the number of orders tried, and the least figure.
+// What a tour of windows answers: the best order tried, unless none counts, the number of orders tried, and the least figure.
 #[derive(Clone, Copy)]
 pub struct SearchedTour {
-    pub found: bool,
-    pub order: [u8; 8],
-    pub sum: u32,
+    pub best: Option<Tour>,
     pub tried: u32,
     pub least: u32,
 }

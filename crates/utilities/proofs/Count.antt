@@ -16,7 +16,6 @@ use native.Mathlib.Omega.{arith}
 use native.Mathlib.Decide.{ℕ_discrete, dec_lt}
 use lib.ListN.{length, get_or, set, length-set, length-append, get_or-append}
 use lib.Seq.{get_or-set_same, get_or-set_other, get_or-append_seam}
-use mir.Val.{bool_byte}
 use Rattle.utilities.specs.Count.{bit, count}
 
 -- each entry of a list
@@ -105,8 +104,3 @@ at_set Q l n v m h same other =
       | yes p ↦ subst Q (sym (ap (λ (k : ℕ). get_or (set l n v) k 0) p ∙ get_or-set_same l n v 0 h)) (same p)
       | no p ↦ subst Q (sym (get_or-set_other l n m v 0 p)) (other p)
     ]
-
--- a test as a number
-pub bit_few : (b : Bool) → bool_byte b ≤ 1
-bit_few true = omega arith
-bit_few false = omega arith

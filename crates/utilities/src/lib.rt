@@ -1,11 +1,11 @@
-// The eight directions: what each adds to a column and a row, its opposite, its number and its sides. And a byte as an index.
+// The eight directions: what each adds to a column and a row, its opposite, its number and its sides.
 #![tactic(auto)]
 
 ghost use Rattle.std.specs.Prelude.{◌≡◌};
 ghost use Rattle.utilities.specs.Compass.{differences, rises, opposite, number_of, points, lower_side, side_of};
 
 // A direction. Row 0 is north; `Zero` is none.
-#[derive(Clone, Copy)]
+#[derive(Clone, Copy, Debug, PartialEq, Eq)]
 pub enum CompassDir {
     North,
     East,
@@ -36,17 +36,7 @@ fn pair(column: i64, row: i64) -> Differences
 pub fn rises(difference: i64) -> usize
     ensures { result ≡ rises difference }
 {
-    if 0 < difference {
-        return difference as usize;
-    }
-    0
-}
-
-// A byte as an index.
-pub fn index_of(byte: u8) -> usize
-    ensures { result ≡ byte }
-{
-    byte as usize
+    difference.max(0) as usize
 }
 
 impl CompassDir {
@@ -105,7 +95,7 @@ impl CompassDir {
     pub fn points(self) -> bool
         ensures { result ≡ points self }
     {
-        self.number() < 8
+        self != CompassDir::Zero
     }
 
     // Of the two sides that lie square to a direction, the one of the lower index: West of North and South, North of East and West.

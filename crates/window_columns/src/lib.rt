@@ -1,7 +1,7 @@
 // Window costs, column by column: the least costs of each window's cells in one built field; and columns turned into the rows of a square.
 #![tactic(auto)]
 
-ghost use Rattle.std.specs.Prelude.{◌≡◌, map, ◌/◌, ◌<◌, min, length};
+ghost use Rattle.std.specs.Prelude.{◌≡◌, map, ◌/◌, ◌<◌, length};
 ghost use Rattle.utilities.specs.Lists.{below};
 ghost use Rattle.route.specs.Target.{target_of};
 ghost use Rattle.route.specs.Inner.{held_cells, held_target, WindowHeld, TargetHeld};
@@ -11,29 +11,18 @@ ghost use Rattle.window_square.specs.Square.{least_built};
 ghost use Rattle.window_square.specs.Promise.{cost_at};
 ghost use Rattle.window_square.specs.Inner.{WindowSteps, least_from, held_row};
 
-use route::{RouteStep, STEP_LENGTH, Target, WindowCells};
+use fields::CellList;
+use route::{RouteStep, STEP_LENGTH, Target};
 use window_square::WindowRow;
 
-// The smaller of two costs.
-fn smaller(cost: u32, other: u32) -> u32
-    ensures { result ≡ min cost other }
-{
-    if cost < other { cost } else { other }
-}
-
 // The least built cost of the cells of a window.
-fn least_built(cells: &[u32; 100], window: WindowCells) -> u32
+fn least_built(cells: &[u32; 100], window: CellList<10>) -> u32
     requires { WindowHeld window }
     ensures { result ≡ least_built cells.now (held_cells window) }
 {
-    let places = window.cells;
-    let count = window.count;
     let mut least = 65535u32;
-    let mut i = 0;
-    while i < count {
-        let place = places[i];
-        least = smaller(least, integration_bits::low_bits(cells[place]));
-        i += 1;
+    for i in 0..window.count {
+        least = least.min(integration_bits::low_bits(cells[usize::from(window.cells[i])]));
     }
     least
 }
@@ -55,8 +44,7 @@ fn least_from(cells: &[u32; 100], steps: &[u8], i: usize) -> u32
     if i >= steps.len() / STEP_LENGTH {
         return 65535;
     }
-    let target = target_at(steps, i);
-    least_built(cells, target.window)
+    least_built(cells, target_at(steps, i).window())
 }
 
 // The least built cost of each window's cells, at its place of eight; 65535 where the list has none.
@@ -64,13 +52,7 @@ pub fn column_of(cells: &[u32; 100], steps: &[u8]) -> [u32; 8]
     requires { WindowSteps steps.now }
     ensures { result ≡ map (least_from cells.now (steps_of steps.now)) (below 8) }
 {
-    let mut column = [0u32; 8];
-    let mut i = 0;
-    while i < 8 {
-        column[i] = least_from(cells, steps, i);
-        i += 1;
-    }
-    column
+    std::array::from_fn(|i| least_from(cells, steps, i))
 }
 
 // Row i of a square that is known by its columns: what stands at place i of each.
@@ -79,10 +61,8 @@ fn row_of(columns: [[u32; 8]; 8], i: usize) -> [u32; 8]
     ensures { result ≡ map (λ j. cost_at columns j i) (below 8) }
 {
     let mut row = [0u32; 8];
-    let mut j = 0usize;
-    while j < 8 {
+    for j in 0..8 {
         row[j] = columns[j][i];
-        j += 1;
     }
     row
 }
@@ -92,10 +72,8 @@ pub fn square_of(columns: [[u32; 8]; 8]) -> [[u32; 8]; 8]
     ensures { result ≡ map (λ i. map (λ j. cost_at columns j i) (below 8)) (below 8) }
 {
     let mut square = [[0u32; 8]; 8];
-    let mut i = 0usize;
-    while i < 8 {
+    for i in 0..8 {
         square[i] = row_of(columns, i);
-        i += 1;
     }
     square
 }
@@ -104,13 +82,10 @@ pub fn square_of(columns: [[u32; 8]; 8]) -> [[u32; 8]; 8]
 pub fn rows_of(square: [[u32; 8]; 8]) -> [WindowRow; 8]
     ensures { result ≡ map (held_row square) (below 8) }
 {
-    let none = WindowRow { costs: [0; 8] };
-    let mut rows = [none; 8];
-    let mut i = 0usize;
-    while i < 8 {
-        let costs = square[i];
-        rows[i] = WindowRow { costs };
-        i += 1;
+    // `square.map` was tried: that it gives these rows was not proved.
+    let mut rows = [WindowRow { costs: [0; 8] }; 8];
+    for i in 0..8 {
+        rows[i] = WindowRow { costs: square[i] };
     }
     rows
 }

@@ -8,32 +8,31 @@ ghost use Rattle.window_square.specs.Square.{square_entry, cost_square, square_i
 ghost use Rattle.window_square.specs.Promise.{WindowSquare, SquareRefused, WrongCount, NotAmong};
 ghost use Rattle.window_square.specs.Inner.{WindowsReady};
 
+use refusals::Refusal;
 use window_square::{WindowCosts, WindowRow};
 
 // Column j of the square: what it costs from each window to the one at place j of the list, for which alone the sector is built. 65535 where the list
 // has none there.
-fn column_at(costs: &[u8], steps: &[u8], j: usize) -> [u32; 8]
+fn column_at(costs: &[u8; 100], steps: &[u8], j: usize) -> [u32; 8]
     requires { WindowsReady costs.now steps.now }
     ensures { result ≡ map (λ i. square_entry costs.now (steps_of steps.now) i j) (below 8) }
 {
     if j >= steps.len() / route::STEP_LENGTH {
         return [65535; 8];
     }
-    let target = window_columns::target_at(steps, j);
-    let built = integration_target::build_window(costs, target);
+    let window = window_columns::target_at(steps, j).window();
+    let built = integration_target::build_window(costs, window);
     window_columns::column_of(&built.field, steps)
 }
 
 // The square of costs: filled column by column, then turned into rows.
-pub fn window_square(costs: &[u8], steps: &[u8]) -> [[u32; 8]; 8]
+pub fn window_square(costs: &[u8; 100], steps: &[u8]) -> [[u32; 8]; 8]
     requires { WindowsReady costs.now steps.now }
     ensures { result ≡ cost_square costs.now (steps_of steps.now) }
 {
     let mut columns = [[0u32; 8]; 8];
-    let mut j = 0usize;
-    while j < 8 {
+    for j in 0..8 {
         columns[j] = column_at(costs, steps, j);
-        j += 1;
     }
     window_columns::square_of(columns)
 }
@@ -42,9 +41,10 @@ pub fn window_square(costs: &[u8], steps: &[u8]) -> [[u32; 8]; 8]
 fn refused(number: u8) -> WindowCosts
     ensures { result ≡ refused_window_costs number }
 {
-    let none = WindowRow { costs: [0; 8] };
-    let rows = [none; 8];
-    WindowCosts { number, rows }
+    WindowCosts {
+        number,
+        rows: [WindowRow { costs: [0; 8] }; 8],
+    }
 }
 
 // The call for window costs: nothing that is lent is written.
@@ -55,11 +55,14 @@ pub fn window_costs(costs: &[u8], steps: &[u8]) -> WindowCosts
     ensures nineteen { (result.number ≡ 19) ↔ WrongCount costs.now steps.now }
     ensures twenty { (result.number ≡ 20) ↔ NotAmong costs.now steps.now }
 {
-    let number = window_steps::window_costs_number(costs, steps);
-    if number != 0 {
-        return refused(number);
+    let Ok(square) = <&[u8; 100]>::try_from(costs) else {
+        return refused(Refusal::CostBytes.number());
+    };
+    match window_steps::window_costs_number(costs, steps) {
+        Ok(()) => WindowCosts {
+            number: 0,
+            rows: window_columns::rows_of(window_square(square, steps)),
+        },
+        Err(refusal) => refused(refusal.number()),
     }
-    let square = window_square(costs, steps);
-    let rows = window_columns::rows_of(square);
-    WindowCosts { number: 0, rows }
 }

@@ -1,12 +1,9 @@
--- `bounds::has_no_range` meets its contract. The loop's invariant: each of the first i cells has a from-to.
+-- `bounds::has_no_range` meets its contract: each cell passed has a from-to.
 -- Assumes nothing.
-use Rattle.std.proofs.Common.{◌≡◌, add-one, refl, sym, ◌∙◌, arith}
+use Rattle.std.proofs.Common.{◌≡◌, add-one, sym, ◌∙◌, arith}
 use Rattle.bounds_told.specs.Bounds.{no_range}
 use Rattle.bounds.proofs.Laws.{some_so_far, some_found}
 use Rattle.bounds.proofs.has_no_range.Goals as goal
-
-pub loop-i-init : goal.loop-i-init
-loop-i-init c = (omega arith, refl)
 
 pub returns-then-is_no_range : goal.returns-then-is_no_range
 returns-then-is_no_range c =
@@ -17,10 +14,10 @@ pub loop-i-preserved : goal.loop-i-preserved
 loop-i-preserved c =
     let l = c.loop-i in
     let a = c.args in
-    (omega arith, rw (add-one l.i) (some_so_far (no_range a.low.now a.high.now) l.i l.invariant.1 (sym c.is_no_range.ensures ∙ c.if-is_no_range.false)))
+    rw (add-one l.i) (some_so_far (no_range a.low.now a.high.now) l.i l.invariant (sym c.is_no_range.ensures ∙ c.if-is_no_range.false))
 
 pub returns : goal.returns
 returns c =
     let l = c.loop-i in
     let e : l.i ≡ 100 = omega arith in
-    sym (rw e at l.invariant.1)
+    sym (rw e at l.invariant)

@@ -33,12 +33,12 @@ pub returns-then-has_window : goal.returns-then-has_window
 returns-then-has_window c window portals =
     let a = c.args in
     let d = decided a.cells.now a.least.now a.greatest.now a.index _ c.requires (sym c.is_impassable.ensures ∙ c.if-is_impassable.false)
-    (sym c.is_portal.ensures ∙ c.if-is_portal.false) c.permitted_from-neighbours.ensures.0 window portals in
-    sym (d ∙ rw (sym c.has_window.ensures ∙ c.if-has_window.true))
+    (sym c.is_portal.ensures ∙ c.if-is_portal.false) c.permitted_from-neighbours.ensures window portals in
+    c.if-has_window.true ∙ sym (d ∙ rw (sym c.has_window.ensures ∙ c.if-has_window.true))
 
-pub returns : goal.returns
-returns c window portals =
+pub returns-else-has_window : goal.returns-else-has_window
+returns-else-has_window c window portals =
     let a = c.args in
     let d = decided a.cells.now a.least.now a.greatest.now a.index _ c.requires (sym c.is_impassable.ensures ∙ c.if-is_impassable.false)
-    (sym c.is_portal.ensures ∙ c.if-is_portal.false) c.permitted_from-neighbours.ensures.0 window portals in
+    (sym c.is_portal.ensures ∙ c.if-is_portal.false) c.permitted_from-neighbours.ensures window portals in
     c.has_least.ensures ∙ sym (d ∙ rw (sym c.has_window.ensures ∙ c.if-has_window.false))

@@ -1,19 +1,21 @@
--- `bounds_sure::permitted_from` meets its contract: the sides, then the corners.
+-- `bounds_sure::permitted_from` meets its contract: the neighbours in one direction after the other.
 -- Assumes nothing.
-use Rattle.std.proofs.Common.{ℕ, List, [], ◌∷◌, ◌++◌, sym, ap, ◌∙◌}
-use Rattle.utilities.specs.declared.CompassDir.{CompassDir}
-use Rattle.utilities.specs.declared.CompassDir.TheVariants.{NorthEast, SouthEast, SouthWest, NorthWest}
-use Rattle.utilities.specs.Compass.{orthogonal}
-use Rattle.bounds_told.specs.Bounds.{permitted_along}
-use Rattle.bounds_sure.proofs.Loops.{along_both}
+use Rattle.std.proofs.Common.{arith, sym}
+use Rattle.bounds_sure.proofs.Loops.{listed_over, listed_more, listed_all}
 use Rattle.bounds_sure.proofs.permitted_from.Goals as goal
+use Rattle.bounds_sure.proofs.permitted_from.Goals.{in-Some, in_default}
+
+pub loop-dir-preserved : goal.loop-dir-preserved
+loop-dir-preserved c =
+    let cells = c.args.cells.now in
+    let i = c.args.index in
+    let l = c.loop-dir in
+    let h = c.loop-dir-test.true in
+    elim c.match-permitted_towards.branch [
+      | in-Some w ↦ rw (w.listed-is, w.push.ensures)
+          (listed_more cells i _ l.dir-index l.listed w.in-Some.to h (omega arith) w.in-Some.ensures.inside l.invariant w.in-Some.ensures.found)
+      | in_default w ↦ rw w.listed-is (listed_over cells i _ l.dir-index l.listed h l.invariant (sym w.in_default.ensures.found))
+    ]
 
 pub returns : goal.returns
-returns c =
-    let a = c.args in
-    let corners : List CompassDir = NorthEast ∷ SouthEast ∷ SouthWest ∷ NorthWest ∷ [] in (
-      c.permitted_along.ensures.listed
-          ∙ ap (λ (l : List ℕ). l ++ permitted_along a.cells.now a.index corners) c.permitted_along-sides.ensures.listed
-          ∙ sym (along_both a.cells.now a.index orthogonal corners),
-      c.permitted_along.ensures.held,
-    )
+returns c = listed_all c.args.cells.now c.args.index _ c.loop-dir.dir-index c.loop-dir.listed (omega arith) c.loop-dir.invariant

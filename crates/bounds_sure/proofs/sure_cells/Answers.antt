@@ -5,15 +5,15 @@ use Rattle.utilities.proofs.Lists.{filled_more, filled_all}
 use Rattle.bounds_sure.proofs.sure_cells.Goals as goal
 
 pub loop-i-init : goal.loop-i-init
-loop-i-init c = (omega arith, λ window portals. record { full = refl; first = refl })
+loop-i-init c = λ window portals. record { full = refl; first = refl }
 
 pub loop-i-preserved : goal.loop-i-preserved
 loop-i-preserved c =
     let l = c.loop-i in
-    (omega arith, λ window portals. filled_more 100 _ l.i l.sure _ (omega arith) (c.is_sure.ensures window portals) (l.invariant.1 window portals))
+    λ window portals. filled_more 100 _ l.i l.sure _ (omega arith) (c.is_sure.ensures window portals) (l.invariant window portals)
 
 pub returns : goal.returns
 returns c window portals =
     let l = c.loop-i in
     let e : l.i ≡ 100 = omega arith in
-    filled_all 100 _ l.sure (rw e at (l.invariant.1 window portals))
+    filled_all 100 _ l.sure (rw e at (l.invariant window portals))

@@ -15,7 +15,7 @@ returns-then-not-both_inside c =
     let s = c.args.source in
     let t = c.args.target in
     let no = sym c.both_inside.ensures ∙ c.if-not-both_inside.true in
-    let p = promised s t c.empty.result (c.empty.ensures ∙ sym (outside s t (line s t) no)) in
+    let p = promised s t c.told_line.result (c.told_line.ensures ∙ sym (outside s t (line s t) no)) in
     record { answer = p.0; nearest = p.1.0; list = p.1.1.0; refused = p.1.1.1 }
 
 pub returns : goal.returns
@@ -25,6 +25,6 @@ returns c =
     let t = c.args.target in
     let within : (inside s && inside t) ≡ true = sym c.both_inside.ensures ∙ c.if-not-both_inside.false in
     let i = both_in s t within in
-    let cells = drawn_answer c.draw_cells_between_points-count.ensures (line_inside s t i.0 i.1) in
-    let p = promised s t c.answered_line.result (c.answered_line.ensures ∙ cells ∙ sym (accepted s t (line s t) within)) in
+    let cells = drawn_answer c.draw_cells_between_points.ensures (line_inside s t i.0 i.1) in
+    let p = promised s t c.told_line-2.result (c.told_line-2.ensures ∙ cells ∙ sym (accepted s t (line s t) within)) in
     record { answer = p.0; nearest = p.1.0; list = p.1.1.0; refused = p.1.1.1 }

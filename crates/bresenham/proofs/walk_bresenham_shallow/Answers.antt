@@ -1,5 +1,6 @@
 -- `walk_bresenham_shallow`: the walk alone is the definition's, and so the nearest one where the pair is of its kind.
 -- Assumes nothing.
+use Rattle.std.proofs.Common.{◌∙◌}
 use Rattle.fields.specs.Cell.{cell}
 use Rattle.line_nearest.specs.Line.{shallow}
 use Rattle.line_nearest.proofs.Calls.{shallow_held}
@@ -7,9 +8,10 @@ use Rattle.bresenham.proofs.walk_bresenham_shallow.Goals as goal
 
 pub returns-clause-answer : goal.returns-clause-answer
 unfolding shallow
-returns-clause-answer c = c.walk_alone.ensures
+returns-clause-answer c = c.told_line.ensures ∙ c.walk_alone.ensures
 
 pub returns-clause-nearest : goal.returns-clause-nearest
 unfolding shallow
 returns-clause-nearest c =
-    shallow_held (cell c.args.col_0 c.args.row_0) (cell c.args.col_1 c.args.row_1) c.walk_alone.result c.walk_alone.ensures
+    shallow_held (cell c.args.col_0 c.args.row_0) (cell c.args.col_1 c.args.row_1) c.told_line.result
+    (c.told_line.ensures ∙ c.walk_alone.ensures)

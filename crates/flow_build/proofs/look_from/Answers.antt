@@ -2,7 +2,7 @@
 -- Assumes nothing.
 use Rattle.std.proofs.Common.{◌≡◌, ℕ, get_or, sym, ap, ◌∙◌}
 use Rattle.fields.specs.declared.FieldCell.{FieldCell}
-use Rattle.fields.specs.declared.Stepped.TheVariants.{Cell}
+use Rattle.std.specs.Prelude.{Some}
 use Rattle.fields.specs.Cell.{cell_at, index_of, stepped}
 use Rattle.fields.proofs.Steps.{cell_of_index, index_below, stepped_cell}
 use Rattle.flow_bits.specs.Byte.{bits_of}
@@ -12,7 +12,7 @@ use Rattle.flow_build.proofs.look_from.Goals as goal
 
 pub seen_key-seen-requires : goal.seen_key-seen-requires
 seen_key-seen-requires c =
-    let e = sym c.get_in_compass_direction.ensures.answer ∙ c.in-Cell.is in
+    let e = sym c.get_in_compass_direction.ensures.answer ∙ c.in-Some.is in
     record { from_in = c.requires.0; to_in = (stepped_cell _ _ _ e).within; keys_are = c.requires.1 }
 
 pub returns : goal.returns
@@ -20,9 +20,9 @@ returns c =
     let a = c.args in
     let i = index_of a.from in
     let cells = a.cells.now in
-    let to = c.in-Cell.to in
-    let arrives : stepped (cell_at i) a.dir ≡ Cell to =
-    ap (λ (x : FieldCell). stepped x a.dir) (cell_of_index a.from c.requires.0) ∙ sym c.get_in_compass_direction.ensures.answer ∙ c.in-Cell.is in
+    let to = c.in-Some.to in
+    let arrives : stepped (cell_at i) a.dir ≡ Some to =
+    ap (λ (x : FieldCell). stepped x a.dir) (cell_of_index a.from c.requires.0) ∙ sym c.get_in_compass_direction.ensures.answer ∙ c.in-Some.is in
     let x = seen_key cells i (index_of to) in
     let key = get_or a.best.now i 0 in
     let found = get_or a.bits.now i 0 in

@@ -10,10 +10,10 @@ loop-column-preserved c =
     let a = c.args in
     let first = a.row * 10 in
     let at = first + l.column in
-    (omega arith, then_on a.cells.now a.dir first at (at + 1) (first + (l.column + 1)) (omega arith) l.invariant.1 c.look_from.ensures)
+    then_on a.cells.now a.dir first at (at + 1) (first + (l.column + 1)) (omega arith) l.invariant c.look_from.ensures
 
 pub returns : goal.returns
 returns c =
     let l = c.loop-column in
     let a = c.args in
-    on_to a.cells.now a.dir (a.row * 10) (a.row * 10 + l.column) (a.row * 10 + 10) (omega arith) l.invariant.1
+    on_to a.cells.now a.dir (a.row * 10) (a.row * 10 + l.column) (a.row * 10 + 10) (omega arith) l.invariant

@@ -9,10 +9,10 @@ loop-row-preserved c =
     let l = c.loop-row in
     let a = c.args in
     let at = l.row * 10 in
-    (omega arith, then_on a.cells.now a.dir 0 at (at + 10) ((l.row + 1) * 10) (omega arith) l.invariant.1 c.look_from_row.ensures)
+    then_on a.cells.now a.dir 0 at (at + 10) ((l.row + 1) * 10) (omega arith) l.invariant c.look_from_row.ensures
 
 pub returns : goal.returns
 returns c =
     let l = c.loop-row in
     let a = c.args in
-    on_to a.cells.now a.dir 0 (l.row * 10) 100 (omega arith) l.invariant.1
+    on_to a.cells.now a.dir 0 (l.row * 10) 100 (omega arith) l.invariant

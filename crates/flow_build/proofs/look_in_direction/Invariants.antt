@@ -1,11 +1,8 @@
 -- `flow_build::look_in_direction` meets its contract. The loop's invariant: the looks of the rows before have gone on.
 -- Assumes nothing.
-use Prim.Native.Nat.{◌*◌, ◌-◌, ◌≤◌}
+use Prim.Native.Nat.{◌*◌}
 use Rattle.flow_build.specs.Inner.{LooksOn}
 use Rattle.flow_build.proofs.look_in_direction.Given as goal
 
 abbrev pub invariant-loop-row : goal.invariant-loop-row
-invariant-loop-row l = (l.row ≤ 10) × LooksOn l.cells l.dir 0 (l.row * 10) l.initial.best l.initial.bits l.best l.bits
-
-abbrev pub decreases-loop-row : goal.decreases-loop-row
-decreases-loop-row l = 10 - l.row
+invariant-loop-row l = LooksOn l.cells l.dir 0 (l.row * 10) l.initial.best l.initial.bits l.best l.bits

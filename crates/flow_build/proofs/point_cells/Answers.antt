@@ -15,13 +15,13 @@ loop-i-preserved c =
     let a = c.args in
     let old = a.sheet.now in
     let g = rule a.best.now a.bits.now old in
-    let same = still_old g old l.i l.sheet l.invariant.1 in
+    let same = still_old g old l.i l.sheet l.invariant in
     let byte = c.byte_after.ensures ∙ ap (λ (b : ℕ). byte_after b (get_or a.best.now l.i 0) (get_or a.bits.now l.i 0)) same in
-    (omega arith, fill_more g old l.i l.sheet _ (omega (arith, c.requires)) byte l.invariant.1)
+    fill_more g old l.i l.sheet _ (omega arith) byte l.invariant
 
 pub returns : goal.returns
 returns c =
     let l = c.loop-i in
     let a = c.args in
     let e : l.i ≡ 100 = omega arith in
-    fill_all (rule a.best.now a.bits.now a.sheet.now) a.sheet.now 100 l.sheet c.requires (rw e at l.invariant.1)
+    fill_all (rule a.best.now a.bits.now a.sheet.now) a.sheet.now 100 l.sheet (omega arith) (rw e at l.invariant)

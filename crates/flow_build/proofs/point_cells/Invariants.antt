@@ -1,7 +1,7 @@
 -- `flow_build::point_cells` meets its contract: the bytes passed are by the looks, and those ahead are the old ones.
 -- Assumes nothing.
 use mathlib.Core.List.{List}
-use Prim.Native.Nat.{ℕ, ◌≤◌, ◌-◌}
+use Prim.Native.Nat.{ℕ}
 use lib.ListN.{get_or}
 use Rattle.flow_byte.proofs.Sheets.{Filled}
 use Rattle.flow_build.specs.Inner.{byte_after}
@@ -12,7 +12,4 @@ abbrev rule : List ℕ → List ℕ → List ℕ → ℕ → ℕ
 rule best bits old k = byte_after (get_or old k 0) (get_or best k 0) (get_or bits k 0)
 
 abbrev pub invariant-loop-i : goal.invariant-loop-i
-invariant-loop-i l = (l.i ≤ 100) × Filled (rule l.best l.bits l.initial.sheet) l.initial.sheet l.i l.sheet
-
-abbrev pub decreases-loop-i : goal.decreases-loop-i
-decreases-loop-i l = 100 - l.i
+invariant-loop-i l = Filled (rule l.best l.bits l.initial.sheet) l.initial.sheet l.i l.sheet

@@ -9,4 +9,4 @@ pub returns : goal.returns
 returns c =
     let l = c.loop-i in
     let e : l.i ≡ 100 = omega arith in
-    filled_all 100 (doubled_trail c.args.trails.now) l.further (rw e at l.invariant.1)
+    filled_all 100 (doubled_trail c.args.trails.now) l.further (rw e at l.invariant)

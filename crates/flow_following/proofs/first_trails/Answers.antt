@@ -10,5 +10,4 @@ pub loop-i-preserved : goal.loop-i-preserved
 loop-i-preserved c =
     let l = c.loop-i in
     let sheet = c.args.sheet.now in
-    let own = c.first_trail.ensures ∙ first_made sheet l.i in
-    (omega arith, filled_more 100 (trail_after sheet 1) l.i l.trails _ (omega arith) own l.invariant.1)
+    filled_more 100 (trail_after sheet 1) l.i l.trails _ (omega arith) (c.first_trail.ensures ∙ first_made sheet l.i) l.invariant

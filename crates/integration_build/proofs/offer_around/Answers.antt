@@ -1,18 +1,24 @@
--- `integration_build::offer_around` meets its contract. Four offers, in the definition's order.
+-- `integration_build::offer_around` meets its contract: a turn makes the offer in one direction, and after the last none are left.
 -- Assumes nothing.
-use mathlib.Core.Path.{ap, ◌∙◌}
-use mathlib.Core.List.{List}
-use Prim.Native.Nat.{ℕ}
-use Rattle.utilities.specs.declared.CompassDir.{CompassDir}
-use Rattle.utilities.specs.declared.CompassDir.TheVariants.{East, South, West}
-use Rattle.fields.specs.Cell.{stepped, cell_at}
-use Rattle.integration_field.specs.Wave.{offered, offered_around}
+use mathlib.Core.Path.{sym, ◌∙◌}
+use Rattle.utilities.specs.declared.CompassDir.TheVariants.{North}
+use Rattle.utilities.specs.Compass.{orthogonal}
+use Rattle.fields.specs.Cell.{cell_at}
+use Rattle.integration_build.proofs.Loops.{around_step, around_end}
 use Rattle.integration_build.proofs.offer_around.Goals as goal
 
+pub loop-dir-preserved : goal.loop-dir-preserved
+loop-dir-preserved c =
+    let a = c.args in
+    let l = c.loop-dir in
+    record {
+      offers_left = l.invariant.offers_left
+          ∙ around_step a.costs.now a.value (cell_at a.from) orthogonal l.dir-index North _ _ c.loop-dir-test.true c.offer_towards.ensures.offers;
+      changed = c.offer_towards.ensures.changes;
+    }
+
 pub returns-clause-offers : goal.returns-clause-offers
-unfolding offered_around
 returns-clause-offers c =
     let a = c.args in
-    let go : CompassDir → List ℕ → List ℕ = λ d x. offered a.costs.now a.value (stepped (cell_at a.from) d) x in
-    c.offer_towards.ensures.offers
-    ∙ ap (go West) (c.offer_towards-three.ensures.offers ∙ ap (go South) (c.offer_towards-two.ensures.offers ∙ ap (go East) c.offer_towards-one.ensures.offers))
+    let l = c.loop-dir in
+    sym (l.invariant.offers_left ∙ around_end a.costs.now a.value (cell_at a.from) orthogonal l.dir-index l.cells c.loop-dir-test.false)

@@ -8,8 +8,8 @@ use Rattle.integration_build.proofs.Changed.{changed_few, changed_offer}
 use Rattle.integration_build.proofs.relax.Goals as goal
 use Rattle.integration_build.proofs.relax.Goals.{then-written, else-written}
 
-pub bounds-next-found : goal.bounds-next-found
-bounds-next-found c = omega (arith, changed_few c.requires.changed)
+pub push_if-requires : goal.push_if-requires
+push_if-requires c = omega (arith, changed_few c.requires.changed)
 
 pub returns-clause-offers : goal.returns-clause-offers
 unfolding relaxed
@@ -25,4 +25,4 @@ pub returns-clause-changes : goal.returns-clause-changes
 returns-clause-changes c =
     let a = c.args in
     let p = c.requires in
-    changed_offer p.changed a.index p.inside a.sum p.not_below (returns-clause-offers c) c.is_written-written.ensures c.is_first-first.ensures
+    changed_offer p.changed a.index p.inside a.sum p.not_below (returns-clause-offers c) c.is_written-written.ensures c.is_first-first.ensures c.push_if.ensures

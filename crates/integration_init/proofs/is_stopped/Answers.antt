@@ -17,4 +17,4 @@ returns c =
     let from_is : index_of from ≡ a.previous = ap index_of c.from_index-from.ensures ∙ index_of_cell a.previous in
     let to_is : index_of to ≡ a.n = ap index_of c.from_index-to.ensures ∙ index_of_cell a.n in
     rw (sym c.is_wall_at.ensures ∙ c.if-is_wall_at.false, ← from_is, ← to_is)
-    (c.passes_wall.ensures ∙ sym (passes_at a.cells.now _ _ from_inside to_inside))
+    (c.passes_wall.ensures ∙ sym (passes_at a.field.now.field _ _ from_inside to_inside))

@@ -7,8 +7,8 @@ use Rattle.integration_init.proofs.mark.Goals as goal
 pub returns-then-is_blocked : goal.returns-then-is_blocked
 returns-then-is_blocked c = kept_mark c.requires (sym c.is_blocked.ensures ∙ c.if-is_blocked.true)
 
-pub bounds-corners-count : goal.bounds-corners-count
-bounds-corners-count c = mark_room c.requires (sym c.is_blocked.ensures ∙ c.if-is_blocked.false)
+pub bounds-field-field : goal.bounds-field-field
+bounds-field-field c = mark_room c.requires (sym c.is_blocked.ensures ∙ c.if-is_blocked.false)
 
 pub returns : goal.returns
 returns c = new_mark c.requires (sym c.is_blocked.ensures ∙ c.if-is_blocked.false)

@@ -1,4 +1,4 @@
--- `integration_init::mark_walls` meets its contract: the invariant: the cells before place i are the definition's.
+-- `integration_init::mark_walls` meets its contract: the cells before place i are the definition's, and so in the end are all.
 -- Assumes nothing.
 use Rattle.std.proofs.Common.{◌≡◌, ◌∙◌, arith}
 use lib.ListN.{length-set}
@@ -9,9 +9,8 @@ pub loop-i-preserved : goal.loop-i-preserved
 loop-i-preserved c =
     let l = c.loop-i in
     record {
-      at = omega arith;
       full = length-set l.cells l.i c.wall_or.result ∙ l.invariant.full;
-      same = wall_step c.args.costs.now l.cells c.requires.0 l.invariant.full l.i c.wall_or.result
+      same = wall_step c.args.costs.now l.cells c.told-costs l.invariant.full l.i c.wall_or.result
           c.loop-i-test.true c.wall_or.ensures l.invariant.same;
     }
 
@@ -19,4 +18,4 @@ pub returns : goal.returns
 returns c =
     let l = c.loop-i in
     let e : l.i ≡ 100 = omega arith in
-    wall_end c.args.costs.now l.cells c.requires.0 l.invariant.full (rw e at l.invariant.same)
+    wall_end c.args.costs.now l.cells c.told-costs l.invariant.full (rw e at l.invariant.same)

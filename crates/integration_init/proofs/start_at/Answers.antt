@@ -12,19 +12,18 @@ use Rattle.integration_init.proofs.start_at.Goals as goal
 pub loop-i-preserved : goal.loop-i-preserved
 loop-i-preserved c =
     let w = c.args.window in
-    let h = c.requires.1 in
+    let h = c.requires in
     let l = c.loop-i in
-    record {
-      at = omega arith;
+    rw c.from-n.ensures (record {
       left = l.invariant.left ∙ portal_step w h l.i l.field.field c.loop-i-test.true;
       corners = portal_listed w h l.i l.field.los_corners c.loop-i-test.true l.invariant.corners;
       none = l.invariant.none;
-    }
+    })
 
 pub returns : goal.returns
 returns c =
     let w = c.args.window in
-    let h = c.requires.1 in
+    let h = c.requires in
     let l = c.loop-i in
     let e : l.i ≡ w.count = omega arith in
     let marked : l.field.field ≡ with_portals (held_cells w) (walls c.args.costs.now) =

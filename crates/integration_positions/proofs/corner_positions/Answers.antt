@@ -10,7 +10,7 @@ pub returns-then-count-eq0 : goal.returns-then-count-eq0
 returns-then-count-eq0 c = no_corners c.args.costs.now c.args.before.now c.args.corners.now c.args.count c.if-count-eq0.true
 
 pub entered_from-entered-requires : goal.entered_from-entered-requires
-entered_from-entered-requires c = (c.requires.costs_hundred, paid_for _ _ _ _ _ (given c.requires _ refl))
+entered_from-entered-requires c = paid_for _ _ _ _ _ (given c.requires _ refl)
 
 pub returns : goal.returns
 returns c =

@@ -1,7 +1,7 @@
 -- `integration_positions::entered_from`, the loop's invariant: the values of the first i cells are in their places.
 -- Assumes nothing.
 use mathlib.Core.List.{List}
-use Prim.Native.Nat.{ℕ, ◌≤◌, ◌-◌}
+use Prim.Native.Nat.{ℕ}
 use lib.ListN.{get_or}
 use Rattle.utilities.proofs.Lists.{FilledTo}
 use Rattle.integration_positions.specs.Inner.{entered_from}
@@ -11,7 +11,4 @@ abbrev rule : List ℕ → List ℕ → List ℕ → ℕ → ℕ
 rule costs before built x = entered_from (get_or costs x 0) (get_or before x 0) (get_or built x 0)
 
 abbrev pub invariant-loop-i : goal.invariant-loop-i
-invariant-loop-i l = (l.i ≤ 100) × FilledTo 100 (rule l.costs l.before l.built) l.i l.entered
-
-abbrev pub decreases-loop-i : goal.decreases-loop-i
-decreases-loop-i l = 100 - l.i
+invariant-loop-i l = FilledTo 100 (rule l.costs l.before l.built) l.i l.entered

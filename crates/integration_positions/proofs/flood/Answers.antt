@@ -59,7 +59,7 @@ pub loop-i-preserved : goal.loop-i-preserved
 loop-i-preserved c =
     let l = c.loop-i in
     let a = c.args in
-    let y = c.index_of-from.result in
+    let y = c.from-from.result in
     let v = c.low_bits-value.result in
     let here : l.i < l.count = omega arith in
     let go : List ℕ → ℕ → Placing → Placing = λ values p. placed_around values v p (cell_at y) orthogonal in
@@ -70,7 +70,7 @@ loop-i-preserved c =
       turned = λ costs before corners values s f m w d.
           (let o = l.invariant.turned costs before corners values s f m w d in
           turn_on costs before corners _ values a.position s f c.requires.small _ _ _ _ l.i o here _ _ _ y v
-          c.index_of-from.ensures c.low_bits-value.ensures (steps values a.position o.state c.requires.small o.stands));
+          c.from-from.ensures c.low_bits-value.ensures (steps values a.position o.state c.requires.small o.stands));
     })
 
 pub returns : goal.returns

@@ -1,5 +1,5 @@
--- `integration_positions::flood`, the loop's invariant: there is room, and whichever positions the arrays stood for at first, they stand for those after the first i cells of the queue
--- have been gone around from, and the positions of these are written.
+-- `integration_positions::flood`, the loop's invariant: there is room, and whichever positions the arrays stood for at first, they stand for those after
+-- the first i cells of the queue have been gone around from, and the positions of these are written.
 -- Assumes nothing.
 use mathlib.Core.List.{List}
 use Prim.Native.Nat.{ℕ, ◌≤◌, ◌-◌}

@@ -8,4 +8,4 @@ use Rattle.integration_positions.proofs.keep.Goals as goal
 pub returns : goal.returns
 returns c =
     let e : c.loop-i.i ≡ 100 = omega arith in
-    filled_all 100 _ c.loop-i.left (rw e at c.loop-i.invariant.1)
+    filled_all 100 _ c.loop-i.left (rw e at c.loop-i.invariant)

@@ -18,8 +18,8 @@ returns c values p s small m =
     let a = c.args in
     let r = c.requires in
     elim c.if-taken.branch [
-      | then-taken w ↦ rw (w.new-is, eq-eqb _ _ w.if-taken.true, c.narrow.ensures, add-one a.queued)
+      | then-taken w ↦ rw (w.new-is, c.from.ensures, eq-eqb _ _ w.if-taken.true, add-one a.queued)
           (stands_taken values a.value p a.index r.value_in small r.inside _ _ _ s m w.if-taken.true (tried _ _ _ _ s))
-      | else-taken w ↦ rw (w.new-is, ne_eqb _ _ w.if-taken.false, c.narrow.ensures, add-zero a.queued, set-get_or a.entered.now a.index 0)
+      | else-taken w ↦ rw (w.new-is, c.from.ensures, ne_eqb _ _ w.if-taken.false, add-zero a.queued, set-get_or a.entered.now a.index 0)
           (stands_left values a.value p a.index r.value_in small r.inside _ _ _ s m w.if-taken.false (tried _ _ _ _ s))
     ]

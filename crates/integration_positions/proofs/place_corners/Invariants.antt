@@ -1,7 +1,7 @@
 -- `integration_positions::place_corners`, the loop's invariant: there is room, and the positions of the corners before i were handed on.
 -- Assumes nothing.
 use mathlib.Core.List.{List}
-use Prim.Native.Nat.{ℕ, ◌≤◌, ◌-◌}
+use Prim.Native.Nat.{ℕ}
 use lib.ListN.{take}
 use Rattle.integration_positions.specs.Inner.{Placing, placing, HasRoom, BuiltOn, GoneOn}
 use Rattle.integration_positions.proofs.place_corners.Given as goal
@@ -13,7 +13,4 @@ pub record Holds (built entered corners : List ℕ) (i : ℕ) (entries : List �
 
 abbrev pub invariant-loop-place : goal.invariant-loop-place
 invariant-loop-place l =
-    (l.place ≤ l.count) × Holds l.built l.initial.entered (take l.count l.corners) l.place l.entered (placing l.positions l.queue l.queued)
-
-abbrev pub decreases-loop-place : goal.decreases-loop-place
-decreases-loop-place l = l.count - l.place
+    Holds l.built l.initial.entered (take l.count l.corners) l.place l.entered (placing l.positions l.queue l.queued)

@@ -12,7 +12,7 @@ use Rattle.integration_target.proofs.build_target.Goals as goal
 pub build_without_positions-requires : goal.build_without_positions-requires
 build_without_positions-requires c =
     let t = c.args.target in
-    rw c.start-field.ensures (accepts_started c.args.costs.now (held_target t) c.requires.0 (held_in t c.requires.1))
+    rw c.start-field.ensures (accepts_started c.args.costs.now (held_target t) c.told-costs (held_in t c.requires))
 
 pub returns : goal.returns
 returns c = c.build_without_positions.ensures ∙ ap (built_without c.args.costs.now) c.start-field.ensures

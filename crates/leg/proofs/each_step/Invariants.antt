@@ -1,16 +1,9 @@
--- `leg::each_step` meets its contract. The loop's invariant: the steps from place k on decide.
+-- `leg::each_step` meets its contract. The loop's invariant: the steps from this place on decide.
 -- Assumes nothing.
-use Rattle.std.proofs.Common.{◌≡◌, ◌-◌, ◌/◌, ◌≤◌, length}
+use Rattle.std.proofs.Common.{◌≡◌, drop}
 use Rattle.route.specs.Table.{first_number}
-use Rattle.step_list.specs.Steps.{steps_of}
-use Rattle.step_list.proofs.Steps.{steps_from}
 use Rattle.leg_plan.specs.Leg.{each_rows}
 use Rattle.leg.proofs.each_step.Given as goal
 
-abbrev pub invariant-loop-k : goal.invariant-loop-k
-invariant-loop-k l =
-    (l.k ≤ length l.steps / 8)
-    × (first_number (each_rows l.floor (steps_of l.steps)) ≡ first_number (each_rows l.floor (steps_from l.steps l.k)))
-
-abbrev pub decreases-loop-k : goal.decreases-loop-k
-decreases-loop-k l = length l.steps / 8 - l.k
+abbrev pub invariant-loop-step : goal.invariant-loop-step
+invariant-loop-step l = first_number (each_rows l.floor l.steps) ≡ first_number (each_rows l.floor (drop l.step-index l.steps))

@@ -18,4 +18,4 @@ returns-then-sector-gt63 c = search tests
 
 pub returns : goal.returns
 returns c =
-    c.step_number_on.ensures ∙ cut c.args.floor.now c.args.step.now _ (ap (λ (n : ℕ). n * 100) c.index_of-at.ensures) c.requires.1
+    c.step_number_on.ensures ∙ cut c.args.floor.now c.args.step.now _ (ap (λ (n : ℕ). n * 100) c.from-at.ensures) (omega arith)

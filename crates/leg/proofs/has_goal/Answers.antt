@@ -1,15 +1,18 @@
--- `leg::has_goal` meets its contract: the step at place k is looked at, and then those behind it.
+-- `leg::has_goal` meets its contract: the test of one step is asked of all.
 -- Assumes nothing.
-use Rattle.std.proofs.Common.{arith}
-use Rattle.route.proofs.Rows.{tests}
-use Rattle.step_list.proofs.Steps.{from_here, from_done, mark_at}
+use Rattle.std.proofs.Common.{◌≡◌, ◌||◌, not, ℕ, List, [], ◌∷◌, refl, ap, ◌∙◌, rules, tests}
+use Rattle.std.specs.List.{list_any}
+use Rattle.std.proofs.lemmas.Iterator.{YieldsList-from_slice}
+use Rattle.std.proofs.lemmas.Iterator.Search.{any_from_yields_List}
+use Rattle.route.specs.Step.{is_window}
+use Rattle.leg_plan.specs.Leg.{some_goal}
 use Rattle.leg.proofs.has_goal.Goals as goal
 
-pub returns-then-steps-k-ne1 : goal.returns-then-steps-k-ne1
-returns-then-steps-k-ne1 c = search (tests, c.loop-k.invariant.1, from_here, mark_at)
-
-pub loop-k-preserved : goal.loop-k-preserved
-loop-k-preserved c = (omega arith, search (tests, c.loop-k.invariant.1, from_here, mark_at))
+same : (steps : List (List ℕ)) → list_any (λ (s : List ℕ). not (is_window s)) steps ≡ some_goal steps
+same [] = refl
+same (s ∷ steps) = ap (λ b. not (is_window s) || b) (same steps)
 
 pub returns : goal.returns
-returns c = search (c.loop-k.invariant.1, from_done)
+returns c =
+    any_from_yields_List (λ (s : List ℕ). not (is_window s)) _ _ c.any.result c.any.ensures.ran (YieldsList-from_slice c.args.steps.now cc)
+    (λ x b q k. search (rules, tests)) ∙ same c.args.steps.now

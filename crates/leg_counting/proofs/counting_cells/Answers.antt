@@ -1,11 +1,13 @@
--- `leg_counting::counting_cells` meets its contract. The loop's invariant: those that count of the window's first `place` cells are collected.
+-- `leg_counting::counting_cells` meets its contract: the next cell of the window is listed exactly if it counts, and when the window ends, all are.
 -- Assumes nothing.
-use Rattle.std.proofs.Common.{◌≡◌, ℕ, ◌<◌, length, get_or, ap, sym, ◌∙◌, arith}
+use Rattle.std.proofs.Common.{◌≡◌, ℕ, ◌<◌, List, length, get_or, ap, sym, ◌∙◌, arith}
+use lib.Seq.{take_all}
+use Rattle.fields.specs.declared.CellList.{CellList}
 use Rattle.route.specs.declared.PortalWindow.{PortalWindow}
-use Rattle.route.specs.declared.WindowCells.{WindowCells}
-use Rattle.route.specs.Window.{listed}
+use Rattle.route.specs.Window.{select, listed}
 use Rattle.route.specs.Target.{WindowIn}
-use Rattle.route.proofs.Cells.{cells_in, listed_at, taken, passed, collected_all}
+use Rattle.route.proofs.Cells.{cells_in, listed_at, room, taken, passed}
+use Rattle.leg_counting.specs.Counting.{counts}
 use Rattle.leg_counting.proofs.counting_cells.Invariants.{cells_of}
 use Rattle.leg_counting.proofs.counting_cells.Goals as goal
 use Rattle.leg_counting.proofs.counting_cells.Goals.{then-counts, else-counts}
@@ -14,42 +16,53 @@ use Rattle.leg_counting.proofs.counting_cells.Goals.{then-counts, else-counts}
 window_in : (portal : PortalWindow) → WindowIn (cells_of portal)
 window_in portal = cells_in portal.boundary portal.start portal.end
 
-count_is : (portal : PortalWindow) (w : WindowCells) → w ≡ listed (cells_of portal) → w.count ≡ length (cells_of portal)
-count_is portal w e = ap (λ (x : WindowCells). x.count) e
+module _ (portal : PortalWindow) {w : CellList 10} (e : w ≡ listed (cells_of portal)) where
+  count_is : w.count ≡ length (cells_of portal)
+  count_is = ap (λ (x : CellList 10). x.count) e
 
-cell_is : (portal : PortalWindow) (w : WindowCells) → w ≡ listed (cells_of portal) → (k : ℕ) → k < length (cells_of portal)
-    → get_or w.cells k 0 ≡ get_or (cells_of portal) k 0
-cell_is portal w e k h = ap (λ (x : WindowCells). get_or x.cells k 0) e ∙ listed_at (cells_of portal) k h
+  module _ (k : ℕ) (h : k < w.count) where
+    more : k < length (cells_of portal)
+    more = omega (arith, count_is)
 
-more : (portal : PortalWindow) (w : WindowCells) → w ≡ listed (cells_of portal) → (k : ℕ) → k < w.count → k < length (cells_of portal)
-more portal w e k h = omega (arith, count_is portal w e)
+    cell_is : get_or w.cells k 0 ≡ get_or (cells_of portal) k 0
+    cell_is = ap (λ (x : CellList 10). get_or x.cells k 0) e ∙ listed_at (cells_of portal) k more
+
+    inside : get_or w.cells k 0 < 100
+    inside = omega (arith, cell_is, (window_in portal).inside k more)
 
 pub counts-requires : goal.counts-requires
 counts-requires c =
-    let p = c.args.portal in
-    let w = c.get_all_window_cells-window in
+    let h = inside c.args.portal c.get_all_window_cells-all.ensures c.loop-place.place c.loop-place-test.true in
+    omega (arith, c.from.ensures)
+
+pub push-requires : goal.push-requires
+push-requires c =
+    let portal = c.args.portal in
     let k = c.loop-place.place in
-    let h = more p w.result w.ensures k c.loop-place-test.true in
-    omega (arith, cell_is p w.result w.ensures k h, (window_in p).inside k h)
+    let h = more portal c.get_all_window_cells-all.ensures k c.loop-place-test.true in
+    (omega arith, rw c.loop-place.invariant (room (counts portal c.args.previous.now) (cells_of portal) k (window_in portal).few h))
 
 pub loop-place-preserved : goal.loop-place-preserved
 loop-place-preserved c =
-    let p = c.args.portal in
-    let w = c.get_all_window_cells-window in
-    let l = c.loop-place in
-    let h = more p w.result w.ensures l.place c.loop-place-test.true in
-    let cell = cell_is p w.result w.ensures l.place h in
-    let answer = sym c.counts.ensures in
-    let fits = (window_in p).few in
-    record {
-      inside = omega arith;
-      kept = elim c.if-counts.branch [
-        | then-counts b ↦ rw (b.cells-is, b.count-is) (taken l.invariant.kept fits h _ cell (answer ∙ b.if-counts.true))
-        | else-counts b ↦ rw (b.cells-is, b.count-is) (passed l.invariant.kept fits h _ cell (answer ∙ b.if-counts.false))
-      ];
-    }
+    let portal = c.args.portal in
+    let p = counts portal c.args.previous.now in
+    let k = c.loop-place.place in
+    let is = c.get_all_window_cells-all.ensures in
+    let h = more portal is k c.loop-place-test.true in
+    let fits = (window_in portal).few in
+    let cell = cell_is portal is k c.loop-place-test.true in
+    let answer = ap p (sym c.from.ensures) ∙ sym c.counts.ensures in
+    elim c.if-counts.branch [
+      | then-counts t ↦ t.window-is ∙ t.push.ensures
+          ∙ taken p (cells_of portal) k fits h _ c.loop-place.invariant cell (answer ∙ t.if-counts.true)
+      | else-counts t ↦ t.window-is ∙ passed p (cells_of portal) k fits h _ c.loop-place.invariant cell (answer ∙ t.if-counts.false)
+    ]
 
 pub returns : goal.returns
 returns c =
-    let w = c.get_all_window_cells-window in
-    collected_all c.loop-place.invariant.kept (omega (arith, count_is c.args.portal w.result w.ensures))
+    let portal = c.args.portal in
+    let p = counts portal c.args.previous.now in
+    let ended = c.loop-place-test.false in
+    c.loop-place.invariant
+    ∙ ap (λ (cells : List ℕ). listed (select p cells))
+    (take_all c.loop-place.place (cells_of portal) (omega (arith, count_is portal c.get_all_window_cells-all.ensures)))

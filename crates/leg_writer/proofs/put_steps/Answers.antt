@@ -8,7 +8,6 @@ use Rattle.leg_writer.proofs.put_steps.Goals as goal
 pub loop-i-preserved : goal.loop-i-preserved
 loop-i-preserved c =
     record {
-      within = omega arith;
       same_size = simp length-set c.loop-i.invariant.same_size;
       holds = rw (c.loop-i.invariant.holds, add-one c.loop-i.i) (paste-suc c.args.file.now 6 c.args.steps.now c.loop-i.i 0 (omega arith) (omega arith));
     }

@@ -28,17 +28,17 @@ returns-then-nearest_row-behind c =
     let a = c.args in
     let j = c.loop-j.j in
     let t : leaves a.rise a.span a.behind (a.span + j) ≡ true = lt-ltb _ _ (rw c.nearest_row.ensures at c.if-nearest_row-behind.true) in
-    (sym (c.loop-j.invariant.1 ∙ rw t (stops (ends a.rise a.span a.behind) (a.columns - j) j)), omega arith)
+    (sym (c.loop-j.invariant ∙ rw t (stops (ends a.rise a.span a.behind) (a.columns - j) j)), omega arith)
 
 pub loop-j-preserved : goal.loop-j-preserved
 loop-j-preserved c =
     let a = c.args in
     let j = c.loop-j.j in
     let t : leaves a.rise a.span a.behind (a.span + j) ≡ false = le-ltb _ _ (rw c.nearest_row.ensures at c.if-nearest_row-behind.false) in
-    (omega arith, c.loop-j.invariant.1 ∙ rw t (goes_on (ends a.rise a.span a.behind) a.columns j (omega arith)))
+    c.loop-j.invariant ∙ rw t (goes_on (ends a.rise a.span a.behind) a.columns j (omega arith))
 
 pub returns : goal.returns
 returns c =
     let a = c.args in
-    let j = c.loop-j.j in
-    (sym (c.loop-j.invariant.1 ∙ none_left (ends a.rise a.span a.behind) (a.columns - j) j _ (omega arith)), omega arith)
+    let e : c.loop-j.j ≡ a.columns = omega arith in
+    (sym (c.loop-j.invariant ∙ none_left (ends a.rise a.span a.behind) (a.columns - c.loop-j.j) c.loop-j.j _ (omega arith) ∙ e), omega arith)

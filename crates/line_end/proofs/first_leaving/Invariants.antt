@@ -1,6 +1,6 @@
 -- `line_end::first_leaving` meets its contract. The invariant: the first that ends the line, of all columns, is the first of those from the present one on.
 -- Assumes nothing.
-use Rattle.std.proofs.Common.{◌≡◌, ℕ, ◌+◌, ◌-◌, ◌≤◌, Bool}
+use Rattle.std.proofs.Common.{◌≡◌, ℕ, ◌+◌, ◌-◌, Bool}
 use Rattle.line_end.specs.LineEnd.{leaves, first_ending, first_leaving}
 use Rattle.line_end.proofs.first_leaving.Given as goal
 
@@ -13,7 +13,4 @@ module _ (rise span behind : ℕ) where
   first_from columns j = first_ending ends (columns - j) j (ends j)
 
 abbrev pub invariant-loop-j : goal.invariant-loop-j
-invariant-loop-j l = (l.j ≤ l.columns) × (first_leaving l.rise l.span l.behind l.columns ≡ first_from l.rise l.span l.behind l.columns l.j)
-
-abbrev pub decreases-loop-j : goal.decreases-loop-j
-decreases-loop-j l = l.columns - l.j
+invariant-loop-j l = first_leaving l.rise l.span l.behind l.columns ≡ first_from l.rise l.span l.behind l.columns l.j

@@ -1,20 +1,13 @@
--- `practice::draw_costs` meets its contract. The loop's invariant: the cells before place i are the definition's.
+-- `practice::draw_costs` meets its contract: each cell's cost is drawn from the value that stands 55 places behind its own.
 -- Assumes nothing.
-use Rattle.std.proofs.Common.{◌≡◌, ◌∙◌, arith, length-set}
-use Rattle.practice.proofs.Told.{cell_step, cells_end}
+use Rattle.std.proofs.Common.{◌+◌, get_or, rules}
+use Rattle.practice.specs.Floor.{cost_of}
+use Rattle.practice.proofs.Told.{cells_drawn, made_at}
 use Rattle.practice.proofs.draw_costs.Goals as goal
-
-pub loop-i-preserved : goal.loop-i-preserved
-loop-i-preserved c =
-    let l = c.loop-i in
-    let drawn = c.cost_of in (
-      omega arith,
-      length-set l.costs l.i drawn.result ∙ l.invariant.1,
-      cell_step c.args.values.now c.requires l.i drawn.result l.costs (omega arith) l.invariant.1 drawn.ensures l.invariant.2,
-    )
 
 pub returns : goal.returns
 returns c =
-    let l = c.loop-i in
-    let k : l.i ≡ 100 = omega arith in
-    cells_end c.args.values.now c.requires l.costs l.invariant.1 (rw k at l.invariant.2)
+    let values = c.args.values.now in
+    let made = c.from_fn.ensures.items in
+    cells_drawn values c.told-values c.from_fn.result made.long
+    (made_at _ _ _ (λ i. cost_of (get_or values (55 + i) 0)) (λ i y q k. search rules) 100 made)

@@ -7,14 +7,12 @@ use Rattle.practice.proofs.values_of.Goals as goal
 
 pub loop-n-init : goal.loop-n-init
 unfolding values_to
-loop-n-init c = (omega arith, omega arith, refl, refl)
+loop-n-init c = (refl, refl)
 
 pub loop-n-preserved : goal.loop-n-preserved
 loop-n-preserved c =
     let l = c.loop-n in
-    let next = c.next_value-value in (
-      omega arith,
-      omega arith,
-      length-set l.values l.n next.result ∙ l.invariant.2,
-      one_place_more c.args.seed l.n next.result l.values (omega arith) (omega arith) next.ensures l.invariant.3,
+    let next = c.next_value in (
+      length-set l.values l.n next.result ∙ l.invariant.0,
+      one_place_more c.args.seed l.n next.result l.values (omega arith) (omega arith) next.ensures l.invariant.1,
     )

@@ -1,12 +1,9 @@
 -- `print_text::put_row` meets its contract. The loop's invariant: the row's first cells are stored, and `out` is as long as it was.
 -- Assumes nothing.
-use Prim.Native.Nat.{◌≤◌, ◌-◌, ◌*◌}
+use Prim.Native.Nat.{◌*◌}
 use Rattle.print_text.specs.Rows.{cells_text}
 use Rattle.print_text.proofs.Laws.{Stored}
 use Rattle.print_text.proofs.put_row.Given as goal
 
 abbrev pub invariant-loop-column : goal.invariant-loop-column
-invariant-loop-column l = (l.column ≤ 10) × Stored l.initial.out (21 * l.row) (cells_text l.cells l.row l.column) l.out
-
-abbrev pub decreases-loop-column : goal.decreases-loop-column
-decreases-loop-column l = 10 - l.column
+invariant-loop-column l = Stored l.initial.out (21 * l.row) (cells_text l.cells l.row l.column) l.out

@@ -1,6 +1,8 @@
 -- `step_numbers::number_with_target` meets its contract: 16 decides where 3 to 8 do not.
 -- Assumes nothing.
 use Rattle.std.proofs.Common.{◌≡◌, ℕ, List, Bool, refl, sym, ap, ◌∙◌}
+use Rattle.std.proofs.lemmas.Result.{err_from_is_err_and}
+use Rattle.refusals.proofs.Numbers.{not_zero}
 use Rattle.route.specs.declared.Target as program
 use Rattle.route.specs.Step.{route_step, step_number, targets_wall}
 use Rattle.route.specs.Inner.{route_target, listed_target, is_wall_target, held_target}
@@ -14,23 +16,24 @@ wall : (costs step : List ℕ) (target : program.Target) (b : Bool) → target �
 wall costs step target b made good e =
     e ∙ ap (is_wall_target costs) (made_target step (route_step step) target refl made) ∙ sym (wall_target costs step good)
 
-pub returns-then-number-ne0 : goal.returns-then-number-ne0
-returns-then-number-ne0 c =
-    let n = c.step_number-number.ensures in
-    n ∙ sym (refused_on _ _ (λ z. c.if-number-ne0.true (n ∙ z)))
+pub returns-in_err-step_number : goal.returns-in_err-step_number
+returns-in_err-step_number c =
+    let p = err_from_is_err_and c.from_residual.result c.from_residual.ensures.1 in
+    let n = c.in_err-step_number.ensures in
+    rw (p.1, p.2) (n ∙ sym (refused_on _ _ (λ z. not_zero _ (n ∙ z))))
 
 pub is_wall_target-requires : goal.is_wall_target-requires
 is_wall_target-requires c =
-    made_held c.args.step.now (route_step c.args.step.now) c.args.target refl c.requires (sym c.step_number-number.ensures ∙ c.if-number-ne0.false)
+    made_held c.args.step.now (route_step c.args.step.now) c.args.target refl c.requires (sym (c.in_ok-step_number.ensures))
 
 pub returns-then-is_wall_target : goal.returns-then-is_wall_target
 returns-then-is_wall_target c =
-    let good = sym c.step_number-number.ensures ∙ c.if-number-ne0.false in
+    let good = sym (c.in_ok-step_number.ensures) in
     let w = wall c.args.costs.now c.args.step.now c.args.target _ c.requires good c.is_wall_target.ensures in
     sym (number_on_law c.args.costs.now c.args.step.now ∙ rw (good, sym w ∙ c.if-is_wall_target.true))
 
 pub returns : goal.returns
 returns c =
-    let good = sym c.step_number-number.ensures ∙ c.if-number-ne0.false in
+    let good = sym (c.in_ok-step_number.ensures) in
     let w = wall c.args.costs.now c.args.step.now c.args.target _ c.requires good c.is_wall_target.ensures in
     sym (number_on_law c.args.costs.now c.args.step.now ∙ rw (good, sym w ∙ c.if-is_wall_target.false))

@@ -12,7 +12,7 @@ small c = omega (arith, c.cheapest_entry-least.ensures, entry_small c.args.squar
 pub loop-window-init : goal.loop-window-init
 loop-window-init c =
     let starts = figure_starts c.args.square c.args.n in
-    record { from_second = omega arith; passed = omega arith; small = omega arith; rest = omega (arith, starts) }
+    record { small = omega arith; rest = omega (arith, starts) }
 
 pub overflow_add-least : goal.overflow_add-least
 overflow_add-least c = omega (arith, small c)
@@ -21,8 +21,6 @@ pub loop-window-preserved : goal.loop-window-preserved
 loop-window-preserved c =
     let goes = figure_goes c.args.square c.args.n c.loop-window.window (omega arith) in
     record {
-      from_second = omega arith;
-      passed = omega arith;
       small = omega (arith, small c);
       rest = omega (arith, goes, c.cheapest_entry-least.ensures);
     }

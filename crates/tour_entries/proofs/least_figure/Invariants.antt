@@ -10,13 +10,8 @@ use Rattle.tour_entries.proofs.least_figure.Given as goal
 
 -- the windows from `window` on are left to enter
 pub record Left (n : ℕ) (square : List (List ℕ)) (least window : ℕ) : Type 0 where
-  pub from_second : 1 ≤ window
-  pub passed : window ≤ n
   pub small : least ≤ (window - 1) * 65535
   pub rest : least + summed (entry square n) (numbers_from window (n - window)) ≡ least_figure square n
 
 abbrev pub invariant-loop-window : goal.invariant-loop-window
 invariant-loop-window l = Left l.n l.square l.least l.window
-
-abbrev pub decreases-loop-window : goal.decreases-loop-window
-decreases-loop-window l = l.n - l.window

@@ -7,4 +7,4 @@ use Rattle.tour_ranking.proofs.factorial.Goals as goal
 pub overflow_mul-product : goal.overflow_mul-product
 overflow_mul-product c =
     let number = c.loop-number.number in
-    rw (c.loop-number.invariant.1, factorial_more number) (omega (arith, factorial_few (number + 1) (omega arith)))
+    rw (c.loop-number.invariant, factorial_more number) (omega (arith, factorial_few (number + 1) (omega arith)))

@@ -8,4 +8,4 @@ pub returns : goal.returns
 returns c =
     let l = c.loop-window in
     let all : l.window ≡ c.args.n = omega arith in
-    first_order_is c.args.n c.requires.0 c.requires.1 l.order (rw all at l.invariant.1)
+    first_order_is c.args.n c.requires.0 c.requires.1 l.order (rw all at l.invariant)

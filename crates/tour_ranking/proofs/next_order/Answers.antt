@@ -1,7 +1,8 @@
 -- `tour_ranking::next_order` meets its contract: the places that are found are those of the change from the order to the next.
 -- Assumes nothing.
-use Rattle.std.proofs.Common.{arith}
+use Rattle.std.proofs.Common.{◌+◌, arith}
 use Rattle.tour_ranking.proofs.Made.{next_made}
+use Rattle.tour_ranking.proofs.Reversing.{part_reversed}
 use Rattle.tour_ranking.proofs.next_order.Goals as goal
 
 pub returns : goal.returns
@@ -10,5 +11,5 @@ returns c place h e =
     (record {
       rise = c.last_rise-at.ensures.1;
       above = c.last_above-to.ensures.1;
-      made = rw c.exchange.ensures at c.reverse.ensures;
+      made = λ long. rw (c.reverse.ensures.after, c.swap.ensures.after) (part_reversed _ (c.last_rise-at.result + 1) c.args.n c.last_rise-at.ensures.0 (omega (arith, long)));
     })

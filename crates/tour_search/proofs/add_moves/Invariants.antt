@@ -2,18 +2,13 @@
 -- Assumes nothing.
 use mathlib.Core.Path.{◌≡◌}
 use mathlib.Core.List.{List}
-use Prim.Native.Nat.{ℕ, ◌-◌, ◌≤◌}
+use Prim.Native.Nat.{ℕ, ◌-◌}
 use Rattle.tour_search.specs.Inner.{weighed, SumsKept}
 use Rattle.tour_search.proofs.add_moves.Given as goal
 
-pub record Holds (square : List (List ℕ)) (order : List ℕ) (n : ℕ) (sums : List ℕ) (sum at : ℕ) : Type 0 where
-  pub some : 1 ≤ at
-  pub within : at ≤ n
+pub record Holds (square : List (List ℕ)) (order sums : List ℕ) (sum at : ℕ) : Type 0 where
   pub last : sum ≡ weighed square order (at - 1)
   pub kept : SumsKept square order at sums
 
 abbrev pub invariant-loop-at : goal.invariant-loop-at
-invariant-loop-at l = Holds l.square l.order l.n l.sums l.sum l.at
-
-abbrev pub decreases-loop-at : goal.decreases-loop-at
-decreases-loop-at l = l.n - l.at
+invariant-loop-at l = Holds l.square l.order l.sums l.sum l.at

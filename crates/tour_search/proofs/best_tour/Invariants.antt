@@ -3,12 +3,14 @@
 -- Assumes nothing.
 use mathlib.Core.Path.{◌≡◌}
 use mathlib.Core.List.{List}
+use Rattle.std.specs.Prelude.{Option}
+use Rattle.tour_sums.specs.declared.Tour.{Tour}
 use Prim.Native.Nat.{ℕ, ◌-◌, ◌<◌, ◌≤◌}
 use lib.ListN.{take}
 use Rattle.tour_orders.specs.Orders.{orders, factorial}
 use Rattle.tour_sums.specs.Tours.{no_tour, best_tour}
 use Rattle.tour_ranking.specs.Inner.{order_at}
-use Rattle.tour_search.specs.Inner.{SumsKept, held_tour}
+use Rattle.tour_search.specs.Inner.{SumsKept, lowest}
 use Rattle.tour_search.proofs.best_tour.Given as goal
 
 -- the order at a place is made, and the sums of its first places are kept
@@ -18,14 +20,10 @@ pub record Made (square : List (List ℕ)) (n : ℕ) (order : List ℕ) (changed
   pub is : order ≡ order_at n place
   pub kept : SumsKept square order changed sums
 
-pub record Holds (square : List (List ℕ)) (n tried : ℕ) (order : List ℕ) (changed : ℕ) (sums best : List ℕ) (lowest place : ℕ) : Type 0 where
-  pub within : place ≤ tried
-  pub most : lowest ≤ 524288
-  pub known : held_tour lowest best ≡ best_tour square no_tour (take place (orders n))
+pub record Holds (square : List (List ℕ)) (n : ℕ) (order : List ℕ) (changed : ℕ) (sums : List ℕ) (best : Option Tour) (place : ℕ) : Type 0 where
+  pub most : lowest best ≤ 524288
+  pub known : best ≡ best_tour square no_tour (take place (orders n))
   pub made : place < factorial (n - 1) → Made square n order changed sums place
 
 abbrev pub invariant-loop-place : goal.invariant-loop-place
-invariant-loop-place l = Holds l.square l.n l.tried l.order l.changed l.sums l.best l.lowest l.place
-
-abbrev pub decreases-loop-place : goal.decreases-loop-place
-decreases-loop-place l = l.tried - l.place
+invariant-loop-place l = Holds l.square l.n l.order l.changed l.sums l.best l._place

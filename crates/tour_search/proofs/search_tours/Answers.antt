@@ -12,8 +12,8 @@ use Rattle.tour_search.proofs.search_tours.Goals as goal
 at_most_all : (n limit : ℕ) → tried_count n limit ≤ factorial (n - 1)
 at_most_all n limit = omega (arith, tried_is n limit)
 
-pub best_tour-best-requires : goal.best_tour-best-requires
-best_tour-best-requires c = (c.requires, omega (arith, c.tried_count-tried.ensures, at_most_all c.args.n c.args.limit))
+pub best_tour-requires : goal.best_tour-requires
+best_tour-requires c = (c.requires, omega (arith, c.tried_count-tried.ensures, at_most_all c.args.n c.args.limit))
 
 pub overflow_cast-result : goal.overflow_cast-result
 overflow_cast-result c =
@@ -22,7 +22,7 @@ overflow_cast-result c =
 
 pub returns-clause-answer : goal.returns-clause-answer
 returns-clause-answer c =
-    answered c.args.square c.args.n c.args.limit c.tried_count-tried.ensures c.best_tour-best.ensures c.least_figure-least.ensures
+    answered c.args.square c.args.n c.args.limit c.tried_count-tried.ensures c.best_tour.ensures c.least_figure.ensures
 
 pub returns-clause-orders : goal.returns-clause-orders
 returns-clause-orders c = (promised c.args.square c.args.n c.args.limit c.requires (returns-clause-answer c)).1.0

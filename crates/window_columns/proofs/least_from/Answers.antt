@@ -20,12 +20,12 @@ returns-then-i-steps c =
 
 pub returns : goal.returns
 returns c =
-    let t = c.target_at-target in
+    let t = c.target_at in
     let steps = c.args.steps.now in
     let i = c.args.i in
     let l : i < length steps / 8 = omega arith in
     let used : ltb i (length (steps_of steps)) ≡ true = lt-ltb i (length (steps_of steps)) (omega (arith, steps_count steps)) in
-    let cells : held_cells t.result.window ≡ window_cells (step_of (steps_of steps) i)
-    = sym (held_window t.result t.ensures.0) ∙ ap window_of (t.ensures.1 ∙ target_window _ (c.requires.windows i l))
+    let cells : held_cells c.window.result ≡ window_cells (step_of (steps_of steps) i)
+    = ap held_cells c.window.ensures ∙ held_window t.result ∙ ap window_of (t.ensures.1 ∙ target_window _ (c.requires.windows i l))
     ∙ ap window_cells (sym (step_of_law steps i l)) in
     rw used (c.least_built.ensures ∙ ap (least_built c.args.cells.now) cells)

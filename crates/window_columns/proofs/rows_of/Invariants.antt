@@ -1,12 +1,8 @@
 -- `window_columns::rows_of` meets its contract. The loop's invariant: the first i rows are filled.
 -- Assumes nothing.
-use Rattle.std.proofs.Common.{◌≤◌, ◌-◌}
 use Rattle.utilities.proofs.Lists.{FilledTo}
 use Rattle.window_square.specs.Inner.{held_row}
 use Rattle.window_columns.proofs.rows_of.Given as goal
 
 abbrev pub invariant-loop-i : goal.invariant-loop-i
-invariant-loop-i l = (l.i ≤ 8) × FilledTo 8 (held_row l.square) l.i l.rows
-
-abbrev pub decreases-loop-i : goal.decreases-loop-i
-decreases-loop-i l = 8 - l.i
+invariant-loop-i l = FilledTo 8 (held_row l.square) l.i l.rows

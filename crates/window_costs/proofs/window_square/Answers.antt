@@ -9,11 +9,11 @@ use Rattle.window_costs.proofs.window_square.Goals as goal
 pub loop-j-preserved : goal.loop-j-preserved
 loop-j-preserved c =
     let l = c.loop-j in
-    (omega arith, filled_more 8 (column_of c.args.costs.now (steps_of c.args.steps.now)) l.j l.columns _ (omega arith) c.column_at.ensures l.invariant.1)
+    filled_more 8 (column_of c.args.costs.now (steps_of c.args.steps.now)) l.j l.columns _ (omega arith) c.column_at.ensures l.invariant
 
 pub returns : goal.returns
 returns c =
     let l = c.loop-j in
     let all : l.j ≡ 8 = omega arith in
-    let filled = filled_all 8 (column_of c.args.costs.now (steps_of c.args.steps.now)) l.columns (rw all at l.invariant.1) in
+    let filled = filled_all 8 (column_of c.args.costs.now (steps_of c.args.steps.now)) l.columns (rw all at l.invariant) in
     c.square_of.ensures ∙ turned c.args.costs.now (steps_of c.args.steps.now) l.columns filled

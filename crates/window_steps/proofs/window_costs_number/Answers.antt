@@ -12,6 +12,7 @@ use Rattle.step_list.specs.Steps.{steps_of, step_of}
 use Rattle.step_list.proofs.Steps.{steps_count, step_of_law, sector_at_law}
 use Rattle.window_square.specs.Square.{window_step_rows, window_costs_number}
 use Rattle.window_steps.proofs.window_costs_number.Goals as goal
+use Rattle.window_steps.proofs.window_costs_number.Goals.{then-count-lt2-via-then-count-lt2, then-count-lt2-via-else-count-lt2+then-count-gt8}
 
 -- 19 is not due for fewer than 2 steps; nor for more than 8
 two : (steps : List ℕ) → 2 ≤ length steps / 8 → ltb (length (steps_of steps)) 2 ≡ false
@@ -37,23 +38,26 @@ pub returns-then-costs-ne100 : goal.returns-then-costs-ne100
 unfolding window_costs_number
 returns-then-costs-ne100 c = rw (ne_eqb _ 100 c.if-costs-ne100.true)
 
-pub returns-then-length-ne0 : goal.returns-then-length-ne0
+pub returns-then-steps-ne0 : goal.returns-then-steps-ne0
 unfolding window_costs_number
-returns-then-length-ne0 c = rw (eq-eqb _ 100 c.if-costs-ne100.false, ne_eqb _ 0 c.if-length-ne0.true)
+returns-then-steps-ne0 c = rw (eq-eqb _ 100 c.if-costs-ne100.false, ne_eqb _ 0 c.if-steps-ne0.true)
 
 pub returns-then-count-lt2 : goal.returns-then-count-lt2
 unfolding window_costs_number
 returns-then-count-lt2 c =
-    let few : ltb (length (steps_of c.args.steps.now)) 2 ≡ true = let e = steps_count c.args.steps.now in rw e (lt-ltb _ 2 c.if-count-lt2.true) in
-    rw (eq-eqb _ 100 c.if-costs-ne100.false, eq-eqb _ 0 c.if-length-ne0.false, few)
-
-pub returns-then-count-gt8 : goal.returns-then-count-gt8
-unfolding window_costs_number
-returns-then-count-gt8 c =
-    let many : ltb 8 (length (steps_of c.args.steps.now)) ≡ true = let e = steps_count c.args.steps.now in rw e (lt-ltb 8 _ c.if-count-gt8.true) in
-    rw (eq-eqb _ 100 c.if-costs-ne100.false, eq-eqb _ 0 c.if-length-ne0.false, two c.args.steps.now c.if-count-lt2.false, many)
+    let steps = c.args.steps.now in
+    let count = steps_count steps in
+    elim c.then-count-lt2.branch [
+      | then-count-lt2-via-then-count-lt2 w ↦
+          let few : ltb (length (steps_of steps)) 2 ≡ true = rw count (lt-ltb _ 2 (omega (arith, w.if-count-lt2.true))) in
+          rw (eq-eqb _ 100 c.if-costs-ne100.false, eq-eqb _ 0 c.if-steps-ne0.false, few)
+      | then-count-lt2-via-else-count-lt2+then-count-gt8 w ↦
+          let some = two steps (omega (arith, w.if-count-lt2.false)) in
+          let many : ltb 8 (length (steps_of steps)) ≡ true = rw count (lt-ltb 8 _ (omega (arith, w.if-count-gt8.true))) in
+          rw (eq-eqb _ 100 c.if-costs-ne100.false, eq-eqb _ 0 c.if-steps-ne0.false, some, many)
+    ]
 
 pub returns : goal.returns
 returns c =
-    each_step c.args.costs.now c.args.steps.now c.if-costs-ne100.false c.if-length-ne0.false c.if-count-lt2.false c.if-count-gt8.false
-    c.each_window_step.ensures
+    each_step c.args.costs.now c.args.steps.now c.if-costs-ne100.false c.if-steps-ne0.false (omega (arith, c.if-count-lt2.false))
+    (omega (arith, c.if-count-gt8.false)) c.each_window_step.ensures

@@ -12,7 +12,7 @@ use Rattle.utilities.proofs.Compass.{small}
 use Rattle.utilities.proofs.Sums.{Made, sum, both_in, low_out, high_out}
 use Rattle.fields.specs.declared.FieldCell.{FieldCell}
 use Rattle.fields.specs.Cell.{cell, stepped}
-use Rattle.fields.specs.declared.Stepped.TheVariants.{Cell}
+use Rattle.std.specs.Prelude.{Some}
 use Rattle.fields.specs.Inner.{Near}
 use Rattle.fields.proofs.Steps.{column_sum, row_sum, pointless, summed_in, summed_out, promised}
 use Rattle.fields.proofs.FieldCell.get_in_compass_direction.Goals as goal
@@ -51,7 +51,7 @@ module _ (c : goal.Then-row-le9) where
   row_in : within 9 (row_sum c.args.self c.args.dir) ≡ true
   row_in = both_in 9 rows c.if-row-ge0.true c.if-row-le9.true
 
-  arrived : stepped c.args.self c.args.dir ≡ Cell (cell (nat_abs (column_sum c.args.self c.args.dir)) (nat_abs (row_sum c.args.self c.args.dir)))
+  arrived : stepped c.args.self c.args.dir ≡ Some (cell (nat_abs (column_sum c.args.self c.args.dir)) (nat_abs (row_sum c.args.self c.args.dir)))
   arrived = summed_in c.args.self c.args.dir (sym c.points.ensures ∙ c.if-not-points.false) column_in row_in
 
 pub returns-then-row-le9 : goal.returns-then-row-le9

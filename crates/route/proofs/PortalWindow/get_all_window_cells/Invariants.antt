@@ -1,13 +1,10 @@
--- `route::PortalWindow::get_all_window_cells` meets its contract. The loop's invariant: of the edge's cells before the place, those
--- of the window are collected.
+-- `route::PortalWindow::get_all_window_cells` meets its contract. The loop's invariant: of the edge's cells before the place, those of the window
+-- are listed.
 -- Assumes nothing.
-use Rattle.std.proofs.Common.{◌≤◌, ◌-◌}
-use Rattle.route.specs.Window.{edge, between}
-use Rattle.route.proofs.Cells.{Collected}
+use mathlib.Core.Path.{◌≡◌}
+use lib.ListN.{take}
+use Rattle.route.specs.Window.{select, edge, between, listed}
 use Rattle.route.proofs.PortalWindow.get_all_window_cells.Given as goal
 
 abbrev pub invariant-loop-place : goal.invariant-loop-place
-invariant-loop-place l = (l.place ≤ l.length) × Collected (between l.start l.end) (edge l.boundary) l.place l.cells l.count
-
-abbrev pub decreases-loop-place : goal.decreases-loop-place
-decreases-loop-place l = l.length - l.place
+invariant-loop-place l = l.window ≡ listed (select (between l.self.start l.self.end) (take l.place (edge l.self.boundary)))
