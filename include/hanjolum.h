@@ -120,7 +120,7 @@
  * Stack and time.  Every call ends, on all input. In the program each wave of a field is a call of its own; the compiler makes
  * a loop of them, so that no function of the archive calls itself. Before sight spreads from a goal (init, sector, leg and
  * field of a leg's step, with sight), the table of line ends lies on the stack, 10,000 bytes; beside it no call needs more than
- * 10,512 bytes. Give a thread that makes those four calls 32 KB, and one that makes only others 16 KB, beside what the thread
+ * 12,056 bytes. Give a thread that makes those four calls 32 KB, and one that makes only others 16 KB, beside what the thread
  * itself needs. That is the compiler's doing and not proved.
  * The C file has that table as a constant, and what it needs depends on your compiler: docs/MACHINES.md has figures.
  * The figures below are of an archive that the toolchain before today's made; with today's the greatest is the one above.
