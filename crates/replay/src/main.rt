@@ -178,64 +178,61 @@ fn replay(rt: &HostRuntime, section: Section, name: &str) -> io::Result<()> {
     print_compared(rt, name, compared)
 }
 
-fn main(rt: HostRuntime) -> io::Result<()> {
-    replay(&rt, Section::Line, "line")?;
-    replay(&rt, Section::LineEnd, "line_end.altered")?;
-    replay(&rt, Section::Readers, "readers")?;
-    replay(&rt, Section::Init, "init.altered")?;
-    replay(&rt, Section::Init, "init.table")?;
-    replay(&rt, Section::Build, "build")?;
-    replay(&rt, Section::FlowNew, "flow_new")?;
-    replay(&rt, Section::FlowBuild, "flow_build.altered")?;
-    replay(&rt, Section::Sector, "sector.altered")?;
-    replay(&rt, Section::Sector, "sector.table")?;
-    replay(&rt, Section::Leg, "leg.altered")?;
-    replay(&rt, Section::Leg, "leg.model")?;
-    replay(&rt, Section::Leg, "leg.table")?;
-    replay(
-        &rt,
-        Section::SectorWithoutSight,
-        "sector_without_sight.altered",
-    )?;
-    replay(
-        &rt,
-        Section::SectorWithoutSight,
-        "sector_without_sight.table",
-    )?;
-    replay(&rt, Section::LegWithoutSight, "leg_without_sight.altered")?;
-    replay(&rt, Section::LegWithoutSight, "leg_without_sight.model")?;
-    replay(&rt, Section::LegWithoutSight, "leg_without_sight.table")?;
-    replay(&rt, Section::Refusals, "refusals.table")?;
-    replay(&rt, Section::LegFileWrite, "leg_file_write.model")?;
-    replay(&rt, Section::LegFileRead, "leg_file_read.model")?;
-    replay(&rt, Section::Practice, "practice.model")?;
-    replay(&rt, Section::PracticeText, "practice_text.model")?;
-    replay(&rt, Section::Bounds, "bounds.model")?;
-    replay(&rt, Section::Bounds, "bounds.table")?;
-    replay(&rt, Section::WindowCosts, "window_costs.model")?;
-    replay(&rt, Section::WindowCosts, "window_costs.table")?;
-    replay(&rt, Section::WindowTour, "window_tour.model")?;
-    replay(&rt, Section::WindowTour, "window_tour.table")?;
-    replay(&rt, Section::Arrivals, "arrivals.model")?;
-    replay(&rt, Section::Arrivals, "arrivals.table")?;
-    replay(&rt, Section::Cart, "cart.model")?;
-    replay(&rt, Section::Cart, "cart.table")?;
-    replay(&rt, Section::LegField, "leg_field.altered")?;
-    replay(&rt, Section::LegField, "leg_field.model")?;
-    replay(&rt, Section::LegField, "leg_field.table")?;
-    replay(
-        &rt,
+// The files, in the order in which they are replayed: each with the section that its records belong to.
+const FILES: [(Section, &str); 39] = [
+    (Section::Line, "line"),
+    (Section::LineEnd, "line_end.altered"),
+    (Section::Readers, "readers"),
+    (Section::Init, "init.altered"),
+    (Section::Init, "init.table"),
+    (Section::Build, "build"),
+    (Section::FlowNew, "flow_new"),
+    (Section::FlowBuild, "flow_build.altered"),
+    (Section::Sector, "sector.altered"),
+    (Section::Sector, "sector.table"),
+    (Section::Leg, "leg.altered"),
+    (Section::Leg, "leg.model"),
+    (Section::Leg, "leg.table"),
+    (Section::SectorWithoutSight, "sector_without_sight.altered"),
+    (Section::SectorWithoutSight, "sector_without_sight.table"),
+    (Section::LegWithoutSight, "leg_without_sight.altered"),
+    (Section::LegWithoutSight, "leg_without_sight.model"),
+    (Section::LegWithoutSight, "leg_without_sight.table"),
+    (Section::Refusals, "refusals.table"),
+    (Section::LegFileWrite, "leg_file_write.model"),
+    (Section::LegFileRead, "leg_file_read.model"),
+    (Section::Practice, "practice.model"),
+    (Section::PracticeText, "practice_text.model"),
+    (Section::Bounds, "bounds.model"),
+    (Section::Bounds, "bounds.table"),
+    (Section::WindowCosts, "window_costs.model"),
+    (Section::WindowCosts, "window_costs.table"),
+    (Section::WindowTour, "window_tour.model"),
+    (Section::WindowTour, "window_tour.table"),
+    (Section::Arrivals, "arrivals.model"),
+    (Section::Arrivals, "arrivals.table"),
+    (Section::Cart, "cart.model"),
+    (Section::Cart, "cart.table"),
+    (Section::LegField, "leg_field.altered"),
+    (Section::LegField, "leg_field.model"),
+    (Section::LegField, "leg_field.table"),
+    (
         Section::LegFieldWithoutSight,
         "leg_field_without_sight.altered",
-    )?;
-    replay(
-        &rt,
+    ),
+    (
         Section::LegFieldWithoutSight,
         "leg_field_without_sight.model",
-    )?;
-    replay(
-        &rt,
+    ),
+    (
         Section::LegFieldWithoutSight,
         "leg_field_without_sight.table",
-    )
+    ),
+];
+
+fn main(rt: HostRuntime) -> io::Result<()> {
+    for (section, name) in FILES {
+        replay(&rt, section, name)?;
+    }
+    Ok(())
 }
