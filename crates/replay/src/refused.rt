@@ -107,9 +107,6 @@ fn call_number(
 // A record: the call, lengths of costs, sheet and step, has_previous, length of previous, corner count, a corner's place and
 // value, four coordinates, the place of one wall among the costs, 136 step bytes; number, two zeros.
 pub fn refusal_agrees(record: &[u8]) -> bool {
-    let Some(call) = Call::named(byte_at(record, 0)) else {
-        return false;
-    };
     let costs_length = short_at(record, 1, 2);
     let sheet_length = short_at(record, 3, 4);
     let step_length = short_at(record, 5, 6);
@@ -122,14 +119,18 @@ pub fn refusal_agrees(record: &[u8]) -> bool {
     let previous = [0u32; 101];
     let mut sheet = [0x55u8; 6401];
     let has_previous = byte_at(record, 7) == 1;
-    let number = call_number(
-        call,
-        record,
-        part(&costs, 0, costs_length),
-        part(record, 21, 21 + step_length),
-        has_previous.then_some(&previous[..previous_length]),
-        front(&mut sheet, sheet_length),
-    );
+    // a byte that names no call gets a number that none has
+    let number = match Call::named(byte_at(record, 0)) {
+        None => 255,
+        Some(call) => call_number(
+            call,
+            record,
+            part(&costs, 0, costs_length),
+            part(record, 21, 21 + step_length),
+            has_previous.then_some(&previous[..previous_length]),
+            front(&mut sheet, sheet_length),
+        ),
+    };
     let before = [0x55u8; 6401];
     number == byte_at(record, 157) && (number == 0 || sheet.as_slice() == before.as_slice())
 }
