@@ -28,7 +28,8 @@ fn put_head(file: &mut [u8], count: u8)
     requires { 6 ≤ length file.old }
     ensures { file.new ≡ sets file.old 0 (76 ∷ 69 ∷ 71 ∷ 1 ∷ 0 ∷ count ∷ []) }
 {
-    file[..6].copy_from_slice(&[b'L', b'E', b'G', 1, 0, count]);
+    file[..5].copy_from_slice(b"LEG\x01\x00");
+    file[5] = count;
 }
 
 // The steps, byte by byte behind the head. By `copy_from_slice` the archive would ask its linker for memmove, beside memcpy and memset.
