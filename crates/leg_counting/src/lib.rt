@@ -22,8 +22,8 @@ fn counts(portal: PortalWindow, previous: &[u32; 100], index: usize) -> bool
     seen.straight < 65535 || seen.lower < 65535 || seen.higher < 65535
 }
 
-// The cells of a window that count, in order.
-fn counting_cells(portal: PortalWindow, previous: &[u32; 100]) -> CellList<10>
+// The cells of a window that count, in order; of any window, also one that no step's bytes make.
+pub fn counting_cells(portal: PortalWindow, previous: &[u32; 100]) -> CellList<10>
     ensures { result ≡ listed (select (counts portal previous.now) (cells_between portal.boundary portal.start portal.end)) }
 {
     let all = portal.get_all_window_cells();
