@@ -14,7 +14,7 @@ use lib.Seq.{get_or-set_same, get_or-set_other}
 use borrow.Rule.Slice.PartMut.{put_mid, mid_of}
 use Rattle.std.proofs.Common.{rules}
 use mathlib.Core.List.{reverse}
-use Rattle.std.proofs.lemmas.List.{length-reverse, get_or-reverse, places}
+use Rattle.std.proofs.lemmas.List.{length-reverse, places}
 use Rattle.std.proofs.lemmas.List.Edits.{length-between}
 use Rattle.tour_ranking.specs.Inner.{Reversed}
 

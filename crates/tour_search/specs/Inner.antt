@@ -35,3 +35,7 @@ pub record MovesReady (square : List (List ℕ)) (n : ℕ) (order : List ℕ) (f
 abbrev pub lowest : Option Tour → ℕ
 lowest None = 524288
 lowest (Some best) = best.sum
+
+-- an order that is the best so far, with its sum
+abbrev pub taken : List ℕ → ℕ → Option Tour
+taken order sum = Some (record { order = order; sum = sum })

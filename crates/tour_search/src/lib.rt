@@ -7,7 +7,7 @@ ghost use Rattle.tour_orders.specs.Orders.{orders, factorial};
 ghost use Rattle.tour_orders.specs.Told.{AllOrders};
 ghost use Rattle.tour_sums.specs.Tours.{move_cost, no_tour, best_tour, tried_count, searched_tour, told_tour};
 ghost use Rattle.tour_sums.specs.Promise.{TourSquare, BestAnswer, LeastAnswer};
-ghost use Rattle.tour_search.specs.Inner.{WindowNumbers, MovesReady, weight, weighed, SumsKept, lowest};
+ghost use Rattle.tour_search.specs.Inner.{WindowNumbers, MovesReady, weight, weighed, SumsKept, lowest, taken};
 
 use tour_sums::{SearchedTour, Tour};
 
@@ -56,6 +56,15 @@ fn lowest(best: Option<Tour>) -> u32
     best.map_or(NO_ORDER, |tour| tour.sum)
 }
 
+// An order with its sum, as the best so far. Few orders are taken, and so this is a call of its own: put into its caller, it would read the bytes of
+// every order as one word right after they were moved about, for which the processor waits.
+#[inline(never)]
+fn taken(order: &[u8; 8], sum: u32) -> Option<Tour>
+    ensures { result ≡ taken order.now sum }
+{
+    Some(Tour { order: *order, sum })
+}
+
 // The best of the first orders of the dictionary: an order is taken where its sum is lower than all before.
 fn best_tour(square: &[[u32; 8]; 8], n: usize, tried: usize) -> Option<Tour>
     requires { TourSquare square.now n × (tried ≤ factorial (n - 1)) }
@@ -68,7 +77,7 @@ fn best_tour(square: &[[u32; 8]; 8], n: usize, tried: usize) -> Option<Tour>
     for _place in 0..tried {
         let sum = add_moves(square, &order, n, changed, &mut sums);
         if sum < lowest(best) {
-            best = Some(Tour { order, sum });
+            best = taken(&order, sum);
         }
         changed = tour_ranking::next_order(&mut order, n);
     }

@@ -1,8 +1,7 @@
 -- `tour_ranking::next_order` meets its contract: the places that are found are those of the change from the order to the next.
 -- Assumes nothing.
-use Rattle.std.proofs.Common.{◌+◌, arith}
+use Rattle.std.proofs.Common.{arith}
 use Rattle.tour_ranking.proofs.Made.{next_made}
-use Rattle.tour_ranking.proofs.Reversing.{part_reversed}
 use Rattle.tour_ranking.proofs.next_order.Goals as goal
 
 pub returns : goal.returns
@@ -11,5 +10,5 @@ returns c place h e =
     (record {
       rise = c.last_rise-at.ensures.1;
       above = c.last_above-to.ensures.1;
-      made = λ long. rw (c.reverse.ensures.after, c.swap.ensures.after) (part_reversed _ (c.last_rise-at.result + 1) c.args.n c.last_rise-at.ensures.0 (omega (arith, long)));
+      made = rw c.swap.ensures.after at c.reverse.ensures;
     })

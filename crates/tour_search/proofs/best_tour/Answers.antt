@@ -1,7 +1,7 @@
 -- `tour_search::best_tour` meets its contract. The loop's invariant: the best of the first `place` orders is known; and where there is an order at
 -- `place`, it is the one made, and its sums are kept for the places before `changed`.
 -- Assumes nothing.
-use Rattle.std.proofs.Common.{◌≡◌, sym, ◌-◌, ◌<◌, ◌≤◌, suc, take, add-one, arith}
+use Rattle.std.proofs.Common.{◌≡◌, ◌∙◌, sym, ◌-◌, ◌<◌, ◌≤◌, suc, take, add-one, arith}
 use mathlib.Core.Path.{subst}
 use Rattle.std.specs.Prelude.{Option}
 use Rattle.tour_sums.specs.declared.Tour.{Tour}
@@ -47,7 +47,7 @@ module _ (c : goal.After-next_order-changed) where
       elim c.if-sum-lowest.branch [
         | then-sum-lowest w ↦
             let less : c.add_moves-sum.result < lowest l.best = omega (arith, below, w.if-sum-lowest.true) in
-            subst Better (sym w.best-is) (
+            subst Better (sym (w.best-is ∙ w.taken-best.ensures)) (
               tried_taken square c.args.n s l._place inside l.best l.invariant.known l.order is _ weighs most less,
               omega (arith, less, most),
             )
