@@ -174,11 +174,11 @@ static bool call_longest_way(void)
 
 /* ---- what the compiler's code asks for */
 
-enum { COPY, SET, UNSIGNED_64, SIGNED_64, PRODUCT_64, UNSIGNED_32, HELPERS };
+enum { COPY, SET, UNSIGNED_64, SIGNED_64, PRODUCT_64, UNSIGNED_32, CASES, HELPERS };
 
 static const char *const HELPER_NAMES[HELPERS] = {
     [COPY] = "memcpy", [SET] = "memset", [UNSIGNED_64] = "__aeabi_uldivmod", [SIGNED_64] = "__aeabi_ldivmod",
-    [PRODUCT_64] = "__aeabi_lmul", [UNSIGNED_32] = "__aeabi_uidivmod",
+    [PRODUCT_64] = "__aeabi_lmul", [UNSIGNED_32] = "__aeabi_uidivmod", [CASES] = "__gnu_thumb1_case_uqi",
 };
 
 static uint32_t helper_used[HELPERS];
@@ -187,6 +187,21 @@ static uint32_t helper_used[HELPERS];
 
 static volatile uint64_t long_result;
 static volatile uint32_t result;
+
+/* A switch that gcc makes a table of jumps for: a Cortex-M0 goes through it by a helper. */
+static void go_by_case(uint32_t of, uint32_t c, uint32_t d)
+{
+    switch (of) {
+    case 0: result = c + d; break;
+    case 1: long_result = c; break;
+    case 2: result = c - d; result = d; break;
+    case 3: long_result = d; result = c; break;
+    case 4: result = c & d; break;
+    case 5: result = c | d; long_result = 1; break;
+    case 6: result = c ^ d; break;
+    default: long_result = c + 1; break;
+    }
+}
 
 /* Each on numbers, lengths and places that are drawn. */
 static void call_helpers(void)
@@ -202,6 +217,7 @@ static void call_helpers(void)
     PAINTED_HELPER(PRODUCT_64, long_result = a * b);
     PAINTED_HELPER(UNSIGNED_32, result = c / d);
     PAINTED_HELPER(UNSIGNED_32, result = c % d);
+    PAINTED_HELPER(CASES, go_by_case(below(8), c, d));
 }
 
 /* ---- what is told */

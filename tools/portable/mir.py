@@ -89,6 +89,10 @@ def tree(body):
             return [("exit", s[k])]
         if k == "Assign":
             return [("assign", s[k][0], s[k][1])]
+        if k == "LendStatic":
+            return [("assign", s[k][0], {"Static": [s[k][1], s[k][2]]})]
+        if k == "Unreachable":
+            return [("unreachable",)]
         if k == "Call":
             if key(s[k][0]) != "Direct":
                 refuse(f"call {told(s[k][0])}")
@@ -107,6 +111,35 @@ def tree(body):
     return made
 
 
+def flat(statements):
+    """A tree as a body again, in prefix order."""
+    if not statements:
+        return ["Skip"]
+    s, rest = statements[0], statements[1:]
+    k = s[0]
+    if k in ("block", "loop"):
+        made = [k.capitalize(), *flat(s[1])]
+    elif k == "if":
+        made = [{"If": s[1]}, *flat(s[2]), *flat(s[3])]
+    elif k == "switch":
+        made = [{"Switch": [s[1], [v for v, _ in s[2]], s[3] is not None]}]
+        for _, arm in s[2]:
+            made += flat(arm)
+        if s[3] is not None:
+            made += flat(s[3])
+    elif k == "assign":
+        made = [{"Assign": [s[1], s[2]]}]
+    elif k == "call":
+        made = [{"Call": [{"Direct": s[1]}, s[2], s[3]]}]
+    elif k == "return":
+        made = ["Return"]
+    elif k == "exit":
+        made = [{"Exit": s[1]}]
+    else:
+        made = refuse(f"a {k} in a body")
+    return ["Seq", *made, *flat(rest)] if rest else made
+
+
 def operands(rvalue):
     """The operands of an rvalue; the place whose address is taken is no operand."""
     k = key(rvalue)
@@ -121,7 +154,7 @@ def operands(rvalue):
         return list(v)
     if k == "Repeat":
         return [v[0]]
-    if k == "AddrOf":
+    if k in ("AddrOf", "Static"):
         return []
     return refuse(f"rvalue {told(rvalue)}")
 

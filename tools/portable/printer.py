@@ -1,18 +1,31 @@
 """Prints the proved MIR of a Rattle library as one C file. tools/portable/make calls it; tools/portable/test tries each rule below.
 
+It reads what instances.py makes of the MIR, in which no function has a type parameter; that file has the rules by which it does so.
+
 The rules, by the names under which tools/portable/test tries them:
 
     words       A number of 64 bits is a uint64_t on every machine, since the proof is of 64-bit words; no other width stands for it.
     narrow      Sums, differences, products, quotients, remainders, `and` and `or` below 32 bits are worked out in uint32_t and cut back:
                 C would promote them to int. 32 and 64 bits are worked out in their own type. No shift is known.
+    wraps       A sum of 32 bits that wraps is the sum modulo 2 to the 32, a named function; no other operation wraps.
     signed      No signed type stands in the file. Signed numbers, of 64 bits alone, are uint64_t: a sum or a product that is proved to
                 fit has the same bits, and an order is that of the two words with their top bit turned. Each is a named function.
-    offsets     An offset is a number of bytes of the proved layout, and is added to a `uint8_t *` alone. The size of every type of which
-                there are arrays is asserted.
+    offsets     An offset is a number of bytes of the proved layout, and is added to a `uint8_t *` alone. The size of every type of numbers
+                that a pointer leads to is asserted.
+    sizes       A size that the MIR names by its type is C's sizeof of that type: a type with a pointer or a variant in it has the size that
+                the machine gives it, and arrays of it are made and gone through by the same size. An offset to such a type, by any other
+                number, is refused.
     elements    Memory that is lent is read and written through its own element type. A pointer to an array is a pointer to its first
-                element; a struct is read or written whole only where that struct stands. Whole arrays are copied by memcpy.
+                element; a struct is read or written whole only where that struct stands. Whole arrays are copied by memcpy, and none from
+                lent memory to lent memory.
+    references  A reference to a value is a pointer to it, and may stand in a struct. A local whose address is taken stays a local. A raw
+                pointer that a struct keeps is one to write through.
     const       What is lent for reading is a pointer to const, and no cast takes a const away.
-    null        NULL enters no sum and no memcpy: the part of a slice that begins at 0 is the slice's own pointer.
+    null        NULL enters no sum and no memcpy: a pointer that is handed on, and not followed alone, is made by a function that adds nothing
+                where 0 is to be added. The part of a slice that begins at 0 is the slice's own pointer. A pointer that is followed alone is
+                followed before the next test.
+    lent        A constant that a function lends is a `static const` object. A struct that its address goes into is made member by member:
+                gcc keeps a whole one ready, for some machines among what is not constant.
     header      Each export is defined with the header's own types and parameter names, and the structs that it takes or answers are the
                 header's: their members are held, one by one, to the fields of the MIR.
     temporaries A temporary is left out only where each of its values is read once, and by the very next statement.
@@ -24,7 +37,10 @@ The rules, by the names under which tools/portable/test tries them:
     tail        A function that calls itself as the last thing it does goes back to its beginning instead, where no local of its own is
                 lent to the call.
     inline      Every function but an export is `static inline`. One that is called with a direction, or another variant, that is written at
-                the call is IN_LINE: for gcc and clang, where they compile for speed, always in line; for others the same as the rest.
+                the call is IN_LINE, as are closures and the functions of the kit: for gcc and clang, where they compile for speed, always
+                in line; for others the same as the rest. One of which the source says `inline(never)` is NOT_IN_LINE, for gcc and clang
+                never in line, and so is one whose answer has more than 1,000 bytes: it works on a stack of its own, which is free again
+                when it ends. These are hints, and change no answer.
     exits       An exit of a block around a loop is a `break` where nothing else stands between, and a `goto` behind the block otherwise.
     unroll      Before a loop of at most ten turns, by a constant, in which no other loop runs, and before any of at most four, stands UNROLL:
                 for gcc and clang, where they compile for speed, a hint, and nothing else.
@@ -32,11 +48,8 @@ The rules, by the names under which tools/portable/test tries them:
     table       A switch without a default on 0, 1, 2 and so on, in which each arm does nothing but call one function with constants, is
                 printed as one call: an argument that is not the same in all arms is read from a `static const` table, since the proof
                 says that no other value comes. A compiler that made a jump of such a switch took twice the archive's time for arrivals.
-    kit         Nothing of the kit is printed. `std::num::wrapping_add_u32` is written here from its contract; any other is refused.
     refused     Every operation, type, statement or function that is not named in this file is refused by its name.
 """
-import hashlib
-import json
 import re
 
 from mir import (count, element, erased, every, inside, is_array, is_number, key, local_of, mentions, operands, read_locals, refuse, told, tree,
@@ -44,6 +57,7 @@ from mir import (count, element, erased, every, inside, is_array, is_number, key
 
 WIDTHS = (8, 16, 32, 64)
 TURNS, TURNS_AROUND = 10, 4     # the hint to unroll: of a loop without another in it, and of any other
+LARGE = 1000            # a function whose answer has more bytes is kept apart, so that the memory that it works in is given back at its end
 LONGEST = 110           # a temporary is not left out where the text that stands for it would be longer
 
 # Unsigned operations on numbers, and those on bools; each with its sign in C.
@@ -51,15 +65,12 @@ ARITHMETIC = {"Add": "+", "Sub": "-", "Mul": "*", "Div": "/", "Rem": "%"}
 BITS = {"And": "&", "Or": "|"}
 ORDERS = {"Lt": "<", "Le": "<="}
 EQUALS = {"Eq": "==", "Ne": "!="}
-OF_BOOLS = {"And": "&", "Or": "|"}
+OF_BOOLS = {"And": "&", "Or": "|", "Eq": "==", "Ne": "!="}
 SIGNED = {"Add": "signed_sum", "Mul": "signed_product", "Lt": "signed_less", "Le": "signed_at_most"}
-
-# The one function of the kit that is known: of its contract, the sum modulo 2 to the 32.
-KIT = {"std::num::wrapping_add_u32": "wrapping_add_u32"}
 
 HELPERS = {
     "wrapping_add_u32": """\
-/* std::num::wrapping_add_u32, written from its contract: the sum modulo 4294967296. */
+/* The sum modulo 4294967296. */
 MAY_WRAP static inline uint32_t wrapping_add_u32(uint32_t a, uint32_t b)
 {
     return a + b;
@@ -145,7 +156,7 @@ class Header:
                 if declared == "void":
                     continue
                 m = re.fullmatch(r"(const )?(\w+) (\*?)(\w+)", " ".join(declared.split()))
-                if not m:
+                if not m or re.fullmatch(r"(x|nx|a|k|out)\d+|\w*__\w*", m[4]):      # names of our own
                     refuse(f"parameter `{declared}` of the header's {name}")
                 parameters.append((bool(m[1]), m[2], bool(m[3]), m[4]))
             self.functions[name] = (answer, parameters)
@@ -156,8 +167,8 @@ class Header:
 class Types:
     """The types of MIR in C, and the declarations that they need, in order."""
 
-    def __init__(self, shapes, header):
-        self.shapes, self.header = shapes, header
+    def __init__(self, shapes, header, notes):
+        self.shapes, self.header, self.notes = shapes, header, notes
         self.bound = {}             # a named type of MIR: the header's struct
         self.declared = {}          # a type's name in C: its declaration
         self.elements = {}          # a type of which there are arrays: its size
@@ -208,20 +219,22 @@ class Types:
             return self.pointer(t)
         if k == "Named":
             return self.named(t["Named"]["name"])
+        if t == "Ptr":
+            return "uint8_t *"
         return refuse(f"type {told(t)}")
 
     def pointer(self, t):
-        """A reference: a pointer to an element, to const where it is lent for reading."""
+        """A reference: a pointer to a value, of an array to its first element; to const where it is lent for reading."""
         mode, of = t["Ref"][1], element(t["Ref"][2])
-        if mode not in ("Imm", "Mut") or not (is_number(of) or of == "Bool" or key(of) == "Named" and is_array(t["Ref"][2])):
+        if mode not in ("Imm", "Mut"):
             refuse(f"type {told(t)}")
         self.size_of_element(of)
-        return f"{'const ' if mode == 'Imm' else ''}{self.c(of)} *"
+        return pointer_to(self.c(of), mode == "Imm")
 
     def array(self, t):
         of = element(t)
         self.size_of_element(of)
-        name = f"array_{count(t)}_{self.c(of)}"
+        name = f"array_{count(t)}_{as_word(self.c(of))}"
         self.declare(name, f"typedef struct {{ {self.c(of)} at[{count(t)}]; }} {name};")
         return name
 
@@ -229,9 +242,7 @@ class Types:
         if t["Struct"][0] != "&[]" or len(t["Struct"][1]) != 2 or key(t["Struct"][1][0]) != "Ref" or t["Struct"][1][1] != {"Int": 64}:
             refuse(f"type {told(t)}")
         at = t["Struct"][1][0]
-        if not is_number(at["Ref"][2]):
-            refuse(f"type {told(t)}")
-        name = f"slice_{'const_' if at['Ref'][1] == 'Imm' else ''}{self.c(at['Ref'][2])}"
+        name = f"slice_{'const_' if at['Ref'][1] == 'Imm' else ''}{as_word(self.c(element(at['Ref'][2])))}"
         self.declare(name, f"typedef struct {{ {self.pointer(at)}at; uint64_t length; }} {name};")
         return name
 
@@ -240,7 +251,7 @@ class Types:
             return self.bound[name]
         if name not in self.shapes:
             refuse(f"type {name}")
-        made, shape = name.replace("::", "__"), self.shapes[name]
+        made, shape = symbol(name), self.shapes[name]
         if "Fields" in shape:
             lines = [self.member(f, f"f{i}") for i, f in enumerate(shape["Fields"])]
         elif "Variants" in shape:
@@ -249,28 +260,36 @@ class Types:
                 lines += [self.member(f, f"v{k}_f{i + 1}") for i, f in enumerate(fields)]
         else:
             refuse(f"shape {told(shape)} of {name}")
-        self.declare(made, "\n".join([f"/* {name} */", "typedef struct {"] + ["    " + x for x in lines] + [f"}} {made};"]))
+        self.declare(made, "\n".join([comment(self.notes.get(name, name)), "typedef struct {"] + ["    " + x for x in lines] + [f"}} {made};"]))
         return made
 
     def member(self, t, name):
         if is_array(t):
             self.size_of_element(element(t))
             return f"{self.c(element(t))} {name}[{count(t)}];"
-        if key(t) not in ("Int", "Named") and t != "Bool":
-            refuse(f"member of type {told(t)}")
-        return f"{self.c(t)} {name};"
+        return f"{spaced(self.c(t))}{name};"
 
     def declare(self, name, text):
         self.declared.setdefault(name, text)
 
     def size_of_element(self, t):
-        self.elements.setdefault(self.c(t), self.layout(t)[0])
+        if self.is_plain(t):
+            self.elements.setdefault(self.c(t), self.layout(t)[0])
+
+    def is_plain(self, t):
+        """Whether a type's layout has the same number of bytes on every machine, and is known: a number, a bool, a variant where none has
+        fields, and arrays and structs of these."""
+        t = element(t)
+        if key(t) == "Named":
+            shape = self.shapes[t["Named"]["name"]]
+            return all(map(self.is_plain, shape["Fields"])) if "Fields" in shape else not any(shape["Variants"])
+        return is_number(t) or t == "Bool"
 
     def layout(self, t):
         """The proved size and alignment of a type: fields in order, each at a multiple of its alignment."""
         if is_number(t):
             return t["Int"] // 8, t["Int"] // 8
-        if t == "Bool":
+        if t == "Bool" or key(t) == "Named" and "Variants" in self.shapes[t["Named"]["name"]] and self.is_plain(t):
             return 1, 1
         if is_array(t):
             size, align = self.layout(element(t))
@@ -281,6 +300,13 @@ class Types:
                 at, most = -(-at // align) * align + size, max(most, align)
             return -(-at // most) * most, most
         return refuse(f"an array of {told(t)}")
+
+    def bytes(self, t):
+        """About how many bytes a value has: those of its numbers, and eight for each pointer."""
+        if key(t) == "Named":
+            shape = self.shapes[t["Named"]["name"]]
+            return sum(map(self.bytes, (f for fields in shape.get("Variants", [shape.get("Fields")]) for f in fields)))
+        return self.layout(t)[0] if is_number(t) else self.bytes(element(t)) * count(t) if is_array(t) else 8
 
     def field(self, t, i):
         """The type and the C name of a field."""
@@ -303,11 +329,43 @@ class Types:
 # ---- functions
 
 def symbol(name):
-    return name.replace("::", "__")
+    """The name of a function or of a type of MIR as a name of C."""
+    name = re.sub(r"\((,+)\)", lambda commas: f"tuple_of_{len(commas[1]) + 1}", name)
+    return re.sub(r"\W", "_", name.replace("::", "__"))
+
+
+def as_word(c):
+    """A type of C as a part of a name."""
+    return re.sub(r"\W+", "_", c.replace("*", "at").strip())
+
+
+def spaced(c):
+    """A type of C before a name."""
+    return c if c.endswith("*") else c + " "
+
+
+def pointer_to(c, const):
+    """A pointer to a type of C; a pointer to a const pointer has its const behind that pointer's star."""
+    if c.endswith("*"):
+        return f"{c}{'const ' if const else ''}*"
+    return f"{'const ' if const else ''}{c} *"
 
 
 def place_of(x):
     return {"local": x, "steps": []}
+
+
+def places_of(node):
+    """The places that a statement mentions itself."""
+    if isinstance(node, dict):
+        if "local" in node and "steps" in node:
+            return [node]
+        node = list(node.values())
+    if not isinstance(node, (list, tuple)) or node and node[0] in ("block", "loop"):
+        return []
+    if node and node[0] in ("if", "switch"):
+        node = node[1:2]
+    return [place for part in node for place in places_of(part)]
 
 
 def renamed(node, x, to):
@@ -337,18 +395,26 @@ class Function:
             if key(t) not in ("Int", "Bool", "Unit", "Ptr", "Ref", "Array", "Struct", "Named") or is_number(t) and t["Int"] not in WIDTHS:
                 refuse(f"type {told(t)} in {name}")
         for i in self.params:
-            if self.locals[i] in ("Unit", "Ptr"):
+            if self.locals[i] == "Unit":
                 refuse(f"parameter of type {told(self.locals[i])} of {name}")
+        if self.locals[0] == "Ptr":
+            refuse(f"an answer of type {told(self.locals[0])} of {name}")
 
     # -- what is looked at before printing
 
     def prepare(self):
         self.find_constants()
         self.drop_dead()
-        self.body = self.find_choices(self.body)
+        self.body = self.find_choices(self.body, self.params)
         self.find_tails()
         self.split_pointers()
         self.to_write = self.written_pointers()
+        self.addressed = {s[2]["AddrOf"]["local"] for s in every(self.body)
+                          if s[0] == "assign" and key(s[2]) == "AddrOf" and not self.through(s[2]["AddrOf"])}
+        self.parts = set()
+        self.find_parts(self.body)
+        self.refuse_strides()
+        self.lent = self.find_lent()
         self.pairs = self.find_pairs()
 
     def writes(self, x):
@@ -380,17 +446,34 @@ class Function:
         while more:
             more = False
             for s in every(self.body):
+                if s[0] == "call":
+                    own, pointed = s[1] == self.name, any(self.operand_type(o) == "Ptr" for o in s[2])
+                    written = found if own else self.unit.written_parameters(s[1]) if pointed else ()
+                    new = {local_of(o) for i, o in enumerate(s[2], 1) if i in written} - found
+                    found |= new
+                    more = more or bool(new)
+                if s[0] == "again":
+                    new = {local_of(o) for i, o in zip(self.params, s[1]) if i in found and self.operand_type(o) == "Ptr"} - found
+                    found |= new
+                    more = more or bool(new)
                 if s[0] != "assign":
                     continue
                 place, new = s[1], set()
                 if self.through(place):
                     new.add(place["local"])
-                if not place["steps"] and (place["local"] in found or self.is_for_writing(self.locals[place["local"]])):
+                if not place["steps"] and place["local"] in found or self.is_for_writing(self.place_type(place)) or self.keeps_pointer(s):
                     new.update(x for x in read_locals(s) if self.locals[x] == "Ptr")
                 new = {x for x in new if self.locals[x] == "Ptr"} - found
                 found |= new
                 more = more or bool(new)
         return found
+
+    def keeps_pointer(self, s):
+        """Whether a statement puts a raw pointer into a struct. There it is one that is written through."""
+        t = self.place_type(s[1])
+        if t == "Ptr" and s[1]["steps"]:
+            return True
+        return key(s[2]) == "Aggregate" and key(t) == "Named" and any(self.operand_type(o) == "Ptr" for o in s[2]["Aggregate"])
 
     @staticmethod
     def is_for_writing(t):
@@ -429,11 +512,11 @@ class Function:
                     known[x] = value
         listed = {x for x in known if key(next(self.writes(x))[2]) == "Aggregate"}
         rows = {local_of(o) for x in listed for o in next(self.writes(x))[2]["Aggregate"]}
+        elsewhere = {x for s in every(self.body) if not (s[0] == "assign" and s[1]["local"] in listed) for x in read_locals(s)}
         for x in sorted(listed):
-            elsewhere = any(x in read_locals(s) for s in every(self.body) if not (s[0] == "assign" and s[1]["local"] in listed))
-            if x not in rows or elsewhere:
+            if x not in rows or x in elsewhere:
                 self.constants[x] = self.unit.constant(self.name, x, self.locals[x], known[x])
-        gone = {id(s) for x in known if x in self.constants or x in rows for s in self.writes(x)}
+        gone = {id(s) for x in known if x in self.constants or x in rows and x not in elsewhere for s in self.writes(x)}
         self.body = without(self.body, gone)
         self.fill_by_calls()
 
@@ -474,6 +557,68 @@ class Function:
                 return
             self.body = without(self.body, gone)
 
+    def followed(self):
+        """The types at which each raw pointer is followed: by itself, by a copy of it, by a pointer made of it, and in what it is handed to."""
+        found = {x: [] for x, t in enumerate(self.locals) if t == "Ptr"}
+
+        def add(x, types):
+            new = [t for t in types if t not in found[x]]
+            found[x] += new
+            return bool(new)
+
+        more = True
+        while more:
+            more = False
+            for s in every(self.body):
+                for place in places_of(s):
+                    if place["local"] in found and place["steps"]:
+                        more |= add(place["local"], [element(place["steps"][0]["Deref"])])
+                handed = operands(s[2]) if s[0] == "assign" else s[2] if s[0] == "call" else s[1] if s[0] == "again" else []
+                for i, o in enumerate(handed):
+                    if local_of(o) in found and not o[key(o)]["steps"]:
+                        more |= add(local_of(o), self.types_behind(s, i, found))
+        return found
+
+    def types_behind(self, s, i, found):
+        """The types at which operand i of a statement, a raw pointer, is followed behind it."""
+        if s[0] == "again" or s[0] == "call" and s[1] == self.name:
+            return list(found.get(i + 1, ()))
+        if s[0] == "call":
+            return self.unit.followed_parameters(s[1]).get(i + 1, [])
+        t = self.place_type(s[1])
+        if key(s[2]) == "Aggregate":
+            t = self.members(s[2]["Aggregate"], t)[i][0]
+        if t == "Ptr":
+            return list(found.get(s[1]["local"], ())) if not s[1]["steps"] and key(s[2]) != "Aggregate" else []
+        return [element(t["Ref"][2])] if key(t) == "Ref" else []
+
+    def refuse_strides(self):
+        """Refuses an offset to a type whose size is the machine's, where it is not worked out from that size."""
+        followed, sizes = self.followed(), {}
+        for s in every(self.body):
+            if s[0] == "assign" and not s[1]["steps"] and self.locals[s[1]["local"]] == {"Int": 64}:
+                sizes.setdefault(s[1]["local"], []).append(self.size_in(s[2]))
+        for s in every(self.body):
+            if s[0] == "assign" and key(s[2]) == "Op2" and key(s[2]["Op2"][0]) == "Offset":
+                by = sizes.get(local_of(s[2]["Op2"][2]), [None])
+                for t in followed[s[1]["local"]]:
+                    if not self.types.is_plain(t) and any(size != t for size in by):
+                        refuse(f"an offset to a {told(t)} that is not by its size in {self.name}")
+
+    @staticmethod
+    def size_in(r):
+        """The type of whose size an rvalue is a multiple."""
+        named = [o["SizeOf"] for o in r["Op2"][1:] if key(o) == "SizeOf"] if key(r) == "Op2" and key(r["Op2"][0]) == "Mul" else []
+        return element(named[0]) if len(named) == 1 else None
+
+    def find_lent(self):
+        """The locals that are the address of a constant that the function lends, and of its first element."""
+        found = set()
+        for s in every(self.body):
+            if s[0] == "assign" and (key(s[2]) == "Static" or key(s[2]) == "AddrOf" and s[2]["AddrOf"]["local"] in found):
+                found.add(s[1]["local"])
+        return found
+
     def find_pairs(self):
         """The statements whose value may be left out: each value of the local is read once, by the next statement."""
         reads, after = {}, {}
@@ -482,10 +627,13 @@ class Function:
                 reads[x] = reads.get(x, 0) + 1
 
         def look(statements):
+            carried = None              # a local whose value has a call in it, and is left out
             for s, then in zip(statements, statements[1:]):
-                x = self.made_by(s)
-                if x is not None and read_locals(then).count(x) == 1 and self.takes(then, x, s):
+                x, calls = self.made_by(s), s[0] == "call" or carried in read_locals(s)
+                carried = None
+                if x is not None and read_locals(then).count(x) == 1 and self.takes(then, x, calls):
                     after.setdefault(x, []).append(s)
+                    carried = x if calls else None
             for s in statements:
                 for part in inside(s):
                     look(part)
@@ -496,61 +644,74 @@ class Function:
     def made_by(self, s):
         """The local that a statement makes as a whole, where it may be a temporary."""
         place = s[1] if s[0] == "assign" else s[3] if s[0] == "call" else None
-        if place is None or place["steps"] or place["local"] in self.params or place["local"] in self.constants:
+        if place is None or place["steps"] or place["local"] in self.params or place["local"] in self.constants \
+                or place["local"] in self.addressed:
             return None
         t = self.locals[place["local"]]
         if s[0] == "assign" and is_array(t) and key(s[2]) == "Opd" and place["local"] == 0 and not s[2]["Opd"][key(s[2]["Opd"])]["steps"]:
             return 0
-        if t == "Unit" or s[0] == "assign" and (is_array(t) or key(s[2]) == "Repeat" or key(s[2]) == "Aggregate" and not self.is_one_value(t)):
+        if t == "Unit" or s[0] == "assign" and (is_array(t) or key(s[2]) == "Repeat" or key(s[2]) == "Aggregate" and self.is_by_members(s[2], t)):
             return None
         return place["local"]
 
-    def is_one_value(self, t):
-        """Whether an aggregate of this type is printed as one expression: it has neither arrays nor structs in it."""
+    def is_by_members(self, r, t):
+        """Whether an aggregate is made member by member: one with an array in it, or with a constant's address."""
+        if any(local_of(o) in self.lent for o in r["Aggregate"]):
+            return True
         if key(t) == "Struct":
-            return True
-        if key(t) != "Named":
             return False
-        shape = self.types.shapes[t["Named"]["name"]]
-        return "Variants" in shape or all(is_number(f) or f == "Bool" for f in shape["Fields"])
-
-    def takes(self, then, x, s):
-        """Whether the next statement may have the expression in the local's place."""
-        if then[0] in ("if", "switch", "return"):
+        if key(t) != "Named":
             return True
+        shape = self.types.shapes[t["Named"]["name"]]
+        return any(is_array(f) for fields in shape.get("Variants", [shape.get("Fields")]) for f in fields)
+
+    def takes(self, then, x, calls):
+        """Whether the next statement may have the expression in the local's place. One with a call in it goes where nothing else is worked
+        out beside it, and once: into a test, an answer, or a copy."""
+        if then[0] in ("if", "return"):
+            return True
+        if then[0] in ("assign", "call"):
+            to = then[1] if then[0] == "assign" else then[3]
+            if to["local"] == x and not self.through(to):
+                return False
+        if then[0] == "switch":
+            return not (calls and self.calls_of(then))
         if then[0] == "again":
-            return s[0] != "call"
-        if s[0] == "call":
+            return not calls
+        if calls:
             return then[0] == "assign" and key(then[2]) == "Opd" and not then[1]["steps"] and not is_array(self.locals[x]) \
                 and then[2]["Opd"][key(then[2]["Opd"])]["steps"] == []
         if then[0] == "call":
             return True
-        return key(then[2]) not in ("Aggregate", "Repeat") or key(then[2]) == "Aggregate" and self.is_one_value(self.place_type(then[1]))
+        return key(then[2]) not in ("Aggregate", "Repeat") or key(then[2]) == "Aggregate" and not self.is_by_members(then[2], self.place_type(then[1]))
 
-    def is_choice(self, s, x):
-        """Whether a statement sets a local, x or any, to a number that is there already: another local or a constant."""
+    def is_choice(self, s, x, known):
+        """Whether a statement sets a local, x or any, to a number that is there already: another local, which is set, or a constant."""
         if s[0] != "assign" or s[1]["steps"] or x not in (None, s[1]["local"]) or not is_number(self.locals[s[1]["local"]]) or key(s[2]) != "Opd":
             return False
         o = s[2]["Opd"]
-        return key(o) == "Int" or local_of(o) is not None and not o[key(o)]["steps"]
+        return key(o) == "Int" or local_of(o) in known and not o[key(o)]["steps"]
 
-    def find_choices(self, statements):
-        """Ifs that choose between two numbers become one statement."""
-        made = []
+    def find_choices(self, statements, known):
+        """Ifs that choose between two numbers become one statement. `known`: the locals that are set before these statements."""
+        made, known = [], set(known)
         for at, s in enumerate(statements):
+            if s[0] in ("assign", "call"):
+                place = s[1] if s[0] == "assign" else s[3]
+                known.update(() if place["steps"] else (place["local"],))
             if s[0] == "if":
                 then, otherwise, rest = s[2], s[3], statements[at + 1:]
-                if len(then) == len(otherwise) == 1 and self.is_choice(then[0], None) and self.is_choice(otherwise[0], then[0][1]["local"]):
+                if len(then) == len(otherwise) == 1 and self.is_choice(then[0], None, known) and self.is_choice(otherwise[0], then[0][1]["local"], known):
                     made.append(("assign", then[0][1], {"Choose": [s[1], then[0][2]["Opd"], otherwise[0][2]["Opd"]]}))
                     continue
                 if not otherwise and len(then) == len(rest) == 2 and then[1] == rest[1] == ("return",) \
-                        and self.is_choice(then[0], 0) and self.is_choice(rest[0], 0):
+                        and self.is_choice(then[0], 0, known) and self.is_choice(rest[0], 0, known):
                     return made + [("assign", place_of(0), {"Choose": [s[1], then[0][2]["Opd"], rest[0][2]["Opd"]]}), ("return",)]
-                s = ("if", s[1], self.find_choices(then), self.find_choices(otherwise))
+                s = ("if", s[1], self.find_choices(then, known), self.find_choices(otherwise, known))
             elif s[0] in ("block", "loop"):
-                s = (s[0], self.find_choices(s[1]))
+                s = (s[0], self.find_choices(s[1], known))
             elif s[0] == "switch":
-                s = ("switch", s[1], [(v, self.find_choices(a)) for v, a in s[2]], None if s[3] is None else self.find_choices(s[3]))
+                s = ("switch", s[1], [(v, self.find_choices(a, known)) for v, a in s[2]], None if s[3] is None else self.find_choices(s[3], known))
             made.append(s)
         return made
 
@@ -576,14 +737,18 @@ class Function:
     def split_pointers(self):
         """A raw pointer that is made several times becomes several, so that each is for reading or for writing. Only where each time it is
         made and read in one list of statements."""
-        lists, todo = [], [self.body]
+        lists, around, todo = [], [], [(self.body, ())]
         while todo:
-            lists.append(todo.pop())
-            todo += [part for s in lists[-1] for part in inside(s)]
+            one, above = todo.pop()
+            todo += [(part, (*above, len(lists))) for s in one for part in inside(s)]
+            lists.append(one)
+            around.append(above)
         for x in [i for i, t in enumerate(self.locals) if t == "Ptr"]:
             mentioned = [[s for s in one if x in mentions(s)] for one in lists]
             made = [[s for s in one if s[0] == "assign" and s[1] == place_of(x) and x not in read_locals(s)] for one in mentioned]
             if sum(map(len, made)) < 2 or any(one and (not new or one[0] is not new[0]) for one, new in zip(mentioned, made)):
+                continue
+            if any(mentioned[i] and any(mentioned[j] for j in above) for i, above in enumerate(around)):
                 continue
             for one in lists:
                 now = None
@@ -622,7 +787,7 @@ class Function:
         if x in self.pending:
             s, taken = self.pending.pop(x)
             around, self.pending = self.pending, dict(taken)
-            made = (self.call(s), POSTFIX) if s[0] == "call" else self.rvalue(s[2], self.locals[x], write)
+            made = (self.call(s), POSTFIX) if s[0] == "call" else self.rvalue(s[2], self.locals[x], write or x in self.to_write)
             if self.pending:
                 raise AssertionError(f"a temporary of {self.name} is lost")
             self.pending = around
@@ -635,15 +800,20 @@ class Function:
         t, variant = self.locals[place["local"]], None
         e, level = self.local(place["local"], write)
         whole = place["local"] not in self.constants and is_array(t)
+        led = None                          # the pointer that has just been followed
         for step in place["steps"]:
             k, v = next(iter(step.items()))
             if k == "Deref":
+                led = None
                 e, t, level, whole = self.deref(e, level, t, v, write) + (False,)
+                if level == UNARY and e.startswith("*"):
+                    led = e[1:]
             elif k == "Variant":
                 variant = v
             elif k == "Field":
                 t, name = self.types.variant(t, variant, v) if variant is not None else self.types.field(t, v)
-                e, level, variant, whole = f"{self.wrap(e, level, POSTFIX)}.{name}", POSTFIX, None, False
+                e = f"{self.wrap(e, level, POSTFIX)}.{name}" if led is None else f"{self.led_by(led)}->{name}"
+                level, variant, whole, led = POSTFIX, None, False, None
             else:
                 refuse(f"step {told(step)} in {self.name}")
         return e, t, level, whole
@@ -671,6 +841,11 @@ class Function:
         return f"({'' if write else 'const '}uint8_t *){self.wrap(e, level)}", UNARY
 
     @staticmethod
+    def led_by(e):
+        """A pointer before an arrow."""
+        return e if re.fullmatch(r"\w+((\.|->)\w+)*", e) else f"({e})"
+
+    @staticmethod
     def wrap(e, level, need=UNARY):
         return e if level >= need else f"({e})"
 
@@ -687,6 +862,8 @@ class Function:
             if o["Int"]["width"] not in WIDTHS:
                 refuse(f"operand {told(o)}")
             return f"UINT{o['Int']['width']}_C({o['Int']['value']})", {"Int": o["Int"]["width"]}, POSTFIX
+        if k == "SizeOf":
+            return f"(uint64_t)sizeof({self.types.c(o[k])})", {"Int": 64}, UNARY
         if k not in ("Copy", "Move"):
             refuse(f"operand {told(o)} in {self.name}")
         e, t, level, whole = self.place(o[k])
@@ -697,9 +874,22 @@ class Function:
             return name, t, POSTFIX
         return e, t, level
 
+    def becomes(self, o, t):
+        """An operand's text as a value of a type: of the same, or of a reference to the same elements, or a pointer to bytes as a reference."""
+        e, of, level = self.operand(o)
+        if of == t:
+            return e, level
+        if key(t) == "Ref" and of == "Ptr":
+            return self.as_pointer(e, level, element(t["Ref"][2]), self.is_for_writing(t))
+        if key(of) == key(t) == "Ref" and element(of["Ref"][2]) == element(t["Ref"][2]) and t["Ref"][1] in ("Imm", of["Ref"][1]):
+            return e, level
+        return refuse(f"a {told(of)} that becomes a {told(t)} in {self.name}")
+
     def operand_type(self, o):
         if o in ("True", "False"):
             return "Bool"
+        if key(o) == "SizeOf":
+            return {"Int": 64}
         return o if isinstance(o, str) else {"Int": o["Int"]["width"]} if key(o) == "Int" else self.place_type(o[key(o)])
 
     def number(self, o, width):
@@ -714,10 +904,7 @@ class Function:
     def rvalue(self, r, t, write=False):
         k = key(r)
         if k == "Opd":
-            e, of, level = self.operand(r[k])
-            if of != t:
-                refuse(f"a {told(of)} that becomes a {told(t)} in {self.name}")
-            return e, level
+            return self.becomes(r[k], t)
         if k == "AddrOf":
             return self.address(r[k], t, write)
         if k == "Op1":
@@ -726,12 +913,14 @@ class Function:
             return self.two(r[k][0], r[k][1], r[k][2], t, write)
         if k == "Aggregate":
             return self.struct(r[k], t), POSTFIX
+        if k == "Static":
+            return self.unit.static(self.name, r[k], t), POSTFIX if is_array(r[k][0]) else UNARY
         if k == "Choose":
             return f"{self.unit.helper('choose_' + self.types.c(t))}({', '.join(self.operand(o)[0] for o in r[k])})", POSTFIX
         return refuse(f"rvalue {told(r)} in {self.name}")
 
     def address(self, place, t, write):
-        """The address of an array, or of an element that a pointer leads to: that pointer again."""
+        """The address of a value; of one that a pointer leads to, that pointer again; of an array, that of its first element."""
         write = write or self.is_for_writing(t)
         steps = place["steps"]
         if steps and key(steps[-1]) == "Deref" and not is_array(steps[-1]["Deref"]):
@@ -743,9 +932,10 @@ class Function:
                 refuse(f"the address of {told(place)} in {self.name}")
         else:
             e, of, level, whole = self.place(place, write)
-            if not is_array(of):
-                refuse(f"the address of {told(place)} in {self.name}")
-            e, level = self.elements(e, whole), POSTFIX if whole else level
+            if is_array(of):
+                e, level = self.elements(e, whole), POSTFIX if whole else level
+            else:
+                e, level = f"&{self.wrap(e, level, POSTFIX)}", UNARY
         if key(t) == "Ref" and element(t["Ref"][2]) == element(of):
             return e, level
         if t != "Ptr":
@@ -773,6 +963,8 @@ class Function:
             return self.offset(a, b, of, write)
         if of == other == {"Int": 64} and sign == "Signed" and k in SIGNED and t == (of if k in ("Add", "Mul") else "Bool"):
             return f"{self.unit.helper(SIGNED[k])}({self.operand(a)[0]}, {self.operand(b)[0]})", POSTFIX
+        if k == "WrapAdd" and sign is None and of == other == t == {"Int": 32}:
+            return f"{self.unit.helper('wrapping_add_u32')}({self.operand(a)[0]}, {self.operand(b)[0]})", POSTFIX
         if of == other and is_number(of):
             width = of["Int"]
             if (k in ARITHMETIC and sign == "Unsigned" or k in BITS and sign is None) and t == of:
@@ -797,20 +989,26 @@ class Function:
 
     def struct(self, operands_, t):
         """An aggregate without arrays in it, as one expression."""
+        texts = []
+        for o, (of, name) in zip(operands_, self.members(operands_, t)):
+            texts.append(f".{name} = {self.becomes(o, of)[0]}")
+        return f"({self.types.c(t)}){{ {', '.join(texts)} }}"
+
+    def members(self, operands_, t):
+        """The types and the names of the members that an aggregate sets."""
         if key(t) == "Named" and "Variants" in self.types.shapes[t["Named"]["name"]]:
             if key(operands_[0]) != "Int" or operands_[0]["Int"]["width"] != 8:
                 refuse(f"a variant that is not told in {self.name}")
             k = operands_[0]["Int"]["value"]
-            names = ["tag"] + [self.types.variant(t, k, i)[1] for i in range(1, len(operands_))]
             if len(operands_) != 1 + len(self.types.shapes[t["Named"]["name"]]["Variants"][k]):
                 refuse(f"a variant with other fields in {self.name}")
-        else:
-            fields = t["Struct"][1] if key(t) == "Struct" else self.types.shapes[t["Named"]["name"]]["Fields"]
-            if len(operands_) != len(fields):
-                refuse(f"a struct with other fields in {self.name}")
-            names = [self.types.field(t, i)[1] for i in range(len(operands_))]
-        texts = [f".{name} = {self.operand(o)[0]}" for name, o in zip(names, operands_)]
-        return f"({self.types.c(t)}){{ {', '.join(texts)} }}"
+            return [self.types.variant(t, k, i) for i in range(len(operands_))]
+        if key(t) not in ("Named", "Struct"):
+            refuse(f"an aggregate of type {told(t)} in {self.name}")
+        fields = t["Struct"][1] if key(t) == "Struct" else self.types.shapes[t["Named"]["name"]]["Fields"]
+        if len(operands_) != len(fields):
+            refuse(f"a struct with other fields in {self.name}")
+        return [self.types.field(t, i) for i in range(len(operands_))]
 
     # -- statements
 
@@ -820,11 +1018,7 @@ class Function:
         self.lines.append("    " * self.depth + text)
 
     def call(self, s, arguments=None):
-        if s[1] in KIT:
-            called = self.unit.helper(KIT[s[1]])
-        else:
-            called = symbol(s[1])
-        return f"{called}({', '.join(arguments or [self.operand(o)[0] for o in s[2]])})"
+        return f"{symbol(s[1])}({', '.join(arguments or [self.operand(o)[0] for o in s[2]])})"
 
     def assign(self, place, r):
         t = self.place_type(place)
@@ -832,31 +1026,70 @@ class Function:
             return
         if is_array(t):
             self.assign_array(place, r, t)
-        elif key(r) == "Aggregate" and not self.is_one_value(t):
+        elif key(r) == "Aggregate" and self.is_by_members(r, t):
             self.assign_members(place, r["Aggregate"], t)
         else:
             e, _, _, _ = self.place(place, True)
             write = place["local"] in self.to_write and not place["steps"]
-            self.makes_part = key(r) == "Op2" and key(r["Op2"][0]) == "Offset" and self.is_reborrowed(place)
+            self.makes_part = id(r) in self.parts
             text, _ = self.rvalue(r, t, write)
             self.makes_part = False
             self.put(f"{e} = {text};")
 
-    def is_reborrowed(self, place):
-        """Whether a pointer is one to a part of a slice: a reference to an element is made of it."""
-        return not place["steps"] and any(
-            s[0] == "assign" and key(s[2]) == "AddrOf" and s[2]["AddrOf"]["local"] == place["local"] and self.through(s[2]["AddrOf"])
-            and not is_array(self.place_type(s[2]["AddrOf"])) for s in every(self.body))
+    def find_parts(self, statements):
+        """The offsets whose pointer is handed on: it may be NULL then, as that of a slice without elements is. One that is neither handed on
+        nor followed before the next test may lead beyond its memory, which C does not allow."""
+        for at, s in enumerate(statements):
+            if s[0] == "assign" and key(s[2]) == "Op2" and key(s[2]["Op2"][0]) == "Offset":
+                if s[1]["steps"] or self.is_handed_on(s[1]["local"]):
+                    self.parts.add(id(s[2]))
+                elif not self.is_followed(s[1]["local"], statements[at + 1:]):
+                    refuse(f"an offset that is not followed before the next test in {self.name}")
+            for part in inside(s):
+                self.find_parts(part)
+
+    def is_handed_on(self, x):
+        """Whether a pointer is read as a value, or as a reference to what it leads to."""
+        for s in every(self.body):
+            if s[0] == "assign" and key(s[2]) == "AddrOf" and s[2]["AddrOf"]["local"] == x and self.through(s[2]["AddrOf"]):
+                if not is_array(self.place_type(s[2]["AddrOf"])):
+                    return True
+            read = operands(s[2]) if s[0] == "assign" else s[2] if s[0] == "call" else s[1] if s[0] == "again" else ()
+            if any(o in ({"Copy": place_of(x)}, {"Move": place_of(x)}) for o in read):
+                return True
+        return False
+
+    @staticmethod
+    def is_followed(x, statements):
+        """Whether the first of these statements that is no plain one, or mentions the pointer, is a plain one that follows it."""
+        for s in statements:
+            if s[0] not in ("assign", "call") or x in mentions(s):
+                return s[0] in ("assign", "call") and any(place["local"] == x and place["steps"] for place in places_of(s))
+        return False
+
+    def may_overlap(self, place, o):
+        """Whether a place and an operand may be the same memory: both that a pointer leads to, or one that and the other a local whose
+        address is taken."""
+        if key(o) not in ("Copy", "Move") or not (self.through(place) or self.through(o[key(o)])):
+            return False
+        both = place, o[key(o)]
+        if all(map(self.through, both)):
+            return True
+        led, other = both if self.through(place) else reversed(both)
+        given = led["local"] in self.params and not any(self.writes(led["local"]))      # leads to no local of this function
+        return other["local"] in self.addressed and not given
 
     def assign_array(self, place, r, t):
         e, _, _, whole = self.place(place, True)
         if key(r) == "Repeat":
+            if is_array(t["Array"][0]) and self.may_overlap(place, r["Repeat"][0]):
+                refuse(f"an array that repeats a part of what it is written to in {self.name}")
             self.repeat(self.elements(e, whole), whole and e, r["Repeat"], t)
         elif key(r) == "Aggregate" and whole and not is_array(t["Array"][0]) and len(r["Aggregate"]) == count(t):
             self.put(f"{e} = ({self.types.c(t)}){{ {{ {', '.join(self.operand(o)[0] for o in r['Aggregate'])} }} }};")
         elif key(r) == "Opd":
             o = r["Opd"]
-            if key(o) not in ("Copy", "Move") or self.place_type(o[key(o)]) != t or local_of(o) == place["local"]:
+            if key(o) not in ("Copy", "Move") or self.place_type(o[key(o)]) != t or local_of(o) == place["local"] or self.may_overlap(place, o):
                 refuse(f"an array that becomes {told(r)} in {self.name}")
             source, _, _, source_whole = self.place(o[key(o)])
             if whole and source_whole:
@@ -887,14 +1120,10 @@ class Function:
         self.put("}")
 
     def assign_members(self, place, operands_, t):
-        if key(t) != "Named" or any(local_of(o) == place["local"] for o in operands_):
-            refuse(f"an aggregate of type {told(t)} in {self.name}")
+        if any(local_of(o) == place["local"] or self.may_overlap(place, o) for o in operands_):
+            refuse(f"an aggregate of type {told(t)}, of a part of what it is written to, in {self.name}")
         e, _, level, _ = self.place(place, True)
-        fields = self.types.shapes[t["Named"]["name"]]["Fields"]
-        if len(operands_) != len(fields):
-            refuse(f"a struct with other fields in {self.name}")
-        for i, o in enumerate(operands_):
-            of, name = self.types.field(t, i)
+        for o, (of, name) in zip(operands_, self.members(operands_, t)):
             to = f"{self.wrap(e, level, POSTFIX)}.{name}"
             if is_array(of):
                 source, of_source, _, whole = self.place(o[key(o)])
@@ -902,10 +1131,7 @@ class Function:
                     refuse(f"a {told(of_source)} that becomes a {told(of)} in {self.name}")
                 self.put(f"{self.unit.copies()}({to}, {self.elements(source, whole)}, sizeof {to});")
             else:
-                text, of_source, _ = self.operand(o)
-                if of_source != of:
-                    refuse(f"a {told(of_source)} that becomes a {told(of)} in {self.name}")
-                self.put(f"{to} = {text};")
+                self.put(f"{to} = {self.becomes(o, of)[0]};")
 
     def statements(self, all_):
         for s in all_:
@@ -932,7 +1158,7 @@ class Function:
         return True
 
     def becomes_part(self, s):
-        return s[0] == "assign" and key(s[2]) == "Op2" and key(s[2]["Op2"][0]) == "Offset" and self.is_reborrowed(s[1])
+        return s[0] == "assign" and id(s[2]) in self.parts
 
     def statement(self, s):
         if s[0] == "assign":
@@ -953,6 +1179,8 @@ class Function:
             self.statement_loop(s[1], None)
         elif s[0] == "block":
             self.statement_block(s[1])
+        else:
+            refuse(f"statement {s[0]} in {self.name}")
 
     def statement_call(self, s, arguments=None):
         """A call, by these texts of its arguments where they are given."""
@@ -1103,29 +1331,35 @@ class Function:
 
     # -- the whole
 
+    def note(self):
+        """The comment before a function: its name, with its types where it has some."""
+        return comment(self.item.get("note", self.name))
+
     def head(self):
-        words = ", ".join(f"{self.space(self.types.c(self.locals[i]))}x{i}" for i in self.params)
-        inline = "IN_LINE" if self.name in self.unit.told_variants else "static inline"
+        words = ", ".join(f"{spaced(self.c(i))}x{i}" for i in self.params)
+        inline = self.unit.inline(self.name)
         return fold(f"{inline} {self.answer()}{symbol(self.name)}(", words or "void", ")")
 
-    @staticmethod
-    def space(c):
-        return c if c.endswith("*") else c + " "
+    def c(self, x):
+        """The C type of a local; a raw pointer is one to const where nothing is written through it."""
+        if self.locals[x] == "Ptr":
+            return "uint8_t *" if x in self.to_write else "const uint8_t *"
+        return self.types.c(self.locals[x])
 
     def answer(self):
-        return "void " if self.locals[0] == "Unit" else self.space(self.types.c(self.locals[0]))
+        return "void " if self.locals[0] == "Unit" else spaced(self.types.c(self.locals[0]))
 
     def declarations(self, given):
         """The locals that are used, by type."""
         by_type = {}
         for x in sorted(self.used - set(given)):
-            t = self.locals[x]
-            c = ("uint8_t *" if x in self.to_write else "const uint8_t *") if t == "Ptr" else self.types.c(t)
-            by_type.setdefault(c, []).append(self.names.get(x, f"x{x}"))
+            by_type.setdefault(self.c(x), []).append(self.names.get(x, f"x{x}"))
         for t, name in self.scratch:
             by_type.setdefault(self.types.c(t), []).append(name)
         for c, names in by_type.items():
-            if c.endswith("*"):
+            if c.count("*") > 1:
+                yield from (f"    {c}{n};" for n in names)
+            elif c.endswith("*"):
                 yield f"    {c[:-1]}{', '.join('*' + n for n in names)};"
             else:
                 yield f"    {c} {', '.join(names)};"
@@ -1139,7 +1373,7 @@ class Function:
         if self.lines and self.lines[-1] == "    return;":
             self.lines.pop()
         start = ["again:;"] if self.again else []
-        lines = [f"/* {self.name} */", *self.head(), "{", *self.declarations(self.params), *self.unread(self.params), *start, *self.lines, "}", ""]
+        lines = [self.note(), *self.head(), "{", *self.declarations(self.params), *self.unread(self.params), *start, *self.lines, "}", ""]
         return "\n".join(lines)
 
 
@@ -1158,7 +1392,7 @@ class Export(Function):
         if self.again:
             refuse(f"an export that calls itself: {self.name}")
         words = ", ".join(f"{'const ' if const else ''}{kind} {'*' if pointer else ''}{name}" for const, kind, pointer, name in parameters)
-        lines = [f"/* {self.name} */", *fold(f"{word} {self.export}(", words or "void", ")"), "{", *self.made, *self.declarations(given),
+        lines = [self.note(), *fold(f"{word} {self.export}(", words or "void", ")"), "{", *self.made, *self.declarations(given),
                  *self.unread(given), *self.lines, "}", ""]
         return "\n".join(lines)
 
@@ -1193,6 +1427,16 @@ class Export(Function):
             refuse(f"{self.name}: the header has more parameters")
 
 
+def comment(text):
+    """A comment, on lines of at most 130 letters where the text has blanks to part it at."""
+    lines = [""]
+    for part in text.split(" "):
+        if lines[-1] and len(lines[-1]) + len(part) >= 130:
+            lines.append("")
+        lines[-1] += (" " if lines[-1] else "") + part
+    return "/* " + "\n * ".join(lines) + " */"
+
+
 def fold(start, words, end):
     """A head of a function, its parameters on lines of their own where they do not fit on one."""
     if len(start + words + end) <= 130:
@@ -1212,8 +1456,8 @@ def fold(start, words, end):
 class Unit:
     """All functions that the exports reach, as one C file."""
 
-    def __init__(self, functions, header_text, prefix):
-        self.proved, self.header = functions, Header(header_text)
+    def __init__(self, functions, header_text, prefix, apart=()):
+        self.header = Header(header_text)
         self.functions = functions = {name: erased(item) for name, item in functions.items()}
         self.exports = {}
         for name in functions:
@@ -1231,29 +1475,62 @@ class Unit:
         self.reached = []
         for name in self.first:
             self.visit(name, [])
-        shapes = {}
+        shapes, notes = {}, {}
         for name in self.reached:
             for t in functions[name]["types"]:
                 if shapes.setdefault(t["name"], t["shape"]) != t["shape"]:
                     refuse(f"two shapes of {t['name']}")
-        self.types = Types(shapes, self.header)
-        self.made_constants, self.helpers, self.fillers, self.memcpy = {}, [], {}, False
-        self.loops, self.unrolls = {}, False
+                notes[t["name"]] = t.get("note", t["name"])
+        self.types = Types(shapes, self.header, notes)
+        self.refuse_twins([*self.reached, *shapes])
+        self.made_constants, self.made_statics, self.helpers, self.fillers, self.memcpy = {}, [], [], {}, False
+        self.loops, self.written, self.followings, self.unrolls = {}, {}, {}, False
+        self.kept_apart = set(apart)
+        if self.kept_apart - set(self.reached):
+            refuse(f"function {min(self.kept_apart - set(self.reached))}, which is to be kept apart and is not reached")
         self.told_variants = {called for name in self.reached for called in self.tells_variants(name)}
+
+    def inline(self, name):
+        """Whether a function is to be put in line, as a hint before its head."""
+        if name in self.kept_apart or self.types.bytes(self.functions[name]["locals"][0]["ty"]) > LARGE:
+            return "NOT_IN_LINE"
+        return "IN_LINE" if name in self.told_variants or name.startswith("core::") or "::fn::" in name else "static inline"
+
+    @staticmethod
+    def refuse_twins(names):
+        """Refuses two names that are one in C."""
+        by_symbol = {}
+        for name in names:
+            if by_symbol.setdefault(symbol(name), name) != name:
+                refuse(f"{name} and {by_symbol[symbol(name)]}: one name in C")
 
     def calls(self, name):
         return [s["Call"][0]["Direct"] for s in self.functions[name]["body"] if key(s) == "Call" and key(s["Call"][0]) == "Direct"]
 
     def visit(self, name, above):
-        if name in self.reached or name in KIT or name in above[-1:]:
+        if name in self.reached or name in above[-1:]:
             return
         if name in above:
             refuse(f"functions that call each other in a circle: {name}")
         if name not in self.functions:
-            refuse(f"function {name} of the kit")
+            refuse(f"function {name}: it has no MIR")
         for called in self.calls(name):
             self.visit(called, above + [name])
         self.reached.append(name)
+
+    def written_parameters(self, name):
+        """The parameters of a function that are raw pointers and are written through."""
+        if name not in self.written:
+            f = Function(name, self.functions[name], self)
+            self.written[name] = {x for x in f.written_pointers() if x in f.params}
+        return self.written[name]
+
+    def followed_parameters(self, name):
+        """The parameters of a function that are raw pointers, and the types at which each is followed."""
+        if name not in self.followings:
+            f = Function(name, self.functions[name], self)
+            self.followings[name] = {x: types for x, types in f.followed().items() if x in f.params}
+        return self.followings[name]
 
     def helper(self, name):
         if name not in self.helpers:
@@ -1285,9 +1562,35 @@ class Unit:
     def constant(self, function, x, t, values):
         if not is_number(element(t)):
             refuse(f"a constant array of {told(element(t))} in {function}")
-        name = f"{symbol(function)}__{x}"
+        first = name = f"{symbol(function)}__{x}"
+        while self.made_constants.get(name, (function, t, values)) != (function, t, values):
+            name = f"{first}_{len(self.made_constants)}"
         self.made_constants[name] = (function, t, values)
         return name
+
+    def static(self, function, static, to):
+        """The address of a constant that a function lends."""
+        t, value = static
+        if key(to) != "Ref" or to["Ref"][1] != "Imm" or to["Ref"][2] != t:
+            refuse(f"a constant of type {told(t)} as {told(to)} in {function}")
+        made = function, t, self.initial(t, value)
+        if made not in self.made_statics:
+            self.made_statics.append(made)
+        name = self.static_name(self.made_statics.index(made), made)
+        return name if is_array(t) else f"&{name}"
+
+    @staticmethod
+    def static_name(at, made):
+        return f"{symbol(made[0])}__lent_{at + 1}"
+
+    def initial(self, t, value):
+        """The initializer of a constant."""
+        if key(value) == "Ints" and is_array(t) and is_number(element(t)) and len(value["Ints"]["values"]) == count(t):
+            return [str(v) for v in value["Ints"]["values"]]
+        if key(value) == "Parts" and key(t) == "Named" and "Variants" in self.types.shapes[t["Named"]["name"]] \
+                and len(value["Parts"]) == 1 and key(value["Parts"][0]) == "Int":
+            return [str(value["Parts"][0]["Int"]["value"])]
+        return refuse(f"a constant {told(value)} of type {told(t)}")
 
     def filler(self, name):
         """The constant, with its type, that a function of one parameter writes where it is lent, if it does nothing else."""
@@ -1340,21 +1643,25 @@ class Unit:
             lines += ["/* On the functions whose sum or product may pass 2 to the 32 or 2 to the 64: clang can be asked to report such a one. */",
                       "#if defined(__clang__)", '#define MAY_WRAP __attribute__((no_sanitize("unsigned-integer-overflow")))', "#else",
                       "#define MAY_WRAP", "#endif", ""]
-        if self.told_variants:
-            lines += ["/* A function that is called with a direction which is known at the call. */",
+        hints = {self.inline(name) for name in self.reached if name not in self.exports}
+        if "IN_LINE" in hints:
+            lines += ["/* A function that is called with a direction which is known at the call, a closure, or one of the toolchain's library. */",
                       "#if defined(__OPTIMIZE__) && !defined(__OPTIMIZE_SIZE__) && defined(__GNUC__)",
                       "#define IN_LINE static inline __attribute__((always_inline))", "#else", "#define IN_LINE static inline", "#endif", ""]
+        if "NOT_IN_LINE" in hints:
+            lines += ["/* A function of which the source says that it is never to be put in line, or whose answer is large: its stack is free at its end. */",
+                      "#if defined(__GNUC__)", "#define NOT_IN_LINE static __attribute__((noinline))", "#else", "#define NOT_IN_LINE static", "#endif", ""]
         if self.unrolls:
             lines += ["/* Before a loop of few turns: compilers that know the hint unroll it where they compile for speed. */",
                       "#if defined(__OPTIMIZE__) && !defined(__OPTIMIZE_SIZE__) && defined(__clang__)",
                       '#define UNROLL _Pragma("clang loop unroll(full)")',
                       "#elif defined(__OPTIMIZE__) && !defined(__OPTIMIZE_SIZE__) && defined(__GNUC__)",
                       f'#define UNROLL _Pragma("GCC unroll {TURNS}")', "#else", "#define UNROLL", "#endif", ""]
-        lines += ["/* The sizes of the proved layout, by which offsets are counted. */"]
-        lines += [f'_Static_assert(sizeof({c}) == {size}, "{c} is not {size} bytes");' for c, size in sorted(self.types.elements.items())]
-        lines += [""]
         lines += ["/* Slices are a pointer and a number of elements; an array by value is a struct with the array in it. */"]
         lines += [text for text in self.types.declared.values()]
+        lines += [""]
+        lines += ["/* The sizes of the proved layout, by which offsets are counted. */"]
+        lines += [f'_Static_assert(sizeof({c}) == {size}, "{c} is not {size} bytes");' for c, size in sorted(self.types.elements.items())]
         lines += [""]
         for name, (function, t, values) in self.made_constants.items():
             lines += [f"/* The constant that {function} has. */",
@@ -1362,10 +1669,10 @@ class Unit:
             shown = [f"UINT64_C({v})" if v >= 2**31 else str(v) for v in values]
             lines += ["    " + " ".join(f"{v}," for v in shown[i:i + 20]) for i in range(0, len(shown), 20)]
             lines += ["};", ""]
+        for at, made in enumerate(self.made_statics):
+            (function, t, values), name = made, self.static_name(at, made)
+            array = f"[{count(t)}]" if is_array(t) else ""
+            of = spaced(self.types.c(element(t)))
+            lines += [f"/* A constant that {function} lends. */", f"static const {of}{name}{array} = {{ {', '.join(values)} }};", ""]
         lines += [HELPERS[h] for h in HELPERS if h in self.helpers]
         return "\n".join(lines)
-
-    def digest(self):
-        """A digest of the MIR of every function that is reached, by name."""
-        items = [[name, self.proved[name]] for name in sorted(self.reached)]
-        return hashlib.sha256(json.dumps(items, sort_keys=True, separators=(",", ":")).encode()).hexdigest()

@@ -10,11 +10,10 @@
 //!
 //! # Which library
 //!
-//! The library is a proved program in two forms, and [`LINKED`] says which one a build has. By default it is the **C file**,
-//! printed from the program as it was proved before its code was written anew, against definitions that say the same, and compiled
-//! by the build script with the target's own C compiler, for every target that has one; the printing and that compiler are tested
-//! and not proved. Where `HANJOLUM_LIBRARY` names a `libhanjolum.a`, it is that **archive**, which the kit that proves the program has
-//! compiled, for x86-64 with System V calls. The README says more.
+//! The library is one proved program in two forms, and [`LINKED`] says which one a build has. By default it is the **C file**,
+//! printed from the proved program and compiled by the build script with the target's own C compiler, for every target that has
+//! one; the printing and that compiler are tested and not proved. Where `HANJOLUM_LIBRARY` names a `libhanjolum.a`, it is that
+//! **archive**, which the kit that proves the program has compiled, for x86-64 with System V calls. The README says more.
 //!
 //! A call of the archive with sight needs less than 22,100 bytes of stack and any other less than 12,100 (read off the archive, not
 //! proved), and two or three kilobytes more here for its answers: 32 KB beside what a thread itself needs is enough. What the C
